@@ -334,26 +334,82 @@ expected_btrfs() {
         END { printf "format btrfs\nfsid %s\nblocks %d\ngeneration %s\nnodesize %s\nlabel %s\nimage %s", fsid, blocks, generation, size, label == "" ? "-" : label, image }'
 }
 
+# btrfs_read WHAT OPTIONS..: a volume of mkfs.btrfs with these options and the files of a folder is read, and left as it was
+btrfs_read() {
+    local what="a Btrfs volume with $1" before
+    shift
+    btrfs_volume filled -m single -d single -L 'my disk' --rootdir files "$@"
+    before=$(sha256sum <filled)
+    run inspect filled
+    same "inspect of $what" "0||$(expected_btrfs filled)" "$status|$err|$out"
+    run list filled
+    same "list of $what" '0||d 0755 0 0 - - - - - /' "$status|$err|$(head -1 "$work/.out" | cut -d ' ' -f 1-4,8-)"
+    same "the rows of $what" "$(cat wanted)" "$(tail -n +2 "$work/.out")"
+    same "$what is left as it was" "$before" "$(sha256sum <filled)"
+}
+
 btrfs_volumes() {
-    local size before
+    local size
     folder files
     TMPDIR=$work "$top/tests/folder_rows" files >wanted
-    for size in 4096 16384 65536; do
-        btrfs_volume filled -m single -d single -n "$size" -L 'my disk' --rootdir files
-        before=$(sha256sum <filled)
-        run inspect filled
-        same "inspect of a Btrfs volume with nodes of $size bytes" "0||$(expected_btrfs filled)" "$status|$err|$out"
-        run list filled
-        same "list of a Btrfs volume with nodes of $size bytes" '0||d 0755 0 0 - - - - - /' "$status|$err|$(head -1 "$work/.out" | cut -d ' ' -f 1-4,8-)"
-        same "the rows of a Btrfs volume with nodes of $size bytes" "$(cat wanted)" "$(tail -n +2 "$work/.out")"
-        same "a Btrfs volume with nodes of $size bytes is left as it was" "$before" "$(sha256sum <filled)"
-    done
+    btrfs_read 'checksums of SHA-256' --csum sha256
+    put filled $((super + 300)) 'A'
+    ends 'a wrong SHA-256 of a Btrfs superblock, listed' 1 'refused 13 badbtrfs 65536 1' list filled
+    btrfs_volume other -m single -d single --csum xxhash
+    ends 'a Btrfs volume with checksums of xxHash, listed' 1 'refused 3 unsupported 12 1' list other
+    for size in 4096 16384 65536; do btrfs_read "nodes of $size bytes" -n "$size"; done
     put filled $((super + 300)) 'A'
     ends 'a Btrfs superblock with a changed byte, inspected' 1 'refused 13 badbtrfs 65536 1' inspect filled
     ends 'a Btrfs superblock with a changed byte, listed' 1 'refused 13 badbtrfs 65536 1' list filled
-    btrfs_volume doubled -m dup -d single
-    ends 'a Btrfs volume with each node twice, inspected' 1 'refused 3 unsupported 16 34' inspect doubled
-    ends 'a Btrfs volume with each node twice, listed' 1 'refused 3 unsupported 16 34' list doubled
+    # what mkfs.btrfs makes by itself has each node twice
+    btrfs_volume filled --rootdir files
+    read_alike 'as mkfs.btrfs makes it' filled
+    btrfs_volume filled -m dup -d dup --rootdir files
+    read_alike 'with each node and each file twice' filled
+    # another UUID: the nodes keep the old one, until it is the volume's again
+    before=$(expected_btrfs filled | sed -n 's/^fsid //p')
+    btrfstune -f -m filled >/dev/null
+    read_alike 'with a new UUID' filled
+    btrfstune -f -M "$before" filled >/dev/null
+    read_alike 'with its first UUID again' filled
+    # bit 16 of the features that a reader must know: simple quotas, which btrfs-progs 6.2 doesn't make
+    with_feature filled 1
+    read_alike 'with simple quotas' filled
+    with_feature filled 3
+    ends 'a Btrfs volume with a feature that is not known' 1 'refused 3 unsupported 11 131072' list filled
+    btrfs_volume striped -m raid0 -d raid0
+    ends 'a Btrfs volume in stripes, inspected' 1 'refused 3 unsupported 16 10' inspect striped
+    ends 'a Btrfs volume in stripes, listed' 1 'refused 3 unsupported 16 10' list striped
+}
+
+# read_alike WHAT FILE: a Btrfs volume has the rows in `wanted`, `inspect` tells what btrfs does, and both leave it as it was
+read_alike() {
+    local before
+    before=$(sha256sum <"$2")
+    run inspect "$2"
+    same "inspect of a Btrfs volume $1" "0||$(expected_btrfs "$2")" "$status|$err|$out"
+    run list "$2"
+    same "list of a Btrfs volume $1" '0|' "$status|$err"
+    same "the rows of a Btrfs volume $1" "$(cat wanted)" "$(tail -n +2 "$work/.out")"
+    same "a Btrfs volume $1 is left as it was" "$before" "$(sha256sum <"$2")"
+}
+
+# with_feature FILE BYTE: the third byte of its features that a reader must know, with the right checksum
+with_feature() {
+    PYTHONPATH="$top/tests" python3 - "$1" "$super" "$2" <<'EOF'
+import struct
+import sys
+from crc32c import crc32c
+
+path, at, byte = sys.argv[1], int(sys.argv[2]), int(sys.argv[3])
+with open(path, "r+b") as volume:
+    volume.seek(at)
+    block = bytearray(volume.read(4096))
+    block[190] = byte
+    struct.pack_into("<I", block, 0, crc32c(block[32:]))
+    volume.seek(at)
+    volume.write(block)
+EOF
 }
 
 # ---- sample volumes --------------------------------------------------------------------------------------------------

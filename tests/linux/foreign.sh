@@ -44,6 +44,8 @@ said 'foreign: a label' $?
 scrubbed 'foreign: scrub finds nothing'
 btrfs balance start -musage=100 /mnt >/tmp/out 2>&1
 said 'foreign: metadata is balanced' $?
+btrfs balance start -f -mconvert=dup /mnt >/tmp/out 2>&1
+said 'foreign: metadata is kept twice' $?
 fstrim /mnt
 said 'foreign: trimmed' $?
 perl /job/saved /dev/vdb reiserfs_saved/image
@@ -80,6 +82,28 @@ mount -t reiserfs -o noatime,attrs /dev/vda /mnt && perl /job/rows /mnt reiserfs
 said 'foreign: mounts as ReiserFS for writing' $?
 same_file 'foreign: Linux sees the first tree' /tmp/before /tmp/after
 quiet 'foreign: the kernel complains of nothing behind rollback'
+
+# Files that are compressed, inline and in extents, and room that is only laid out are in no one's way.
+cp /dev/vdc /dev/vda
+mount -t btrfs -o noatime,compress=zstd:3 /dev/vda /mnt
+said 'foreign: mounts with compression' $?
+perl -e 'for (1 .. 20000) { print "the line $_ of many that are alike\n" }' >/mnt/pressed && head -c 1500 /mnt/pressed >/mnt/short && fallocate -l 4M /mnt/laid && sync
+said 'foreign: compressed files, and room that is laid out' $?
+btrfs filesystem defragment -r -czstd /mnt/sizes /mnt/new /mnt/moved >/dev/null 2>&1
+said 'foreign: old files are compressed' $?
+perl /job/saved /dev/vdb /mnt/reiserfs_saved/image
+said 'foreign: the image beside them has the bytes of the volume' $?
+umount /mnt
+checked 'foreign: btrfs check behind compression finds nothing'
+run list /dev/vda
+same 'foreign: list does not read compressed files' '1|refused 3 unsupported 17 3' "$status|$err"
+run rollback /dev/vda
+same 'foreign: rollback behind compression ends with status 0' '0||rolled back to reiserfs' "$status|$err|$(head -n 1 /tmp/out)"
+perl /job/saved /dev/vdb /dev/vda
+said 'foreign: each used block is as it was behind compression' $?
+run list /dev/vda
+same_file 'foreign: list prints the first tree behind compression' /tmp/before /tmp/out
+quiet 'foreign: the kernel complains of nothing behind compression'
 
 # A balance of data moves blocks of the image too.
 cp /dev/vdc /dev/vda

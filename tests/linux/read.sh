@@ -3,7 +3,7 @@
 # shellcheck source=tests/linux/said.sh
 . ./said.sh
 
-mkfs.btrfs -q -f -m single -d single /dev/vda >/dev/null 2>&1
+mkfs.btrfs -q -f /dev/vda >/dev/null 2>&1
 said 'read: made' $?
 mount -t btrfs -o noatime /dev/vda /mnt && perl /job/fill /mnt btrfs >/dev/null && umount /mnt
 said 'read: filled by Linux' $?

@@ -248,6 +248,10 @@ mounted_unseen() {
     waits_for test -e there
     same 'this process does not see the mount' 0 "$(grep -c "$work/mounted" /proc/self/mountinfo)"
     unwritten 'mounted in another name space' "$device"
+    if need script bsdutils; then
+        tells 'mounted in another name space' 3 'device fault' "'grep -l $device /proc/*/mountinfo' names the processes that see the mount." recover "$device"
+    fi
+    same 'who has it mounted is found' "/proc/$holder/mountinfo" "$(grep -l "$device" /proc/[0-9]*/mountinfo)"
     kill "$holder"
     wait "$holder" 2>/dev/null
     rm -f there

@@ -126,6 +126,14 @@ rolled_back_rare_volumes() {
     there_and_back 'a volume of alike' rare
 }
 
+# a new UUID changes no node, and the way back stays open
+rolled_back_with_a_new_uuid() {
+    makes 24576 100 24576
+    there 'a volume that gets a new UUID' made
+    btrfstune -f -m made >/dev/null
+    rolls_back 'a volume that got a new UUID' reiserfs made
+}
+
 # a saved image that was changed is refused, and the volume stays as it was
 rollback_refusals() {
     local place before
@@ -143,6 +151,7 @@ rolled_back_volumes() {
     rollback_words
     rollback_refusals
     rolled_back_samples
+    rolled_back_with_a_new_uuid
     rolled_back_linux_volumes
     rolled_back_rare_volumes
 }

@@ -23,12 +23,21 @@ has() { if [[ $out == *"$1"* ]]; then echo yes; else echo "$out"; fi; }
 # lines_of_terminal: what is left of the lines in .out once the line of the progress is wiped
 lines_of_terminal() { sed 's/.*\x1b\[K//' "$work/.out" | tr -d '\r'; }
 
-# tells NAME STATUS LINE TEXT WORDS..: on a terminal the run ends so, with this line and this text below it; without one the line is all
+# begins_with_path LINE PATH: whether the text below the line of a refusal or a fault begins with the path
+begins_with_path() {
+    case $1 in
+        'refused '* | 'device fault') has "$1 $2: " ;;
+        *) echo yes ;;
+    esac
+}
+
+# tells NAME STATUS LINE TEXT WORDS..: on a terminal the run ends so, with this line and this text below it, which begins with the path, the last
+# word; without one the line is all
 tells() {
     local name=$1 want=$2 line=$3 text=$4
     shift 4
     on_terminal "$@"
-    same "$name, on a terminal" "$want|1|yes" "$status|$(lines_of_terminal | grep -cxF -- "$line")|$(has "$text")"
+    same "$name, on a terminal" "$want|1|yes|yes" "$status|$(lines_of_terminal | grep -cxF -- "$line")|$(has "$text")|$(begins_with_path "$line" "${!#}")"
     ends "$name, without a terminal" "$want" "$line" "$@"
 }
 
@@ -93,7 +102,13 @@ told_btrfs_refusals() {
     truncate -s 128M plain
     mkfs.btrfs -q -f -m single -d single plain >/dev/null 2>&1
     tells 'a volume of the other format' 1 'refused 16 format' 'already has the format that the command makes. Nothing was written.' convert plain
-    tells 'a volume that was never converted' 1 'refused 17 noimage' "nothing to go back to. $nothing If you have" rollback plain
+    ends 'a volume that was never converted, without a terminal' 1 'refused 17 noimage' rollback plain
+    if need python3 python3; then
+        answering '' yes rollback plain
+        same 'a volume that was never converted, on a terminal' '1|yes|yes|yes' "$status|$(has "If 'convert' made it")|$(has 'refused 17 noimage plain: ')|$(has "nothing to go back to. $nothing If you have")"
+    else
+        lacks 'a volume that was never converted, on a terminal' python3
+    fi
     cp --sparse=always plain changed
     put changed $((super + 300)) 'A'
     tells 'a superblock with a changed byte' 1 'refused 13 badbtrfs 65536 1' 'rule 1. The checksum of the superblock is wrong.' list changed
@@ -136,14 +151,22 @@ told_moved_image() {
     mount -t btrfs "$device" mounted && btrfs filesystem resize max mounted >/dev/null && btrfs balance start -f -d mounted >/dev/null 2>&1
     umount mounted
     run rollback "$device"
-    tells 'a moved image' 1 "$err" 'no longer lies where it lay. A balance' rollback "$device"
     same 'the number of a moved image' 'refused 18 moved' "${err% *}"
+    if need python3 python3; then
+        answering '' 'yes' rollback "$device"
+        same 'a moved image, on a terminal' '1|yes' "$status|$(has "$err $device: Block ${err##* } of the old volume no longer lies where it lay. A balance of data moves blocks")"
+        same 'a moved image has no way back' yes "$(has "$nothing Nothing leads back any more.")"
+    else
+        lacks 'a moved image, on a terminal' python3
+    fi
     losetup --detach "$device"
 }
 
 # the lines that are no refusal
 told_lines() {
-    tells 'a path that is not there' 3 'device fault' "The reason: opening it: No such file or directory (os error 2). It could not be opened: it is not there, for example, or you may not open it. $nothing See" inspect nothing
+    tells 'a path that is not there' 3 'device fault' "Nothing is there. $nothing See whether the path is right: 'lsblk' lists the devices." inspect nothing
+    tells 'a trial where nothing is' 3 'device fault' "Nothing is there, and a trial makes no file. $nothing Make one with 'truncate -s 256M nothing', or give" trial 7 nothing
+    same 'a trial where nothing is, without lsblk' 0 "$(grep -c lsblk "$work/.out")"
     tells 'a directory' 3 'device fault' "It is neither a plain file nor a block device. $nothing Give a partition" inspect "$work"
     : >locked
     exec 7<locked
@@ -216,9 +239,9 @@ verdicts() {
     on_terminal inspect made
     same 'the space does not suffice' '0|yes|yes' "$status|$(
         has "It can't be converted as it is: 4 units of 1 MiB are needed, and 3 are free as a whole, which is 1 too few. What to do: Remove large files or move them away, until 1 MiB more are free as a whole, better 17, since")|$(
-        has "Or make the partition larger by 17 MiB or more, and then the volume ('resize_reiserfs -f made'). Or take nodes of 4096 bytes, which need 3 units: 'reiserconv convert --nodesize 4096 made'.")"
+        has "Or make the partition larger by 17 MiB or more, and then the volume ('resize_reiserfs -f made'). Or take nodes of 4096 bytes, which need 3 units, so that 0 MiB are to spare: 'reiserconv convert --nodesize 4096 made'. Linux takes")"
     on_terminal inspect --no-inline --nodesize 8192 made
-    same 'a size of nodes with which it does suffice' '0|yes' "$status|$(has "Or take nodes of 4096 bytes, which need 3 units:")"
+    same 'a size of nodes with which it does suffice' '0|yes' "$status|$(has "Or take nodes of 4096 bytes, which need 3 units, so that 0 MiB are to spare:")"
     on_terminal inspect --nodesize 4096 made
     same 'no other size is looked at where the space suffices' '0|yes' "$status|$(has "It can be converted: 3 units of 1 MiB are needed, 3 are free as a whole, and so 0 are to spare. This is with nodes of 4096 bytes:")"
     run inspect made
@@ -241,9 +264,10 @@ told_steps() {
     makes 12288 7 12288
     cp --sparse=always made "$disk"
     on_terminal convert "$disk"
-    same 'a conversion begins and is done' '0|yes|yes|yes|yes' "$status|$(
+    same 'a conversion begins and is done' '0|yes|yes|yes|yes|yes' "$status|$(
         has "is there, whole, at each moment. Run 'reiserconv recover my\\ disk\\'s' then")|$(has "'btrfs check --readonly my\\ disk\\'s' has to find nothing.")|$(
-        has "'mount -t btrfs -o space_cache=v2 my\\ disk\\'s /mnt'")|$(has "'reiserconv rollback my\\ disk\\'s'")"
+        has "'mount -t btrfs -o space_cache=v2 my\\ disk\\'s /mnt'")|$(has "'reiserconv rollback my\\ disk\\'s'")|$(
+        has "'btrfs subvolume delete -c /mnt/reiserfs_saved', then 'btrfs subvolume sync /mnt' and then 'btrfs filesystem sync /mnt' free the space of the image.")"
     on_terminal recover "$disk"
     same 'what is there is Btrfs' '0|yes' "$status|$(has 'is a Btrfs volume. If a conversion was interrupted, it is done')"
     on_terminal rollback "$disk"
@@ -261,6 +285,23 @@ told_steps() {
 # shown: the texts that were shown in the line of the progress, one below the other
 shown() { grep -ao $'\r\e\\[?7l[^\e]*\e\\[K\e\\[?7h' "$work/.out" | sed $'s/\r\e\\[?7l//; s/\e.*//'; }
 
+# a line of the progress, as an extended regular expression
+of_sum='[0-9]+%, [0-9]+ of [0-9]+ MiB, [0-9]+ MiB/s(, (under 1 min|[0-9]+ min|[0-9]+ h [0-9]+ min) left)?'
+of_none='[0-9]+ MiB, [0-9]+ MiB/s'
+
+# goes_on NAME STEPS: of the lines of the progress in .out each is one of these steps, an extended regular expression, the steps follow each other, and in
+# each the share never falls and is no more than 99
+goes_on() {
+    shown >lines
+    same "$1: each line of the progress" '' "$(grep -Evx "($2): ($of_sum|$of_none)" lines)"
+    same "$1: there is a share that never falls" yes "$(awk '
+        { step = match($0, /\([0-9] of/) ? substr($0, RSTART + 1, 1) : 0; share = match($0, /[0-9]+%/) ? substr($0, RSTART, RLENGTH - 1) + 0 : -1 }
+        share >= 0 { told = 1 }
+        step < last || (step == last && share < before) || share > 99 { wrong = 1; print }
+        { last = step; before = share }
+        END { if (told && !wrong) print "yes" }' lines)"
+}
+
 # how far a long command is
 progress() {
     need python3 python3 || { lacks 'how far a command is' python3; return; }
@@ -268,11 +309,9 @@ progress() {
     cp --sparse=always rare copied
     on_terminal convert copied
     same 'a long convert on a terminal' '0|wiped' "$status|$(grep -aq $'\r\e\\[Kconverted to btrfs' "$work/.out" && echo wiped)"
-    shown >lines
-    same 'how far a long convert is' '' "$(grep -Evx 'checking: [0-9]+ MiB, [0-9]+ MiB/s|converting: [0-9]+%, [0-9]+ of [0-9]+ MiB, [0-9]+ MiB/s(, (under 1|[0-9]+) min left)?' lines)"
-    same 'its share is there, and never falls' 'yes' "$(grep -q '^converting' lines && sed -n 's/^converting: \([0-9]*\)%.*/\1/p' lines | sort -nc 2>&1 && echo yes)"
+    goes_on 'a long convert' 'checking|checking \(1 of 3\)|counting \(2 of 3\)|converting \(3 of 3\)'
     # the volume has 533,047 blocks in use, and its tree a few hundred
-    same 'what is known of it is right' 'yes' "$(sed -n 's/.* of \([0-9]*\) MiB.*/\1/p' lines | sort -u | awk '{ n++; if ($1 < 2082 || $1 > 2086) exit 1 } END { if (n == 1) print "yes" }')"
+    same 'what is known of it is right' 'yes' "$(sed -n 's/^converting.* of \([0-9]*\) MiB.*/\1/p' lines | sort -u | awk '{ n++; if ($1 < 2082 || $1 > 2086) exit 1 } END { if (n == 1) print "yes" }')"
     same 'what is told before a long convert is done' "If this is interrupted, by Ctrl-C, a signal or a power cut, the old volume or the new one is there, whole, at each moment. Run 'reiserconv recover copied' then: it says which, and if it is the old one, begin again." \
         "$(lines_of_terminal | sed '/^converted to btrfs$/,$d' | paste -sd ' ')"
     narrow_terminals
@@ -280,8 +319,45 @@ progress() {
     run convert copied
     same 'a long convert without a terminal' '0||converted to btrfs' "$status|$err|$(head -1 "$work/.out")"
     interrupted
+    slow_commands
     on_terminal inspect good
     same 'a short command on a terminal' '0|0' "$status|$(tr -cd '\033' <"$work/.out" | wc -c)"
+}
+
+# slowly MICROSECONDS WORDS..: as on_terminal, with so long a break before each call that reads or writes a block
+slowly() {
+    local delay=$1
+    shift
+    SHELL=/bin/bash TERM=xterm script -qec "$(printf '%q ' strace -qq -o /dev/null -e trace=pread64,pwrite64 -e "inject=pread64,pwrite64:delay_enter=$delay" "$program" "$@")" \
+        /dev/null </dev/null >"$work/.out" 2>/dev/null
+    status=$?
+    one_line
+}
+
+# how far the commands are that take long on a slow disk alone
+slow_commands() {
+    need strace strace || { lacks 'how far commands on a slow disk are' strace; return; }
+    makes 65536 1000 65536
+    slowly 200 inspect made
+    goes_on 'a slow inspect' 'checking \(1 of 2\)|counting \(2 of 2\)'
+    same 'a slow inspect: both steps, and what is in use' '0|2|1' "$status|$(grep -o '^[a-z]*' lines | sort -u | wc -l)|$(grep -o ' of [0-9]* MiB' lines | sort -u | wc -l)"
+    slowly 200 recover made
+    goes_on 'a slow recover' 'checking'
+    # the journal of 8193 blocks, and two blocks of the bitmap
+    same 'a slow recover: what it reads' '0| of 32 MiB' "$status|$(grep -o ' of [0-9]* MiB' lines | sort -u)"
+    slowly 100 list made
+    goes_on 'a slow list' 'checking \(1 of 2\)|reading \(2 of 2\)'
+    run convert made
+    slowly 200 list made
+    goes_on 'a slow list of Btrfs' 'reading'
+    slowly 200 rollback made
+    goes_on 'a slow rollback' 'reading \(1 of 3\)|checking \(2 of 3\)|writing \(3 of 3\)'
+    same 'a slow rollback is done' "0|yes" "$status|$(grep -q '^checking (2 of 3): [0-9]*%' lines && echo yes)"
+    truncate -s 256M blank
+    slowly 20 trial 100 blank
+    goes_on 'a slow trial' 'making \(1 of 4\)|converting \(2 of 4\)|rolling back \(3 of 4\)|comparing \(4 of 4\)'
+    same 'a slow trial: its steps' '0|making converting rolling comparing' "$status|$(sed 's/ .*//' lines | uniq | paste -sd ' ')"
+    rm -f blank
 }
 
 # the line of the progress on terminals that are narrow, or that know no escape sequences
@@ -292,7 +368,7 @@ narrow_terminals() {
     columns=
     for term in dumb ''; do
         on_terminal list rare
-        same "a terminal of the kind '$term'" '0|0|' "$status|$(tr -cd '\033' <"$work/.out" | wc -c)|$(grep -av '^[df] ' "$work/.out" | grep -Ev '^reading: [0-9]+%, [0-9]+ of [0-9]+ MiB, [0-9]+ MiB/s(, .* left)?.$')"
+        same "a terminal of the kind '$term'" '0|0|' "$status|$(tr -cd '\033' <"$work/.out" | wc -c)|$(grep -av '^[df] ' "$work/.out" | grep -Ev '^(checking|checking \(1 of 2\)|reading \(2 of 2\)): ([0-9]+%, [0-9]+ of )?[0-9]+ MiB, [0-9]+ MiB/s(, .* left)?.$')"
     done
 }
 
@@ -304,7 +380,7 @@ interrupted() {
     # shellcheck disable=SC2016
     SHELL=/bin/bash TERM=xterm script -qec "$(printf 'exec bash -c %q - %q' 'echo $$ >pid; exec "$1" convert copied' "$program")" /dev/null </dev/null >"$work/.out" 2>/dev/null &
     pid=$!
-    for _ in {1..100}; do grep -aq 'converting:' "$work/.out" && break; sleep 0.1; done
+    for _ in {1..100}; do grep -aq 'converting (3 of 3):' "$work/.out" && break; sleep 0.1; done
     kill -TERM "$(cat pid)"
     wait "$pid" 2>/dev/null
     one_line
@@ -315,8 +391,129 @@ interrupted() {
     same 'an interrupted convert is begun again' '0||converted to btrfs' "$status|$err|$(head -1 "$work/.out")"
 }
 
+# answering TYPED ANSWER WORDS..: the program with its streams on a terminal of its own. TYPED is a line that stands there before it begins, and ANSWER
+# what is typed when it asks; nothing ends what is typed. Both without a line feed, and of an empty one nothing is typed.
+answering() {
+    python3 - "$program" "$@" >"$work/.out" 2>/dev/null <<'PYTHON'
+import os, pty, select, subprocess, sys, time
+program, typed, answer, words = sys.argv[1], sys.argv[2], sys.argv[3], sys.argv[4:]
+ours, theirs = pty.openpty()
+if typed:
+    os.write(ours, typed.encode() + b"\n")
+run = subprocess.Popen([program, *words], stdin=theirs, stdout=theirs, stderr=theirs, env={"TERM": "xterm"}, start_new_session=True)
+os.close(theirs)
+told, is_asked = b"", False
+while True:
+    try:
+        more = os.read(ours, 4096) if select.select([ours], [], [], 60)[0] else b""
+    except OSError:
+        more = b""
+    if not more:
+        break
+    told += more
+    if not is_asked and told.endswith(b"('yes' or 'no') "):
+        is_asked = True
+        # what comes at once was typed before
+        time.sleep(0.6)
+        os.write(ours, answer.encode() + b"\n" if answer else b"\x04")
+sys.stdout.buffer.write(told)
+sys.stdout.flush()
+sys.exit(run.wait(timeout=60))
+PYTHON
+    status=$?
+    one_line
+}
+
+# with_generation FILE NUMBER: the superblock has this generation, and its checksum is right
+with_generation() {
+    python3 - "$1" "$top/tests" "$2" <<'PYTHON'
+import struct, sys
+sys.path.insert(0, sys.argv[2])
+from crc32c import crc32c
+with open(sys.argv[1], "r+b") as volume:
+    volume.seek(65536)
+    block = bytearray(volume.read(4096))
+    struct.pack_into("<Q", block, 72, int(sys.argv[3]))
+    struct.pack_into("<I", block, 0, crc32c(block[32:]))
+    volume.seek(65536)
+    volume.write(block)
+PYTHON
+}
+
+# a rollback asks where something was written since the conversion, and only where somebody can answer
+questions() {
+    need python3 python3 || { lacks 'what a rollback asks' python3; return; }
+    local before answer typed
+    makes 12288 7 12288
+    run convert made
+    cp --sparse=always made copied
+    answering '' '' rollback copied
+    same 'nothing is asked where nothing was written' '0|0|yes' "$status|$(grep -c "'yes' or 'no'" "$work/.out")|$(has 'rolled back to reiserfs')"
+    with_generation made 5
+    before=$(sha256sum <made)
+    while IFS='|' read -r typed answer; do
+        answering "$typed" "$answer" rollback made
+        same "the answer '$answer', behind '$typed'" "1|1|yes|yes|$before" "$status|$(tr -d '\r' <"$work/.out" | grep -cx 'not confirmed')|$(
+            has "made was mounted for writing since it became Btrfs. If 'convert' made it, a rollback makes it the old volume again, and all that was written since is lost")|$(
+            has "made: The answer was not 'yes'. Nothing was opened for writing, and the volume stays as it is.")|$(sha256sum <made)"
+    done <<'ANSWERS'
+|no
+|y
+|yes please
+|
+yes|no
+yes|
+yes|nonsense
+ANSWERS
+    # no mark of a node fits this generation, so that the run behind a yes is refused
+    answering 'no' 'yes' rollback made
+    same 'behind a yes the command is done' '1|0|yes' "$status|$(grep -c 'not confirmed' "$work/.out")|$(has 'refused 13 badbtrfs')"
+    opens_for_reading
+    run rollback made
+    same 'nothing is asked without a terminal' '1|refused 13 badbtrfs' "$status|${err% * *}"
+    "$program" rollback made </dev/null >"$work/.out" 2>&1
+    same 'nor without any' '1|refused 13 badbtrfs' "$?|$(head -1 "$work/.out" | cut -d ' ' -f 1-3)"
+    on_terminal inspect made
+    same 'nothing is asked of a command that only reads' 0 "$(grep -c "'yes' or 'no'" "$work/.out")"
+    mounted_questions
+}
+
+# before an answer, and behind one that is not yes, the volume is opened for reading alone
+opens_for_reading() {
+    need strace strace || { lacks 'how a volume is opened before a question' strace; return; }
+    local traced=$program program=strace
+    answering '' no -qq -o opened -e trace=open,openat "$traced" rollback made
+    same 'before an answer nothing is opened for writing' '1|0' "$(grep -c '"made"' opened)|$(grep -c 'O_RDWR\|O_WRONLY' opened)"
+}
+
+# what Linux writes is asked for, and rolled back behind a yes
+mounted_questions() {
+    local device
+    if ! need zstd zstd || ! can_mount_btrfs; then
+        echo 'skipped: a question on a volume that Linux has written to, since this machine mounts no Btrfs'
+        return
+    fi
+    rm -f asked
+    zstd -dqf "$top/tests/volumes/tiny.img.zst" -o asked
+    truncate -s 400M asked
+    resize_reiserfs -q -f asked >/dev/null 2>&1
+    "$program" list asked >rows
+    run convert asked
+    device=$(losetup --find --show asked)
+    mkdir -p mounted
+    mount -t btrfs "$device" mounted && : >mounted/new
+    umount mounted
+    answering yes no rollback "$device"
+    same 'a volume that Linux has written to is asked for' '1|yes' "$status|$(has 'not confirmed')"
+    answering '' YES rollback "$device"
+    same 'and rolled back behind a yes' '0|yes' "$status|$(has 'rolled back to reiserfs')"
+    same 'with the rows from before' "$(sha256sum <rows)" "$("$program" list "$device" | sha256sum)"
+    losetup --detach "$device"
+}
+
 terminals() {
     need script bsdutils || { lacks 'what is told on a terminal' script; return; }
+    questions
     told_refusals
     told_lines
     told_words

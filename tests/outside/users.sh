@@ -245,7 +245,7 @@ documents() {
     cp "$top/samples/tiny.img" disk.img
     run convert disk.img
     shown 'what convert prints' "$out"
-    same 'all refusals are found' "$(has_rollback && echo 19 || echo 15)" "$(refusal_words | wc -l)"
+    same 'all refusals are found' "$(has_rollback && echo 21 || echo 15)" "$(refusal_words | wc -l)"
     while read -r refusal; do
         same "docs/REFUSALS.md has $refusal" yes "$(grep -q "^### \`${refusal}[ \`]" "$top/docs/REFUSALS.md" && echo yes)"
         same "docs/reiserconv.8 has $refusal" yes "$(grep -q "^\.It $refusal\( \|$\)" "$top/docs/reiserconv.8" && echo yes)"

@@ -1,4 +1,6 @@
+pub mod Files
 pub mod Groups
+pub mod Inodes
 pub mod Names
 pub mod Places
 pub mod Recount

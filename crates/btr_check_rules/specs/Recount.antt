@@ -1,15 +1,17 @@
 -- What a recount of a Btrfs volume finds: its chunks, its trees, and the data that its files refer to.
-use Rattle.std.specs.Prelude.{◌≡◌, ℕ, ◌+◌, ◌-◌, ◌%◌, ◌^◌, ◌==◌, nat_le, nat_lt, Bool, ◌&&◌, ◌||◌, if◌then◌else◌, List, [], ◌∷◌, ◌++◌, filter, Option, Some, None, Contains}
+use Rattle.std.specs.Prelude.{◌≡◌, ℕ, ◌+◌, ◌-◌, ◌%◌, ◌^◌, ◌==◌, nat_le, nat_lt, Bool, not, ◌&&◌, ◌||◌, bit_and, if◌then◌else◌, List, [], ◌∷◌, ◌++◌, filter, Option, Some, None, Contains}
 use Rattle.std.specs.List.{flat_map}
+use Rattle.btrfs_format.specs.declared.key.TheConstants.{EXTENT_DATA}
+use Rattle.btrfs_format.specs.declared.object.TheConstants.{FIRST_FREE_OBJECTID, FS_TREE}
 use Rattle.btr_reader.specs.outside.History.{Image}
 use Rattle.btr_reader.specs.btr_keys.FileExtent.{ContentValue, Inline, Regular, Prealloc, FileExtentValue, file_extent_of}
 use Rattle.btr_reader.specs.btr_keys.declared.file_extent.DiskRange.{DiskRange}
 use Rattle.btr_reader.specs.btr_node.Leaf.{Item}
 use Rattle.btr_reader.specs.btr_super.declared.superblock.Super.{Super}
-use Rattle.btr_reader.specs.btr_reader_walk.Events.{TreeItem, tree_events, nodes_in}
+use Rattle.btr_reader.specs.btr_reader_walk.Events.{TreeItem, walk_events, nodes_in}
 use Rattle.btr_reader.specs.btr_reader_walk.Tree.{IsTree}
 use Rattle.btr_reader.specs.btr_reader_walk.Walks.{found}
-use Rattle.btr_reader.specs.btr_reader_walk.declared.tree.Pointer.{Pointer}
+use Rattle.btr_reader.specs.btr_reader_walk.declared.tree.NodePointer.{NodePointer}
 use Rattle.btr_reader.specs.btr_reader_contents.Extents.{is_hole}
 use Rattle.btr_reader.specs.declared.chunk.ChunkAt.{ChunkAt}
 use Rattle.btr_reader.specs.Chunks.{chunk_in}
@@ -19,7 +21,7 @@ use Rattle.btr_reader.specs.Roots.{root_item, pointer_of}
 -- A tree: its number, the nodes that a walk meets, and its items.
 pub record TreeOn : Type 0 where
   pub number : ℕ
-  pub nodes : List Pointer
+  pub nodes : List NodePointer
   pub items : List Item
 
 pub record Recount : Type 0 where
@@ -35,15 +37,30 @@ abbrev pub all_trees : Recount → List TreeOn
 all_trees r = r.chunk_tree ∷ (r.root_tree ∷ r.others)
 
 -- tree 5 and those from 256 on hold files
+abbrev pub holds_files : ℕ → Bool
+holds_files number = (number == FS_TREE) || nat_le FIRST_FREE_OBJECTID number
+
 abbrev pub is_file_tree : TreeOn → Bool
-is_file_tree t = (t.number == 5) || nat_le 256 t.number
+is_file_tree t = holds_files t.number
+
+-- of these the ones below 2^48 are subvolumes (is_fstree of Linux)
+abbrev pub is_subvolume : ℕ → Bool
+is_subvolume number = (number == FS_TREE) || (nat_le FIRST_FREE_OBJECTID number && nat_lt number (2 ^ 48))
 
 abbrev pub file_trees : Recount → List TreeOn
 file_trees r = filter is_file_tree r.others
 
 -- the items of the tree with a number, none where there is no such tree
-abbrev pub items_of_tree : Recount → ℕ → List Item
-items_of_tree r number = flat_map (λ t. t.items) (filter (λ t. t.number == number) r.others)
+abbrev pub recounted_items : Recount → ℕ → List Item
+recounted_items r number = flat_map (λ t. t.items) (filter (λ t. t.number == number) r.others)
+
+-- the items of a kind
+abbrev pub of_kind : ℕ → List Item → List Item
+of_kind kind items = filter (λ i. i.0.kind == kind) items
+
+-- the superblock has an incompatible feature
+abbrev pub has_feature : Super → ℕ → Bool
+has_feature s bit = not (bit_and s.incompat bit == 0)
 
 -- the chunks of the array, and those of the chunk tree that are none of these
 abbrev pub added_chunk : Option (Option ChunkAt) → List ChunkAt
@@ -55,19 +72,19 @@ abbrev pub chunks_on : List ChunkAt → List Item → List ChunkAt
 chunks_on boot items = boot ++ flat_map (λ i. added_chunk (chunk_in boot i.0 i.1)) items
 
 -- a tree, as it is found by the map of addresses under this root
-pub record IsTreeOn (image : Image) (s : Super) (root : Pointer) (t : TreeOn) : Type 0 where
+pub record IsTreeOn (image : Image) (s : Super) (root : NodePointer) (t : TreeOn) : Type 0 where
   pub items_are : IsTree image (chunk_map image s) (form_of s) root t.number t.items
-  pub nodes_are : nodes_in (tree_events image (chunk_map image s) (form_of s) root t.number) ≡ t.nodes
+  pub nodes_are : nodes_in (walk_events image (chunk_map image s) (form_of s) root t.number) ≡ t.nodes
 
 -- the items of the root tree, each with its leaf
-abbrev pub roots_on : Image → Super → List TreeItem
-roots_on image s = found image (chunk_map image s) (root_tree s)
+abbrev pub root_items_on : Image → Super → List TreeItem
+root_items_on image s = found image (chunk_map image s) (root_tree s)
 
 -- a tree is found under the last of its root items
 pub record IsRooted (image : Image) (s : Super) (t : TreeOn) : Type 0 where
   pub item : TreeItem
-  pub pointer : Pointer
-  pub last : root_item t.number (roots_on image s) ≡ Some item
+  pub pointer : NodePointer
+  pub last : root_item t.number (root_items_on image s) ≡ Some item
   pub pointer_is : pointer_of item.body ≡ Some pointer
   pub tree : IsTreeOn image s pointer t
 
@@ -99,7 +116,7 @@ use_in tree i None = []
 use_in tree i (Some e) = use_by tree i e.content
 
 abbrev pub uses_in : TreeOn → List DataUse
-uses_in t = flat_map (λ i. if i.0.kind == 108 then use_in t.number i (file_extent_of i.1) else []) t.items
+uses_in t = flat_map (λ i. if i.0.kind == EXTENT_DATA then use_in t.number i (file_extent_of i.1) else []) t.items
 
 -- all regular file extents of all trees
 abbrev pub data_uses : Recount → List DataUse
@@ -116,7 +133,7 @@ IsData r span = (u : DataUse) × Contains (data_uses r) u × (span ≡ record { 
 
 -- a node of the tree
 abbrev pub IsNodeOf : Recount → TreeOn → Span → Type 0
-IsNodeOf r t span = (p : Pointer) × Contains t.nodes p × (span ≡ record { start = p.address; length = r.super.nodesize })
+IsNodeOf r t span = (p : NodePointer) × Contains t.nodes p × (span ≡ record { start = p.address; length = r.super.nodesize })
 
 -- an address lies in a range
 abbrev pub is_within : Span → ℕ → Bool

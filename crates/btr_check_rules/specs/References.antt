@@ -1,34 +1,50 @@
 -- Part 3: the extent tree is the recount of all nodes and of all data that files refer to.
-use Rattle.std.specs.Prelude.{◌≡◌, ◌≢◌, ℕ, ◌==◌, Bool, ◌&&◌, List, [], ◌∷◌, length, drop, Some, All, AllPairs, Contains, false, ◌⊎◌}
+use Rattle.std.specs.Prelude.{◌≡◌, ◌≢◌, ◌≤◌, ◌<◌, ℕ, ◌%◌, ◌==◌, Bool, ◌&&◌, List, [], ◌∷◌, length, drop, Some, All, AllPairs, Contains, false, ◌⊎◌}
 use Rattle.std.specs.List.{count_by}
+use Rattle.btrfs_format.specs.declared.feature.TheConstants.{EXTENDED_IREF, SKINNY_METADATA}
+use Rattle.btrfs_format.specs.declared.flag.TheConstants.{EXTENT_FLAG_DATA, EXTENT_FLAG_TREE_BLOCK}
+use Rattle.btrfs_format.specs.declared.key.TheConstants.{BLOCK_GROUP_ITEM, EXTENT_ITEM, INODE_EXTREF, METADATA_ITEM}
+use Rattle.btrfs_format.specs.declared.object.TheConstants.{EXTENT_TREE}
+use Rattle.btr_reader.specs.castagnoli.Castagnoli.{data_ref_hash}
 use Rattle.btr_reader.specs.btr_keys.declared.key.Key.{Key}
 use Rattle.btr_reader.specs.btr_node.Leaf.{Item}
 use Rattle.btr_reader.specs.btr_space_items.ExtentHead.{extent_head_of}
-use Rattle.btr_reader.specs.btr_space_items.InlineRef.{inline_refs_of}
+use Rattle.btr_reader.specs.btr_space_items.InlineRef.{inline_refs_of, ref_kind}
 use Rattle.btr_reader.specs.btr_space_items.declared.extent_head.ExtentHead.{ExtentHead}
 use Rattle.btr_reader.specs.btr_space_items.declared.inline_ref.InlineRef.{InlineRef}
 use Rattle.btr_reader.specs.btr_space_items.declared.inline_ref.InlineRef.TheVariants.{TreeBlock, DataRef}
-use Rattle.btr_reader.specs.btr_reader_walk.declared.tree.Pointer.{Pointer}
-use Rattle.btr_check_rules.specs.Recount.{Recount, TreeOn, DataUse, all_trees, data_uses, items_of_tree}
+use Rattle.btr_reader.specs.btr_reader_walk.declared.tree.NodePointer.{NodePointer}
+use Rattle.btr_check_rules.specs.Recount.{Recount, TreeOn, DataUse, all_trees, data_uses, recounted_items, has_feature, of_kind}
 
 -- a use is one by this reference to this disk range
 abbrev pub is_use : ℕ → ℕ → ℕ → ℕ → ℕ → DataUse → Bool
 is_use start length tree inode offset u =
     (u.start == start) && ((u.length == length) && ((u.tree == tree) && ((u.inode == inode) && (u.offset == offset))))
 
--- an item of the extent tree has so many references, of this kind, and these
-pub record HasRefs (body : List ℕ) (kind count : ℕ) (refs : List InlineRef) : Type 0 where
+-- In an item kinds of references ascend, and in a kind trees and hashes descend (check_extent_item from Linux 6.8 on).
+abbrev pub ref_place : InlineRef → ℕ
+ref_place (TreeBlock root) = root
+ref_place (DataRef root objectid offset count) = data_ref_hash root objectid offset
+
+abbrev pub StandsBefore : InlineRef → InlineRef → Type 0
+StandsBefore a b = (ref_kind a < ref_kind b) ⊎ ((ref_kind a ≡ ref_kind b) × (ref_place b ≤ ref_place a))
+
+-- An item of the extent tree has so many references, of this kind, and these. Its extent is not newer than the
+-- superblock (check_extent_item; `btrfs check`).
+pub record HasRefs (newest : ℕ) (body : List ℕ) (kind count : ℕ) (refs : List InlineRef) : Type 0 where
   pub head : ExtentHead
   pub head_is : extent_head_of body ≡ Some head
   pub refs_are : inline_refs_of (drop 24 body) ≡ Some refs
   pub count_is : head.refs ≡ count
   pub kind_is : head.flags ≡ kind
+  pub generation : head.generation ≤ newest
+  pub order : AllPairs StandsBefore refs
 
 -- the extent of a node has one reference, of its tree
 abbrev pub IsNodeItem : Recount → Item → Type 0
 IsNodeItem r i =
-    (t : TreeOn) × (p : Pointer) × Contains (all_trees r) t × Contains t.nodes p
-    × (i.0 ≡ record { objectid = p.address; kind = 169; offset = p.level }) × HasRefs i.1 2 1 (TreeBlock t.number ∷ [])
+    (t : TreeOn) × (p : NodePointer) × Contains (all_trees r) t × Contains t.nodes p
+    × (i.0 ≡ record { objectid = p.address; kind = METADATA_ITEM; offset = p.level }) × HasRefs r.super.generation i.1 EXTENT_FLAG_TREE_BLOCK 1 (TreeBlock t.number ∷ [])
 
 -- of the uses of a disk range so many are by this reference
 abbrev pub CountsUses : Recount → ℕ → ℕ → InlineRef → Type 0
@@ -48,22 +64,34 @@ same_ref (DataRef root objectid offset count) (DataRef r o f c) = (root ≡ r) �
 pub record IsDataItem (r : Recount) (i : Item) : Type 0 where
   pub is_use : DataUse
   pub used : Contains (data_uses r) is_use
-  pub key : i.0 ≡ record { objectid = is_use.start; kind = 168; offset = is_use.length }
+  pub key : i.0 ≡ record { objectid = is_use.start; kind = EXTENT_ITEM; offset = is_use.length }
   pub refs : List InlineRef
-  pub body : HasRefs i.1 1 (count_by (is_of_range is_use.start is_use.length) (data_uses r)) refs
+  pub body : HasRefs r.super.generation i.1 EXTENT_FLAG_DATA (count_by (is_of_range is_use.start is_use.length) (data_uses r)) refs
   pub each : All (CountsUses r is_use.start is_use.length) refs
   pub once : AllPairs (λ a b. ¬ same_ref a b) refs
   pub whole : (u : DataUse) → Contains (data_uses r) u → u.start ≡ is_use.start → u.length ≡ is_use.length
       → (count : ℕ) × Contains refs (DataRef u.tree u.inode u.offset count)
 
 abbrev pub is_group : Item → Bool
-is_group i = i.0.kind == 192
+is_group i = i.0.kind == BLOCK_GROUP_ITEM
 
 -- an item of the tree has this key
 abbrev pub HasKey : List Item → Key → Type 0
 HasKey items key = (body : List ℕ) × Contains items (key, body)
 
+-- an extent begins and ends at multiples of 4096, and is not empty (check_extent_item)
+pub record IsWhole (i : Item) : Type 0 where
+  pub start : i.0.objectid % 4096 ≡ 0
+  pub range : i.0.kind ≡ EXTENT_ITEM → (i.0.offset % 4096 ≡ 0) × (i.0.offset ≢ 0)
+
+-- items of two kinds stand for a feature of the volume (check_extent_item; extended refs)
+pub record FitFeatures (r : Recount) : Type 0 where
+  pub skinny : has_feature r.super SKINNY_METADATA ≡ false → of_kind METADATA_ITEM (recounted_items r EXTENT_TREE) ≡ []
+  pub extended : has_feature r.super EXTENDED_IREF ≡ false → All (λ t. of_kind INODE_EXTREF t.items ≡ []) (all_trees r)
+
 pub record AreReferences (r : Recount) : Type 0 where
-  pub each : (i : Item) → Contains (items_of_tree r 2) i → is_group i ≡ false → IsNodeItem r i ⊎ IsDataItem r i
-  pub nodes : (t : TreeOn) (p : Pointer) → Contains (all_trees r) t → Contains t.nodes p → HasKey (items_of_tree r 2) (record { objectid = p.address; kind = 169; offset = p.level })
-  pub data_ : (u : DataUse) → Contains (data_uses r) u → HasKey (items_of_tree r 2) (record { objectid = u.start; kind = 168; offset = u.length })
+  pub each : (i : Item) → Contains (recounted_items r EXTENT_TREE) i → is_group i ≡ false → IsNodeItem r i ⊎ IsDataItem r i
+  pub nodes : (t : TreeOn) (p : NodePointer) → Contains (all_trees r) t → Contains t.nodes p → HasKey (recounted_items r EXTENT_TREE) (record { objectid = p.address; kind = METADATA_ITEM; offset = p.level })
+  pub data_ : (u : DataUse) → Contains (data_uses r) u → HasKey (recounted_items r EXTENT_TREE) (record { objectid = u.start; kind = EXTENT_ITEM; offset = u.length })
+  pub whole : (i : Item) → Contains (recounted_items r EXTENT_TREE) i → is_group i ≡ false → IsWhole i
+  pub features : FitFeatures r

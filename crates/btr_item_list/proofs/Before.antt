@@ -1,12 +1,5 @@
 -- How many links come before one.
-use Rattle.std.proofs.Common.{◌≡◌, ◌<◌, ◌≤◌, ℕ, ◌+◌, Bool, true, false, cond, List, [], ◌∷◌, length, get_or, take, drop, All, AllPairs, count_by, nat_lt, refl, sym, ap, subst, ◌∙◌, ⊎_elim, get_or-take, get_or-drop, arith}
-use Rattle.std.specs.List.Sorted.{IsPartitionedBy, IsPartitionPoint}
-use Rattle.std.proofs.lemmas.Bool.{cases_lt}
-use Rattle.std.proofs.lemmas.Bool.Decides.{nat_tests}
-use Rattle.std.proofs.lemmas.List.{take-append-drop, length-take, length-drop}
-use Rattle.std.proofs.lemmas.List.Elements.{All-head, All-tail}
-use Rattle.std.proofs.lemmas.List.Sums.{sum_by-append, sum_by-cons}
-use Rattle.btr_item_list.specs.declared.spot.Spot.{Spot}
+use Rattle.btr_item_list.proofs.Imports.{◌≡◌, ◌<◌, ◌≤◌, ℕ, ◌+◌, Bool, true, false, cond, List, [], ◌∷◌, length, get_or, take, drop, All, AllPairs, count_by, nat_lt, refl, sym, ap, subst, ◌∙◌, ⊎_elim, get_or-take, get_or-drop, arith, IsPartitionedBy, IsPartitionPoint, cases_lt, nat_tests, take-append-drop, length-take, length-drop, All-head, All-tail, sum_by-append, sum_by-cons, Spot}
 
 module _ {X : Type 0} (p : X → Bool) where
   count_all : (xs : List X) → All (λ x. p x ≡ true) xs → count_by p xs ≡ length xs

@@ -1,10 +1,5 @@
 -- Groups of a list are groups.
-use Rattle.std.proofs.Common.{◌≡◌, ◌<◌, ℕ, ◌==◌, Bool, true, false, cond, List, [], ◌∷◌, length, filter, refl, sym, ap, subst, ◌∙◌, nat_lt, AllPairs, arith}
-use Rattle.std.specs.List.{AllByRecursion}
-use Rattle.std.proofs.lemmas.List.Elements.{All-from_recursion}
-use Rattle.std.proofs.lemmas.List.Kept.{AllPairs-cons}
-use Rattle.std.proofs.lemmas.Bool.Decides.{nat_tests}
-use Rattle.btr_item_list.specs.Groups.{AreGroups, in_group, grouped, of_number}
+use Rattle.btr_item_list.proofs.Imports.{◌≡◌, ◌<◌, ℕ, ◌==◌, Bool, true, false, cond, List, [], ◌∷◌, length, filter, refl, sym, ap, subst, ◌∙◌, nat_lt, AllPairs, arith, AllByRecursion, All-from_recursion, AllPairs-cons, nat_tests, AreGroups, in_group, grouped, of_number}
 
 -- each group is above a number
 abbrev pub Above : {A : Type 0} → ℕ → List (ℕ × List A) → Type 0

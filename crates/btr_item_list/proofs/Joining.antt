@@ -1,14 +1,7 @@
 -- Records of one offset become one item.
-use Rattle.std.proofs.Common.{◌≡◌, ◌≢◌, ◌<◌, ◌≤◌, ℕ, zero, suc, ◌+◌, ◌-◌, List, [], ◌∷◌, ◌++◌, length, map, take, drop, get_or, Some, refl, sym, ap, subst, ◌∙◌, append_assoc, get_or-drop, arith}
-use Rattle.std.specs.Prelude.{slice_get, slice_range}
-use Rattle.std.specs.List.{flat_map}
-use Rattle.std.proofs.lemmas.List.{append-nil, length-drop, drop-drop}
+use Rattle.btr_item_list.proofs.Imports.{◌≡◌, ◌≢◌, ◌<◌, ◌≤◌, ℕ, zero, suc, ◌+◌, ◌-◌, List, [], ◌∷◌, ◌++◌, length, map, take, drop, get_or, Some, refl, sym, ap, subst, ◌∙◌, append_assoc, get_or-drop, arith, slice_get, slice_range, flat_map, append-nil, length-drop, drop-drop, Key, Item, ascending, offset_of, joined, joined_item}
 use Rattle.std.proofs.lemmas.Option.{slice_get-get_or}
-use Rattle.btr_node.specs.btr_keys.declared.key.Key.{Key}
 use Rattle.btr_node.specs.btr_keys.Key.{make_key}
-use Rattle.btr_node.specs.Leaf.{Item}
-use Rattle.btr_item_list.specs.Groups.{ascending}
-use Rattle.btr_item_list.specs.Lists.{offset_of, joined, joined_item}
 use Rattle.btr_item_list.proofs.Sorting.{Sorted, ascending_sorted, ascending_of_sorted, grouped_ascending}
 use Rattle.btr_item_list.proofs.Runs.{first_run, sorted_drop}
 

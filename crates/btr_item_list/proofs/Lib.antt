@@ -1,6 +1,7 @@
 pub mod Before
 pub mod Bodies
 pub mod Grouping
+pub mod Imports
 pub mod Joining
 pub mod Parting
 pub mod Placing

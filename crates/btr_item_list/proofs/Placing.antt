@@ -1,11 +1,5 @@
 -- What stands at the places of elements that pass a test.
-use Rattle.std.proofs.Common.{◌≡◌, ◌<◌, ◌≤◌, ℕ, zero, suc, ◌+◌, Bool, true, false, cond, List, [], ◌∷◌, ◌++◌, length, filter, map, take, get_or, Some, None, Option, AllPairs, refl, sym, ap, ◌∙◌, nat_lt, count_by, if◌then◌else◌, arith}
-use Rattle.std.specs.List.{AllByRecursion}
-use Rattle.std.specs.Prelude.{slice_get}
-use Rattle.std.proofs.lemmas.Bool.Decides.{nat_tests}
-use Rattle.std.proofs.lemmas.List.Sums.{sum_by-cons}
-use Rattle.std.proofs.lemmas.List.Elements.{All-from_recursion}
-use Rattle.std.proofs.lemmas.List.Kept.{AllPairs-cons}
+use Rattle.btr_item_list.proofs.Imports.{◌≡◌, ◌<◌, ◌≤◌, ℕ, zero, suc, ◌+◌, Bool, true, false, cond, List, [], ◌∷◌, ◌++◌, length, filter, map, take, get_or, Some, None, Option, AllPairs, refl, sym, ap, ◌∙◌, nat_lt, count_by, if◌then◌else◌, arith, AllByRecursion, slice_get, nat_tests, sum_by-cons, All-from_recursion, AllPairs-cons}
 use Rattle.btr_item_list.specs.Places.{places_from}
 
 module _ {A : Type 0} (p : A → Bool) where

@@ -1,13 +1,6 @@
 -- Runs of one number in a list in order are its groups.
-use Rattle.std.proofs.Common.{◌≡◌, ◌≢◌, ◌<◌, ◌≤◌, ℕ, zero, suc, ◌==◌, Bool, true, false, cond, List, [], ◌∷◌, ◌++◌, length, filter, map, take, drop, get_or, refl, sym, ap, subst, ◌∙◌, nat_lt, if◌then◌else◌, ⊎_elim, is_lt, not, ◌&&◌, arith}
-use Rattle.std.specs.List.{All, AllByRecursion, flat_map}
-use Rattle.std.specs.List.Sorted.{IsNonDecreasingBy, IsSortedByKey, IsStableByKey, ties}
-use Rattle.std.specs.Ordering.{nat_cmp}
-use Rattle.std.proofs.lemmas.Bool.{cases_lt}
-use Rattle.std.proofs.lemmas.Bool.Decides.{nat_tests}
-use Rattle.std.proofs.lemmas.List.{map-append}
-use Rattle.std.proofs.lemmas.List.Sorted.{IsNonDecreasingBy-from_sort}
-use Rattle.btr_item_list.specs.Groups.{in_group, grouped, ascending}
+use Rattle.btr_item_list.proofs.Imports.{◌≡◌, ◌≢◌, ◌<◌, ◌≤◌, ℕ, zero, suc, ◌==◌, Bool, true, false, cond, List, [], ◌∷◌, ◌++◌, length, filter, map, take, drop, get_or, refl, sym, ap, subst, ◌∙◌, nat_lt, if◌then◌else◌, ⊎_elim, is_lt, not, ◌&&◌, arith, AllByRecursion, flat_map, IsNonDecreasingBy, IsSortedByKey, IsStableByKey, ties, nat_cmp, cases_lt, nat_tests, map-append, IsNonDecreasingBy-from_sort, in_group, grouped, ascending}
+use Rattle.std.specs.List.{All}
 use Rattle.btr_item_list.proofs.Grouping.{Above, other, above_in}
 use Rattle.btr_item_list.proofs.Sorting.{Sorted, Same, ascending_is}
 

@@ -1,10 +1,5 @@
 -- Lists by a number: a stable order is one list, and groups are the same of it.
-use Rattle.std.proofs.Common.{◌≡◌, ◌<◌, ◌≤◌, ℕ, ◌+◌, ◌==◌, Bool, true, false, cond, List, [], ◌∷◌, ◌++◌, length, filter, refl, sym, ap, subst, ◌∙◌, true≢false, nat_lt, nat_le, if◌then◌else◌, ⊎_elim, sum_by, arith}
-use Rattle.std.specs.List.{AllByRecursion, flat_map}
-use Rattle.std.proofs.lemmas.Bool.{cases_lt}
-use Rattle.std.proofs.lemmas.Bool.Decides.{nat_tests}
-use Rattle.std.proofs.lemmas.List.Sums.{sum_by-cons}
-use Rattle.btr_item_list.specs.Groups.{in_group, grouped, ascending, of_number}
+use Rattle.btr_item_list.proofs.Imports.{◌≡◌, ◌<◌, ◌≤◌, ℕ, ◌+◌, ◌==◌, Bool, true, false, cond, List, [], ◌∷◌, ◌++◌, length, filter, refl, sym, ap, subst, ◌∙◌, true≢false, nat_lt, nat_le, if◌then◌else◌, ⊎_elim, sum_by, arith, AllByRecursion, flat_map, cases_lt, nat_tests, sum_by-cons, in_group, grouped, ascending, of_number}
 use Rattle.btr_item_list.proofs.Grouping.{Above, Rising, HasNoneEmpty, equal, smaller, greater, other, same_test, rising_grouped, none_below, of_number_grouped, some_grouped}
 
 -- two groups of one number have one list

@@ -1,5 +1,6 @@
 -- The items that tell where the bytes of a file are.
 use Rattle.std.specs.Prelude.{ℕ, ◌*◌, List, length}
+use Rattle.btrfs_format.specs.declared.key.TheConstants.{EXTENT_DATA}
 use Rattle.btr_node.specs.btr_keys.FileExtent.{FileExtentValue, Inline, Regular, file_extent_bytes}
 use Rattle.btr_node.specs.btr_keys.Key.{make_key}
 use Rattle.btr_node.specs.Leaf.{Item}
@@ -21,4 +22,4 @@ regular_extent place count = record {
 
 -- an extent from a block of the file on
 abbrev pub extent_item : ℕ → ℕ → FileExtentValue → Item
-extent_item ino block extent = (make_key ino 108 (4096 * block), file_extent_bytes extent)
+extent_item ino block extent = (make_key ino EXTENT_DATA (4096 * block), file_extent_bytes extent)

@@ -1,5 +1,6 @@
 -- What the inodes of a new tree have.
 use Rattle.std.specs.Prelude.{ℕ, pos, List}
+use Rattle.btrfs_format.specs.declared.key.TheConstants.{INODE_ITEM, INODE_REF}
 use Rattle.btr_node.specs.btr_keys.declared.inode.Inode.{Inode}
 use Rattle.btr_node.specs.btr_keys.declared.stamp.Stamp.{Stamp}
 use Rattle.btr_node.specs.btr_keys.Inode.{inode_bytes}
@@ -46,8 +47,8 @@ inode_made now mode size nbytes flags = record new_inode {
 
 -- the item of an inode
 abbrev pub inode_item : ℕ → Inode → Item
-inode_item ino inode = (make_key ino 1 0, inode_bytes inode)
+inode_item ino inode = (make_key ino INODE_ITEM 0, inode_bytes inode)
 
 -- the item of an inode's name in a directory, where it has one name there
 abbrev pub ref_item : ℕ → ℕ → ℕ → List ℕ → Item
-ref_item ino parent index name = (make_key ino 12 parent, inode_ref_bytes (record { index = index; name = name }))
+ref_item ino parent index name = (make_key ino INODE_REF parent, inode_ref_bytes (record { index = index; name = name }))

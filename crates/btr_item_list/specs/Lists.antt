@@ -4,14 +4,14 @@ use Rattle.std.specs.List.{flat_map}
 use Rattle.btr_node.specs.btr_keys.Key.{make_key}
 use Rattle.btr_node.specs.Leaf.{Item}
 use Rattle.btr_item_list.specs.Groups.{AreGroups, grouped}
-use Rattle.btr_item_list.specs.declared.list.Head.{Head}
+use Rattle.btr_item_list.specs.declared.list.ItemRange.{ItemRange}
 
 -- the item of a head
-abbrev pub item_by : List ℕ → Head → Item
+abbrev pub item_by : List ℕ → ItemRange → Item
 item_by bytes h = (h.key, slice_range bytes h.start h.end)
 
 -- the body lies within so many bytes
-pub record IsWithin (n : ℕ) (h : Head) : Type 0 where
+pub record IsBodyWithin (n : ℕ) (h : ItemRange) : Type 0 where
   pub ordered : h.start ≤ h.end
   pub within : h.end ≤ n
 

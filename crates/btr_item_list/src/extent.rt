@@ -6,6 +6,7 @@ ghost use Rattle.btr_item_list.specs.Extents.{extent_item, regular_extent, inlin
 use crate::list::ItemList;
 use crate::records::put_extent;
 use btr_node::{BlockNo, DiskRange, ExtentContent, FileExtent, Key, Memory};
+use btrfs_format::key::EXTENT_DATA;
 
 /// Where an extent lies, in blocks.
 #[derive(Clone, Copy)]
@@ -68,11 +69,11 @@ fn new_extent<'a>(ram_bytes: u64, content: ExtentContent<'a>) -> FileExtent<'a>
 
 /// The key of the extent from a byte of the file on.
 fn extent_key(ino: u64, offset: u64) -> Key
-    ensures { result ≡ record { objectid = ino; kind = 108; offset = offset } }
+    ensures { result ≡ record { objectid = ino; kind = EXTENT_DATA; offset = offset } }
 {
     Key {
         objectid: ino,
-        kind: 108,
+        kind: EXTENT_DATA,
         offset,
     }
 }

@@ -5,6 +5,7 @@ ghost use Rattle.btr_item_list.specs.Inodes.{inode_item, ref_item};
 use crate::list::ItemList;
 use crate::records::put_inode_ref;
 use btr_node::{Inode, InodeRef, Key, Memory};
+use btrfs_format::key::{INODE_ITEM, INODE_REF};
 
 /// The key of an item.
 pub fn key_of(objectid: u64, kind: u8, offset: u64) -> Key
@@ -21,7 +22,7 @@ pub fn key_of(objectid: u64, kind: u8, offset: u64) -> Key
 pub fn add_inode(items: &mut ItemList, ino: u64, inode: &Inode) -> Result<(), Memory>
     ensures { OnOk result (items.new ≡ items.old ++ inode_item ino inode.now ∷ []) }
 {
-    items.add(key_of(ino, 1, 0), &inode.to_bytes())
+    items.add(key_of(ino, INODE_ITEM, 0), &inode.to_bytes())
 }
 
 /// Appends the one name of an inode in a directory. `body` is where the item's body is put together.
@@ -37,5 +38,5 @@ pub fn add_ref(
 {
     body.clear();
     put_inode_ref(body, name)?;
-    items.add(key_of(ino, 12, parent), body)
+    items.add(key_of(ino, INODE_REF, parent), body)
 }

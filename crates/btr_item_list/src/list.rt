@@ -9,7 +9,7 @@ use std::marker::Model;
 
 /// The key of an item, and where its body lies among the bytes of all.
 #[derive(Clone, Copy)]
-struct Head {
+struct ItemRange {
     key: Key,
     start: usize,
     end: usize,
@@ -18,20 +18,20 @@ struct Head {
 /// Some items, seen as a list of them. What memory it took it keeps for the next ones.
 #[derive(Drop)]
 pub struct ItemList {
-    heads: Vec<Head>,
+    heads: Vec<ItemRange>,
     bytes: Vec<u8>,
 }
 
 impl Model for ItemList {
     ghost use Rattle.std.specs.Prelude.{List, map, All, length};
     ghost use Rattle.btr_node.specs.Leaf.{Item};
-    ghost use Rattle.btr_item_list.specs.Lists.{item_by, IsWithin};
+    ghost use Rattle.btr_item_list.specs.Lists.{item_by, IsBodyWithin};
 
     ghost Value = { List Item };
 
     ghost view = { λ l. map (item_by l.bytes.items) l.heads.items };
 
-    ghost invariant = { λ l. All (IsWithin (length l.bytes.items)) l.heads.items };
+    ghost invariant = { λ l. All (IsBodyWithin (length l.bytes.items)) l.heads.items };
 }
 
 impl ItemList {
@@ -76,7 +76,7 @@ impl ItemList {
     {
         let start = self.bytes.len();
         self.bytes.extend_from_slice(body)?;
-        let head = Head {
+        let head = ItemRange {
             key,
             start,
             end: self.bytes.len(),

@@ -1,13 +1,10 @@
 -- What is written by a layout is read by it: for each kind of field, and from field to field.
-use Rattle.std.proofs.Common.{◌≡◌, ◌<◌, ◌^◌, ◌==◌, ℕ, ℤ, List, [], ◌++◌, length, drop, replicate, Some, true, Fits, refl, ap, sym, ◌∙◌, arith, append_assoc, length-append, eq-eqb}
-use Rattle.std.proofs.lemmas.List.{take_at, drop_at, append-nil, length-replicate}
+use Rattle.btr_keys.proofs.Imports.{◌≡◌, ◌<◌, ◌^◌, ◌==◌, ℕ, ℤ, List, [], ◌++◌, length, drop, replicate, Some, true, Fits, refl, ap, sym, ◌∙◌, arith, append_assoc, length-append, eq-eqb, take_at, drop_at, append-nil, length-replicate, little_number-reads_back, length-bytes_low_first, LayoutField, Layout, made_by, ◌▸◌, u8, u16, u32, u64, number, i64, array, part, reserved, ReadsBack}
 use Rattle.std.specs.Int.{w64, cast_signed, cast_unsigned}
 use Rattle.std.proofs.Math.Facts.{to_z-of_z, Fits-of_z}
-use Rattle.byteorder.specs.Numbers.{little_number-reads_back, length-bytes_low_first}
-use Rattle.btr_keys.specs.Layout.{Row, Layout, made_by, ◌▸◌, u8, u16, u32, u64, number, i64, array, part, reserved, ReadsBack}
 
 -- a field's spelling has its width, and reads as its value whatever stands behind it
-pub record RowReads {R A : Type 0} (row : Row R A) : Type 1 where
+pub record RowReads {R A : Type 0} (row : LayoutField R A) : Type 1 where
   pub len : (x : A) → row.fits x → length (row.spell x) ≡ row.width
   pub back : (x : A) (rest : List ℕ) → row.fits x → row.read (row.spell x ++ rest) ≡ x
 
@@ -21,7 +18,7 @@ pub start : {R F : Type 0} (make : F) → Reads {R = R} {F = F} (made_by make) (
 start make = record { apart = λ v rest. refl; len = λ v fits. refl; back = λ v rest fits. refl }
 
 infixl 10 ◌▹◌
-pub ◌▹◌ : {R A F : Type 0} {layout : Layout R (A → F)} {built : R → A → F} {row : Row R A} → Reads layout built → RowReads row → Reads (layout ▸ row) (λ v. built v (row.get v))
+pub ◌▹◌ : {R A F : Type 0} {layout : Layout R (A → F)} {built : R → A → F} {row : LayoutField R A} → Reads layout built → RowReads row → Reads (layout ▸ row) (λ v. built v (row.get v))
 ◌▹◌ {layout = layout} {built = built} {row = row} l r = record {
   apart = λ v rest.
       l.apart v (row.spell (row.get v) ++ rest)

@@ -1,3 +1,4 @@
+pub mod Imports
 pub mod Layouts
 pub mod Records
 pub mod Repeats

@@ -1,17 +1,5 @@
 -- The layouts of this crate read what they write.
-use Rattle.std.proofs.Common.{◌≡◌, [], ◌∷◌, length, drop, cond, ltb, Bool, false, None, Some, refl, ap, ◌∙◌, arith, lit<, length-append}
-use Rattle.std.proofs.lemmas.Bool.{le-ltb}
-use Rattle.std.proofs.lemmas.List.{take_at, drop_at}
-use Rattle.std.specs.Option.{option_map}
-use Rattle.byteorder.specs.Numbers.{little_number-reads_back}
-use Rattle.btr_keys.specs.Layout.{ReadsBack}
-use Rattle.btr_keys.specs.Key.{key_layout, make_key}
-use Rattle.btr_keys.specs.Stamp.{stamp_layout, make_stamp}
-use Rattle.btr_keys.specs.Inode.{inode_layout, make_inode}
-use Rattle.btr_keys.specs.InodeRef.{inode_ref_head, make_inode_ref}
-use Rattle.btr_keys.specs.Extref.{extref_head, make_extref}
-use Rattle.btr_keys.specs.DirEntry.{dir_entry_head, make_dir_entry}
-use Rattle.btr_keys.specs.FileExtent.{disk_range_layout, make_disk_range, ContentValue, Inline, Regular, Prealloc, content_kind, content_of, content_bytes, FitsContent, file_extent_head, make_file_extent, file_extent_bytes}
+use Rattle.btr_keys.proofs.Imports.{◌≡◌, [], ◌∷◌, length, drop, cond, ltb, Bool, false, None, Some, refl, ap, ◌∙◌, arith, lit<, length-append, le-ltb, take_at, drop_at, option_map, INODE_ITEM_SIZE, KEY_SIZE, TIMESPEC_SIZE, little_number-reads_back, ReadsBack, key_layout, make_key, stamp_layout, make_stamp, inode_layout, make_inode, inode_ref_head, make_inode_ref, extref_head, make_extref, dir_entry_head, make_dir_entry, disk_range_layout, make_disk_range, ContentValue, Inline, Regular, Prealloc, content_kind, content_of, content_bytes, FitsContent, file_extent_head, make_file_extent, file_extent_bytes}
 use Rattle.btr_keys.specs.Laws.{InodeRefsReadBack, ExtrefsReadBack, DirItemsReadBack, DiskRangesReadBack, FileExtentsReadBack}
 use Rattle.btr_keys.proofs.Layouts.{Reads, start, ◌▹◌, skip, u8_reads, u16_reads, u32_reads, u64_reads, i64_reads, part_reads, reads_back}
 use Rattle.btr_keys.proofs.Repeats.{IsNamed, records_read_back}
@@ -20,7 +8,7 @@ pub key_reads : Reads key_layout (λ v. v)
 unfolding key_layout
 key_reads = start make_key ▹ u64_reads ▹ u8_reads ▹ u64_reads
 
-pub keys_read_back : ReadsBack 17 key_layout
+pub keys_read_back : ReadsBack KEY_SIZE key_layout
 unfolding key_layout
 keys_read_back = reads_back refl key_reads
 
@@ -28,7 +16,7 @@ pub stamp_reads : Reads stamp_layout (λ v. v)
 unfolding stamp_layout
 stamp_reads = start make_stamp ▹ i64_reads ▹ u32_reads
 
-pub stamps_read_back : ReadsBack 12 stamp_layout
+pub stamps_read_back : ReadsBack TIMESPEC_SIZE stamp_layout
 unfolding stamp_layout
 stamps_read_back = reads_back refl stamp_reads
 
@@ -38,7 +26,7 @@ inode_reads =
     skip 32 (start make_inode ▹ u64_reads ▹ u64_reads ▹ u64_reads ▹ u64_reads ▹ u64_reads ▹ u32_reads ▹ u32_reads ▹ u32_reads ▹ u32_reads ▹ u64_reads ▹ u64_reads ▹ u64_reads)
     ▹ part_reads stamp_reads ▹ part_reads stamp_reads ▹ part_reads stamp_reads ▹ part_reads stamp_reads
 
-pub inodes_read_back : ReadsBack 160 inode_layout
+pub inodes_read_back : ReadsBack INODE_ITEM_SIZE inode_layout
 unfolding inode_layout stamp_layout
 inodes_read_back = reads_back refl inode_reads
 

@@ -1,12 +1,6 @@
 -- Records that end with a name, written one after the other, read as these records.
-use Rattle.std.proofs.Common.{◌≡◌, ◌<◌, ℕ, ◌+◌, List, [], ◌∷◌, ◌++◌, length, drop, map, Option, Some, None, cond, ltb, Bool, false, refl, ap, sym, ◌∙◌, arith, append_assoc, length-append}
-use Rattle.std.proofs.lemmas.Bool.{le-ltb}
-use Rattle.std.proofs.lemmas.List.{drop_at}
-use Rattle.std.specs.Option.{option_map}
+use Rattle.btr_keys.proofs.Imports.{◌≡◌, ◌<◌, ℕ, ◌+◌, List, [], ◌∷◌, ◌++◌, length, drop, map, Option, Some, None, cond, ltb, Bool, false, refl, ap, sym, ◌∙◌, arith, append_assoc, length-append, le-ltb, drop_at, option_map, field, Layout, behind_named, starts, records, at_least_one, RecordsReadBack}
 use Rattle.std.specs.List.{flat_map, AllByRecursion}
-use Rattle.vol_block.specs.Volume.{field}
-use Rattle.btr_keys.specs.Layout.{Layout}
-use Rattle.btr_keys.specs.Repeated.{behind_named, starts, records, at_least_one, RecordsReadBack}
 use Rattle.btr_keys.proofs.Layouts.{Reads}
 use Rattle.btr_keys.proofs.Starts.{starts_step, starts_end, named_shrinks}
 

@@ -1,11 +1,6 @@
 -- Steps over the records of a body.
-use Rattle.std.proofs.Common.{◌≡◌, ◌<◌, ◌≤◌, ℕ, zero, suc, ◌+◌, List, [], ◌∷◌, length, drop, Option, Some, None, refl, ap, sym, ◌∙◌, arith, length-drop, cond, ltb, Bool, true, false, ◌==◌, subst, get_or, slice_get, map, IsSome, is_some}
-use Rattle.std.proofs.lemmas.List.{drop_more, length-map}
+use Rattle.btr_keys.proofs.Imports.{◌≡◌, ◌<◌, ◌≤◌, ℕ, zero, suc, ◌+◌, List, [], ◌∷◌, length, drop, Option, Some, None, refl, ap, sym, ◌∙◌, arith, length-drop, cond, ltb, Bool, true, false, ◌==◌, subst, get_or, slice_get, map, IsSome, is_some, drop_more, length-map, ltb-false, eqb-true, option_map, option_and_then, field, behind_named, starts_within, starts, at_least_one}
 use Rattle.std.proofs.lemmas.Option.{slice_get-get_or, slice_get-map}
-use Rattle.std.proofs.lemmas.Bool.{ltb-false, eqb-true}
-use Rattle.std.specs.Option.{option_map, option_and_then}
-use Rattle.vol_block.specs.Volume.{field}
-use Rattle.btr_keys.specs.Repeated.{behind_named, starts_within, starts, at_least_one}
 
 -- a record has bytes
 abbrev pub Shrinks : (List ℕ → Option (List ℕ)) → Type 0

@@ -1,5 +1,6 @@
 -- Bodies of dir items and dir indexes, as the Btrfs on-disk format documentation has them (struct btrfs_dir_item).
 use Rattle.std.specs.Prelude.{ℕ, List, length, take, drop, Option}
+use Rattle.btrfs_format.specs.declared.size.TheConstants.{DIR_ITEM_SIZE}
 use Rattle.btr_keys.specs.Layout.{Layout, made_by, ◌▸◌, u8, u16, u64, part}
 use Rattle.btr_keys.specs.Key.{key_layout}
 use Rattle.btr_keys.specs.Repeated.{behind_named, records, at_least_one}
@@ -33,11 +34,11 @@ dir_entry_head =
 
 -- the record that bytes begin with
 abbrev pub dir_entry_front : List ℕ → DirEntryValue
-dir_entry_front bytes = dir_entry_head.read bytes (drop 30 bytes)
+dir_entry_front bytes = dir_entry_head.read bytes (drop DIR_ITEM_SIZE bytes)
 
 -- the records that a body is, at least one
 abbrev pub dir_items_of : List ℕ → Option (List DirEntryValue)
-dir_items_of body = at_least_one (records (behind_named 30 27) dir_entry_front body)
+dir_items_of body = at_least_one (records (behind_named DIR_ITEM_SIZE 27) dir_entry_front body)
 
 -- the bytes of one record
 abbrev pub dir_entry_bytes : DirEntryValue → List ℕ

@@ -1,5 +1,6 @@
 -- Bodies of extrefs, as the Btrfs on-disk format documentation has them (struct btrfs_inode_extref).
 use Rattle.std.specs.Prelude.{ℕ, List, length, take, drop, Option}
+use Rattle.btrfs_format.specs.declared.size.TheConstants.{INODE_EXTREF_SIZE}
 use Rattle.btr_keys.specs.Layout.{Layout, made_by, ◌▸◌, u16, u64}
 use Rattle.btr_keys.specs.Repeated.{behind_named, records, at_least_one}
 use Rattle.btr_keys.specs.declared.extref.Extref.{Extref}
@@ -26,11 +27,11 @@ extref_head =
 
 -- the record that bytes begin with
 abbrev pub extref_front : List ℕ → ExtrefValue
-extref_front bytes = extref_head.read bytes (drop 18 bytes)
+extref_front bytes = extref_head.read bytes (drop INODE_EXTREF_SIZE bytes)
 
 -- the records that a body is, at least one
 abbrev pub extrefs_of : List ℕ → Option (List ExtrefValue)
-extrefs_of body = at_least_one (records (behind_named 18 16) extref_front body)
+extrefs_of body = at_least_one (records (behind_named INODE_EXTREF_SIZE 16) extref_front body)
 
 -- the bytes of one record
 abbrev pub extref_bytes : ExtrefValue → List ℕ

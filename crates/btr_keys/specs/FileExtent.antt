@@ -1,6 +1,8 @@
 -- Bodies of file extents, as the Btrfs on-disk format documentation has them (struct btrfs_file_extent_item).
 use Rattle.std.specs.Prelude.{ℕ, ◌+◌, ◌==◌, nat_lt, if◌then◌else◌, List, length, drop, Option, Some, None}
 use Rattle.std.specs.Option.{option_map}
+use Rattle.btrfs_format.specs.declared.flag.TheConstants.{FILE_EXTENT_INLINE, FILE_EXTENT_PREALLOC, FILE_EXTENT_REG}
+use Rattle.btrfs_format.specs.declared.size.TheConstants.{FILE_EXTENT_INLINE_START}
 use Rattle.btr_keys.specs.Layout.{Layout, made_by, ◌▸◌, u8, u16, u64, whole, spelling}
 use Rattle.btr_keys.specs.declared.file_extent.DiskRange.{DiskRange}
 use Rattle.btr_keys.specs.declared.file_extent.ExtentContent.{ExtentContent}
@@ -40,16 +42,16 @@ content_value (content.Prealloc range) = Prealloc range
 
 -- the byte that says which contents there are
 abbrev pub content_kind : ContentValue → ℕ
-content_kind (Inline bytes) = 0
-content_kind (Regular range) = 1
-content_kind (Prealloc range) = 2
+content_kind (Inline bytes) = FILE_EXTENT_INLINE
+content_kind (Regular range) = FILE_EXTENT_REG
+content_kind (Prealloc range) = FILE_EXTENT_PREALLOC
 
 -- the contents of a kind that are these bytes
 abbrev pub content_of : ℕ → List ℕ → Option ContentValue
 content_of kind bytes =
-    if kind == 0 then Some (Inline bytes)
-    else (if kind == 1 then option_map Regular (disk_range_of bytes)
-    else (if kind == 2 then option_map Prealloc (disk_range_of bytes) else None))
+    if kind == FILE_EXTENT_INLINE then Some (Inline bytes)
+    else (if kind == FILE_EXTENT_REG then option_map Regular (disk_range_of bytes)
+    else (if kind == FILE_EXTENT_PREALLOC then option_map Prealloc (disk_range_of bytes) else None))
 
 abbrev pub content_bytes : ContentValue → List ℕ
 content_bytes (Inline bytes) = bytes
@@ -94,7 +96,7 @@ file_extent_head =
 
 -- the extent that is the whole body
 abbrev pub file_extent_of : List ℕ → Option FileExtentValue
-file_extent_of body = if nat_lt (length body) 21 then None else file_extent_head.read body (drop 21 body)
+file_extent_of body = if nat_lt (length body) FILE_EXTENT_INLINE_START then None else file_extent_head.read body (drop FILE_EXTENT_INLINE_START body)
 
 -- the bytes of an extent
 abbrev pub file_extent_bytes : FileExtentValue → List ℕ
@@ -108,4 +110,4 @@ content_size (Prealloc range) = 32
 
 -- how many bytes an extent takes
 abbrev pub file_extent_size : FileExtentValue → ℕ
-file_extent_size e = 21 + content_size e.content
+file_extent_size e = FILE_EXTENT_INLINE_START + content_size e.content

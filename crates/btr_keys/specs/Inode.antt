@@ -1,5 +1,6 @@
 -- Bodies of inode items, as the Btrfs on-disk format documentation has them (struct btrfs_inode_item).
 use Rattle.std.specs.Prelude.{ℕ, List, drop, Option}
+use Rattle.btrfs_format.specs.declared.size.TheConstants.{INODE_ITEM_SIZE}
 use Rattle.btr_keys.specs.Layout.{Layout, made_by, ◌▸◌, u32, u64, reserved, whole, spelling}
 use Rattle.btr_keys.specs.Stamp.{stamp}
 use Rattle.btr_keys.specs.declared.stamp.Stamp.{Stamp}
@@ -54,7 +55,7 @@ inode_at bytes at = inode_layout.read (drop at bytes)
 
 -- the inode that is the whole body
 abbrev pub inode_of : List ℕ → Option Inode
-inode_of body = whole 160 inode_layout body
+inode_of body = whole INODE_ITEM_SIZE inode_layout body
 
 -- the 160 bytes of an inode
 abbrev pub inode_bytes : Inode → List ℕ

@@ -1,5 +1,6 @@
 -- Bodies of inode refs, as the Btrfs on-disk format documentation has them (struct btrfs_inode_ref).
 use Rattle.std.specs.Prelude.{ℕ, List, length, take, drop, Option}
+use Rattle.btrfs_format.specs.declared.size.TheConstants.{INODE_REF_SIZE}
 use Rattle.btr_keys.specs.Layout.{Layout, made_by, ◌▸◌, u16, u64}
 use Rattle.btr_keys.specs.Repeated.{behind_named, records, at_least_one}
 use Rattle.btr_keys.specs.declared.inode_ref.InodeRef.{InodeRef}
@@ -24,11 +25,11 @@ inode_ref_head =
 
 -- the record that bytes begin with
 abbrev pub inode_ref_front : List ℕ → InodeRefValue
-inode_ref_front bytes = inode_ref_head.read bytes (drop 10 bytes)
+inode_ref_front bytes = inode_ref_head.read bytes (drop INODE_REF_SIZE bytes)
 
 -- the records that a body is, at least one
 abbrev pub inode_refs_of : List ℕ → Option (List InodeRefValue)
-inode_refs_of body = at_least_one (records (behind_named 10 8) inode_ref_front body)
+inode_refs_of body = at_least_one (records (behind_named INODE_REF_SIZE 8) inode_ref_front body)
 
 -- the bytes of one record
 abbrev pub inode_ref_bytes : InodeRefValue → List ℕ

@@ -3,6 +3,7 @@ use Rattle.std.specs.Prelude.{◌≡◌, ℕ, List, drop, Option}
 use Rattle.std.specs.declared.cmp.Ordering.{Ordering}
 use Rattle.std.specs.declared.cmp.Ordering.TheVariants.{Less}
 use Rattle.std.specs.Ordering.{nat_cmp, ordering_then}
+use Rattle.btrfs_format.specs.declared.size.TheConstants.{KEY_SIZE}
 use Rattle.btr_keys.specs.Layout.{Layout, made_by, ◌▸◌, u8, u64, whole, spelling}
 use Rattle.btr_keys.specs.declared.key.Key.{Key}
 
@@ -17,12 +18,12 @@ key_layout =
     ▸ u64 (λ k. k.offset)
 
 -- the key in the 17 bytes from a place on
-abbrev pub key_at : List ℕ → ℕ → Key
-key_at bytes at = key_layout.read (drop at bytes)
+abbrev pub key_in_bytes : List ℕ → ℕ → Key
+key_in_bytes bytes at = key_layout.read (drop at bytes)
 
 -- the key that is the whole body
 abbrev pub key_of : List ℕ → Option Key
-key_of body = whole 17 key_layout body
+key_of body = whole KEY_SIZE key_layout body
 
 -- the 17 bytes of a key
 abbrev pub key_bytes : Key → List ℕ

@@ -1,5 +1,6 @@
 -- What is written is read again.
 use Rattle.std.specs.Prelude.{◌≡◌, Some}
+use Rattle.btrfs_format.specs.declared.size.TheConstants.{INODE_ITEM_SIZE, KEY_SIZE, TIMESPEC_SIZE}
 use Rattle.btr_keys.specs.Layout.{ReadsBack}
 use Rattle.btr_keys.specs.Repeated.{RecordsReadBack}
 use Rattle.btr_keys.specs.Key.{key_layout}
@@ -11,13 +12,13 @@ use Rattle.btr_keys.specs.DirEntry.{dir_entry_head, dir_entry_bytes, dir_items_o
 use Rattle.btr_keys.specs.FileExtent.{FileExtentValue, file_extent_head, FitsContent, file_extent_bytes, file_extent_of, disk_range_layout}
 
 abbrev pub KeysReadBack : Type 0
-KeysReadBack = ReadsBack 17 key_layout
+KeysReadBack = ReadsBack KEY_SIZE key_layout
 
 abbrev pub StampsReadBack : Type 0
-StampsReadBack = ReadsBack 12 stamp_layout
+StampsReadBack = ReadsBack TIMESPEC_SIZE stamp_layout
 
 abbrev pub InodesReadBack : Type 0
-InodesReadBack = ReadsBack 160 inode_layout
+InodesReadBack = ReadsBack INODE_ITEM_SIZE inode_layout
 
 abbrev pub InodeRefsReadBack : Type 0
 InodeRefsReadBack = RecordsReadBack inode_refs_of inode_ref_bytes inode_ref_head.fits

@@ -5,7 +5,7 @@ use Rattle.std.specs.Int.{w64, cast_signed, cast_unsigned}
 use Rattle.byteorder.specs.Endian.{little_number, little_bytes}
 
 -- one field of an R, with values of type A
-pub record Row (R A : Type 0) : Type 1 where
+pub record LayoutField (R A : Type 0) : Type 1 where
   pub width : ℕ
   pub get : R → A
   -- its value in the bytes that begin with it
@@ -28,7 +28,7 @@ made_by make = record { width = 0; read = λ _. make; spell = λ _ rest. rest; f
 
 -- one field more
 infixl 10 ◌▸◌
-abbrev pub ◌▸◌ : {R A F : Type 0} → Layout R (A → F) → Row R A → Layout R F
+abbrev pub ◌▸◌ : {R A F : Type 0} → Layout R (A → F) → LayoutField R A → Layout R F
 layout ▸ row = record {
   width = layout.width + row.width;
   read = λ bytes. layout.read bytes (row.read (drop layout.width bytes));
@@ -37,24 +37,24 @@ layout ▸ row = record {
 }
 
 -- a byte
-abbrev pub u8 : {R : Type 0} → (R → ℕ) → Row R ℕ
+abbrev pub u8 : {R : Type 0} → (R → ℕ) → LayoutField R ℕ
 u8 get = record { width = 1; get = get; read = λ bytes. slice_index bytes 0; spell = λ x. x ∷ []; fits = λ x. x < 256 }
 
 -- a number of so many bytes
-abbrev pub number : {R : Type 0} → ℕ → (R → ℕ) → Row R ℕ
+abbrev pub number : {R : Type 0} → ℕ → (R → ℕ) → LayoutField R ℕ
 number n get = record { width = n; get = get; read = little_number n; spell = little_bytes n; fits = λ x. x < 256 ^ n }
 
-abbrev pub u16 : {R : Type 0} → (R → ℕ) → Row R ℕ
+abbrev pub u16 : {R : Type 0} → (R → ℕ) → LayoutField R ℕ
 u16 get = number 2 get
 
-abbrev pub u32 : {R : Type 0} → (R → ℕ) → Row R ℕ
+abbrev pub u32 : {R : Type 0} → (R → ℕ) → LayoutField R ℕ
 u32 get = number 4 get
 
-abbrev pub u64 : {R : Type 0} → (R → ℕ) → Row R ℕ
+abbrev pub u64 : {R : Type 0} → (R → ℕ) → LayoutField R ℕ
 u64 get = number 8 get
 
 -- a signed number of eight bytes, in two's complement
-abbrev pub i64 : {R : Type 0} → (R → ℤ) → Row R ℤ
+abbrev pub i64 : {R : Type 0} → (R → ℤ) → LayoutField R ℤ
 i64 get = record {
   width = 8;
   get = get;
@@ -64,11 +64,11 @@ i64 get = record {
 }
 
 -- so many bytes as they are
-abbrev pub array : {R : Type 0} → ℕ → (R → List ℕ) → Row R (List ℕ)
+abbrev pub array : {R : Type 0} → ℕ → (R → List ℕ) → LayoutField R (List ℕ)
 array n get = record { width = n; get = get; read = take n; spell = λ xs. xs; fits = λ xs. length xs ≡ n }
 
 -- a record within the record
-abbrev pub part : {R A : Type 0} → Layout A A → (R → A) → Row R A
+abbrev pub part : {R A : Type 0} → Layout A A → (R → A) → LayoutField R A
 part layout get = record { width = layout.width; get = get; read = layout.read; spell = λ value. layout.spell value []; fits = layout.fits }
 
 -- so many bytes that are written as zeros and not looked at

@@ -1,6 +1,7 @@
 -- Times, as the Btrfs on-disk format documentation has them (struct btrfs_timespec).
 use Rattle.std.specs.Prelude.{ℕ, ℤ, List, drop, Option}
-use Rattle.btr_keys.specs.Layout.{Layout, Row, made_by, ◌▸◌, i64, u32, part, whole, spelling}
+use Rattle.btrfs_format.specs.declared.size.TheConstants.{TIMESPEC_SIZE}
+use Rattle.btr_keys.specs.Layout.{Layout, LayoutField, made_by, ◌▸◌, i64, u32, part, whole, spelling}
 use Rattle.btr_keys.specs.declared.stamp.Stamp.{Stamp}
 
 abbrev pub make_stamp : ℤ → ℕ → Stamp
@@ -18,12 +19,12 @@ stamp_at bytes at = stamp_layout.read (drop at bytes)
 
 -- the time that is the whole slice
 abbrev pub stamp_of : List ℕ → Option Stamp
-stamp_of bytes = whole 12 stamp_layout bytes
+stamp_of bytes = whole TIMESPEC_SIZE stamp_layout bytes
 
 -- the 12 bytes of a time
 abbrev pub stamp_bytes : Stamp → List ℕ
 stamp_bytes stamp = spelling stamp_layout stamp
 
 -- a field that is a time
-abbrev pub stamp : {R : Type 0} → (R → Stamp) → Row R Stamp
+abbrev pub stamp : {R : Type 0} → (R → Stamp) → LayoutField R Stamp
 stamp get = part stamp_layout get

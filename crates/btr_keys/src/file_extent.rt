@@ -13,6 +13,7 @@ ghost use Rattle.btr_keys.specs.FileExtent.{
   file_extent_size,
 };
 
+use btrfs_format::flag::{FILE_EXTENT_INLINE, FILE_EXTENT_PREALLOC, FILE_EXTENT_REG};
 use vol_block::{Field, put_fields, u16_at, u64_at};
 
 /// Where the bytes of a regular or preallocated file extent lie. All are in bytes.
@@ -130,9 +131,13 @@ impl<'a> FileExtent<'a> {
         ensures { into.new ≡ file_extent_bytes (file_extent_value self.now) }
     {
         match self.content {
-            ExtentContent::Inline(bytes) => self.put(0, bytes, into),
-            ExtentContent::Regular(range) => self.put(1, &range.to_bytes(), into),
-            ExtentContent::Prealloc(range) => self.put(2, &range.to_bytes(), into),
+            ExtentContent::Inline(bytes) => self.put(FILE_EXTENT_INLINE, bytes, into),
+            ExtentContent::Regular(range) => self.put(FILE_EXTENT_REG, &range.to_bytes(), into),
+            ExtentContent::Prealloc(range) => self.put(
+                FILE_EXTENT_PREALLOC,
+                &range.to_bytes(),
+                into,
+            ),
         }
     }
 

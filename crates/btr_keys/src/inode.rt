@@ -3,6 +3,7 @@ ghost use Rattle.btr_keys.specs.Inode.{inode_layout, inode_at, inode_of, inode_b
 
 use crate::body::exactly;
 use crate::stamp::Stamp;
+use btrfs_format::size::INODE_ITEM_SIZE;
 use vol_block::{Field, put_fields, u32_at, u64_at};
 
 /// The body of an inode item, key (inode, 1, 0): 160 bytes, as the Btrfs on-disk format documentation has it.
@@ -44,7 +45,7 @@ pub struct Inode {
 
 impl Inode {
     /// The bytes of an inode.
-    pub const SIZE: usize = 160;
+    pub const SIZE: usize = INODE_ITEM_SIZE;
 
     /// The inode in the 160 bytes from byte `at` on. The 32 bytes that the format keeps for later are not looked at.
     pub fn at(bytes: &[u8], at: usize) -> Inode

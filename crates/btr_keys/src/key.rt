@@ -1,7 +1,8 @@
 ghost use Rattle.std.specs.Prelude.{◌≡◌, ◌+◌, ◌≤◌, ◌↔◌, length, IsTrue};
-ghost use Rattle.btr_keys.specs.Key.{key_at, key_of, key_bytes, IsBefore};
+ghost use Rattle.btr_keys.specs.Key.{key_in_bytes, key_of, key_bytes, IsBefore};
 
 use crate::body::exactly;
+use btrfs_format::size::KEY_SIZE;
 use vol_block::{Field, put_fields, u64_at};
 
 /// The key of an item in a Btrfs tree: 17 bytes, as the Btrfs on-disk format documentation has it.
@@ -19,13 +20,13 @@ pub struct Key {
 
 impl Key {
     /// The bytes of a key.
-    pub const SIZE: usize = 17;
+    pub const SIZE: usize = KEY_SIZE;
 
     /// The key in the 17 bytes from byte `at` on.
     #[tactic(auto, unfolding(crate::specs::Key::key_layout))]
     pub fn at(bytes: &[u8], at: usize) -> Key
         requires { at + 17 ≤ length bytes.now }
-        ensures { result ≡ key_at bytes.now at }
+        ensures { result ≡ key_in_bytes bytes.now at }
     {
         Key {
             objectid: u64_at(bytes, at),

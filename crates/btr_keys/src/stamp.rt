@@ -2,6 +2,7 @@ ghost use Rattle.std.specs.Prelude.{◌≡◌, ◌+◌, ◌≤◌, length};
 ghost use Rattle.btr_keys.specs.Stamp.{stamp_at, stamp_of, stamp_bytes};
 
 use crate::body::exactly;
+use btrfs_format::size::TIMESPEC_SIZE;
 use vol_block::{Field, put_fields, u32_at, u64_at};
 
 /// A time of an inode or a tree: 12 bytes, as the Btrfs on-disk format documentation has it.
@@ -15,7 +16,7 @@ pub struct Stamp {
 
 impl Stamp {
     /// The bytes of a time.
-    pub const SIZE: usize = 12;
+    pub const SIZE: usize = TIMESPEC_SIZE;
 
     /// The time in the 12 bytes from byte `at` on.
     #[tactic(auto, unfolding(crate::specs::Stamp::stamp_layout))]

@@ -1,12 +1,8 @@
 -- Keys in order.
-use Rattle.std.proofs.Common.{◌≡◌, ◌≤◌, ◌<◌, ◌↔◌, ℕ, ◌+◌, ◌-◌, ◌*◌, Bool, true, false, ◌&&◌, List, [], ◌∷◌, ◌++◌, length, drop, refl, sym, ap, ◌∙◌, arith, length-drop, IsTrue}
+use Rattle.btr_node.proofs.Imports.{◌≡◌, ◌≤◌, ◌<◌, ◌↔◌, ℕ, ◌+◌, ◌-◌, ◌*◌, Bool, true, false, ◌&&◌, List, [], ◌∷◌, ◌++◌, length, drop, refl, sym, ap, ◌∙◌, arith, length-drop, IsTrue, key_layout, key_cmp, IsBefore, Key, is_before, is_before_first, ascends, records_in}
 use Rattle.std.specs.declared.cmp.Ordering.{Ordering}
 use Rattle.std.specs.declared.cmp.Ordering.TheVariants.{Less, Equal, Greater}
 use Rattle.std.specs.Ordering.{is_lt}
-use Rattle.btr_keys.specs.Key.{key_layout, key_cmp, IsBefore}
-use Rattle.btr_keys.specs.declared.key.Key.{Key}
-use Rattle.btr_node.specs.Order.{is_before, is_before_first, ascends}
-use Rattle.btr_node.specs.Records.{records_in}
 use Rattle.btr_node.proofs.Rows.{next_row, length-records_in, both, joined}
 
 -- at most one key ascends

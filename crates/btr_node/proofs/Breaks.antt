@@ -1,16 +1,7 @@
 -- The rules as facts and as tests.
-use Rattle.std.proofs.Common.{◌≡◌, ℕ, Bool, true, false, List, [], Contains, refl, ap, arith}
-use Rattle.std.specs.Bool.{Decides}
-use Rattle.std.proofs.lemmas.Bool.Decides.{Decides-and, Decides-eqb, Decides-like}
+use Rattle.btr_node.proofs.Imports.{◌≡◌, ℕ, Bool, true, false, List, [], Contains, refl, ap, arith, Decides, Decides-and, Decides-eqb, Decides-like, SumKind, HasHead, has_head, head_in, HasSum, has_sum, has_leaf_head, damages_of, Expect, Head}
 use Rattle.std.proofs.lemmas.Slice.Eq.{bytes_eq-Decides}
-use Rattle.csum_kinds.specs.declared.kind.SumKind.{SumKind}
 use Rattle.refusals.specs.declared.rule.BtrRule.TheVariants.{NodeCsum, NodeHead, NodeLayout, KeyOrder}
-use Rattle.btr_node.specs.Head.{HasHead, has_head, head_in}
-use Rattle.btr_node.specs.Sum.{HasSum, has_sum}
-use Rattle.btr_node.specs.Leaf.{has_leaf_head}
-use Rattle.btr_node.specs.Rules.{damages_of}
-use Rattle.btr_node.specs.declared.expect.Expect.{Expect}
-use Rattle.btr_node.specs.declared.head.Head.{Head}
 
 pub sum_decides : (sums : SumKind) (bytes : List ℕ) → Decides (has_sum sums bytes) (HasSum sums bytes)
 sum_decides sums bytes = bytes_eq-Decides _ _

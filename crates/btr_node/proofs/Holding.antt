@@ -1,21 +1,5 @@
 -- What a writer holds, from step to step.
-use Rattle.std.proofs.Common.{◌≡◌, ◌≤◌, ◌<◌, ◌^◌, ◌⊎◌, inl, inr, zero, suc, ℕ, ◌+◌, ◌-◌, ◌*◌, Bool, List, [], ◌∷◌, ◌++◌, length, drop, refl, sym, ap, ◌∙◌, arith, length-append}
-use Rattle.std.proofs.lemmas.List.{append-nil, drop-replicate, length-map, map-append}
-use Rattle.std.proofs.lemmas.List.Elements.{All-nil, All-push}
-use Rattle.std.proofs.lemmas.List.Sums.{sum_by_push}
-use Rattle.btr_keys.specs.Key.{key_layout}
-use Rattle.btr_keys.specs.Layout.{spelling}
-use Rattle.btr_keys.specs.declared.key.Key.{Key}
-use Rattle.btr_node.specs.Draft.{Draft, IsDraft, room, contents, data_of, head_of, sealed, node_bytes}
-use Rattle.btr_node.specs.Head.{head_layout, behind_head}
-use Rattle.btr_node.specs.Inner.{child_layout, first_keys}
-use Rattle.btr_node.specs.Leaf.{Item, item_layout, item_of, keys_of}
-use Rattle.btr_node.specs.NodeSize.{IsNodeSize}
-use Rattle.btr_node.specs.Order.{ascends, Ascends}
-use Rattle.btr_node.specs.Records.{records_in}
-use Rattle.btr_node.specs.Writer.{stored_items, stored_children, held, Holds}
-use Rattle.btr_node.specs.declared.child.Child.{Child}
-use Rattle.btr_node.specs.declared.expect.Expect.{Expect}
+use Rattle.btr_node.proofs.Imports.{◌≡◌, ◌≤◌, ◌<◌, ◌^◌, ◌⊎◌, inl, inr, zero, suc, ℕ, ◌+◌, ◌-◌, ◌*◌, Bool, List, [], ◌∷◌, ◌++◌, length, drop, refl, sym, ap, ◌∙◌, arith, length-append, append-nil, drop-replicate, length-map, map-append, All-nil, All-push, sum_by_push, HEADER_SIZE, ITEM_SIZE, KEY_PTR_SIZE, key_layout, spelling, Key, Draft, IsDraft, room, contents, data_of, head_of, sealed, node_bytes, head_layout, behind_head, child_layout, first_keys, Item, item_layout, item_of, keys_of, IsNodeSize, ascends, Ascends, records_in, stored_items, stored_children, held, HoldsDraft, Child, Expect}
 use Rattle.btr_node.proofs.NodeBack.{size_within, node_behind_head, length-node_bytes}
 use Rattle.btr_node.proofs.Putting.{zeros, length-zeros, bytes_of-parts, data_of-append}
 use Rattle.btr_node.proofs.ReadBack.{items_back, children_back}
@@ -23,22 +7,22 @@ use Rattle.btr_node.proofs.Rows.{length-records_in}
 
 pub length-stored_items : (bytes : List ℕ) (n : ℕ) → length (stored_items bytes n) ≡ n
 unfolding stored_items
-length-stored_items bytes n = length-map (records_in 25 item_layout n (behind_head bytes)) (item_of (behind_head bytes)) ∙ length-records_in 25 item_layout n (behind_head bytes)
+length-stored_items bytes n = length-map (records_in ITEM_SIZE item_layout n (behind_head bytes)) (item_of (behind_head bytes)) ∙ length-records_in ITEM_SIZE item_layout n (behind_head bytes)
 
 pub length-stored_children : (bytes : List ℕ) (n : ℕ) → length (stored_children bytes n) ≡ n
 unfolding stored_children
-length-stored_children bytes n = length-records_in 33 child_layout n (behind_head bytes)
+length-stored_children bytes n = length-records_in KEY_PTR_SIZE child_layout n (behind_head bytes)
 
 -- how much is left, by the writer's counts
 pub record Room (bytes : List ℕ) (low items children : ℕ) (draft : Draft) : Type 0 where
-  pub entries : 25 * items + 33 * children ≤ low
-  pub low_within : 101 + low ≤ length bytes
+  pub entries : ITEM_SIZE * items + KEY_PTR_SIZE * children ≤ low
+  pub low_within : HEADER_SIZE + low ≤ length bytes
   pub small : length bytes ≤ 65536
   pub large : 4096 ≤ length bytes
-  pub room_is : low - 25 * items - 33 * children ≡ room draft
+  pub room_is : low - ITEM_SIZE * items - KEY_PTR_SIZE * children ≡ room draft
 
 pub room_of : (bytes : List ℕ) (low : ℕ) (started : Bool) (want : Expect) (chunk_tree : List ℕ) (items children : ℕ)
-    → Holds bytes low (held bytes started want chunk_tree items children) → Room bytes low items children (held bytes started want chunk_tree items children)
+    → HoldsDraft bytes low (held bytes started want chunk_tree items children) → Room bytes low items children (held bytes started want chunk_tree items children)
 room_of bytes low started want chunk_tree items children holds =
     let draft : Draft = held bytes started want chunk_tree items children in
     let size = size_within (length bytes) holds.right.nodesize in
@@ -65,12 +49,12 @@ head_counts : (draft : Draft) (items : List Item) (children : List Child) → Is
 unfolding head_layout
 head_counts draft items children right small = let h = right.head in ((h.0.0, small), h.1)
 
-item_is_right : (draft : Draft) (key : Key) (body : List ℕ) → IsDraft draft → draft.want.level ≡ 0 → 25 + length body ≤ room draft
+item_is_right : (draft : Draft) (key : Key) (body : List ℕ) → IsDraft draft → draft.want.level ≡ 0 → ITEM_SIZE + length body ≤ room draft
     → key_layout.fits key → Ascends (keys_of draft.items ++ key ∷ []) → IsDraft (with_item draft key body)
 item_is_right draft key body right leaf fits spelled order =
     let size = size_within draft.nodesize right.nodesize in
     let none = ap length (right.leaf leaf) in
-    let sum = sum_by_push (λ (i : Item). 25 + length i.1) draft.items (key, body) in
+    let sum = sum_by_push (λ (i : Item). ITEM_SIZE + length i.1) draft.items (key, body) in
     let all : List Item = draft.items ++ (key, body) ∷ [] in
     record {
       nodesize = right.nodesize;
@@ -84,7 +68,7 @@ item_is_right draft key body right leaf fits spelled order =
       child_order = right.child_order;
     }
 
-child_is_right : (draft : Draft) (child : Child) → IsDraft draft → 1 ≤ draft.want.level → 33 ≤ room draft
+child_is_right : (draft : Draft) (child : Child) → IsDraft draft → 1 ≤ draft.want.level → KEY_PTR_SIZE ≤ room draft
     → child_layout.fits child → Ascends (first_keys draft.children ++ child.key ∷ []) → IsDraft (with_child draft child)
 child_is_right draft child right inner fits spelled order =
     let size = size_within draft.nodesize right.nodesize in
@@ -104,7 +88,7 @@ child_is_right draft child right inner fits spelled order =
     }
 
 -- what a writer holds by what stands in its buffer
-holds_as : (bytes : List ℕ) (low : ℕ) (a b : Draft) → a ≡ b → Holds bytes low b → Holds bytes low a
+holds_as : (bytes : List ℕ) (low : ℕ) (a b : Draft) → a ≡ b → HoldsDraft bytes low b → HoldsDraft bytes low a
 holds_as bytes low a b is holds = rw is holds
 
 leaf_or_inner : (level : ℕ) → (level ≡ 0) ⊎ (1 ≤ level)
@@ -120,22 +104,22 @@ unfolding stored_items
 no_items bytes = refl
 
 -- the items and the children in a buffer that holds a draft
-items_are : (bytes : List ℕ) (low : ℕ) (draft : Draft) → Holds bytes low draft → length bytes ≡ draft.nodesize → stored_items bytes (length draft.items) ≡ draft.items
+items_are : (bytes : List ℕ) (low : ℕ) (draft : Draft) → HoldsDraft bytes low draft → length bytes ≡ draft.nodesize → stored_items bytes (length draft.items) ≡ draft.items
 items_are bytes low draft holds size =
     let within = size_within draft.nodesize holds.right.nodesize in
-    items_back bytes (length bytes - 101) draft.items draft.children holds.filled (omega (arith, within.1)) (omega (arith, holds.right.fits)) holds.right.keys
+    items_back bytes (length bytes - HEADER_SIZE) draft.items draft.children holds.filled (omega (arith, within.1)) (omega (arith, holds.right.fits)) holds.right.keys
 
-children_are : (bytes : List ℕ) (low : ℕ) (draft : Draft) → Holds bytes low draft → (draft.want.level ≡ 0) ⊎ (1 ≤ draft.want.level)
+children_are : (bytes : List ℕ) (low : ℕ) (draft : Draft) → HoldsDraft bytes low draft → (draft.want.level ≡ 0) ⊎ (1 ≤ draft.want.level)
     → stored_children bytes (length draft.children) ≡ draft.children
 children_are bytes low draft holds (inl leaf) =
     let none : draft.children ≡ [] = holds.right.leaf leaf in
     ap (λ (cs : List Child). stored_children bytes (length cs)) none ∙ no_children bytes ∙ sym none
 children_are bytes low draft holds (inr inner) =
-    children_back bytes (length bytes - 101) draft.children
-    (holds.filled ∙ ap (λ items. contents (length bytes - 101) items draft.children) (holds.right.inner inner)) holds.right.links
+    children_back bytes (length bytes - HEADER_SIZE) draft.children
+    (holds.filled ∙ ap (λ items. contents (length bytes - HEADER_SIZE) items draft.children) (holds.right.inner inner)) holds.right.links
 
 -- a buffer that holds a draft reads as it
-pub held_is : (bytes : List ℕ) (low items children : ℕ) (draft : Draft) → Holds bytes low draft → length bytes ≡ draft.nodesize
+pub held_is : (bytes : List ℕ) (low items children : ℕ) (draft : Draft) → HoldsDraft bytes low draft → length bytes ≡ draft.nodesize
     → length draft.items ≡ items → length draft.children ≡ children → held bytes draft.started draft.want draft.chunk_tree items children ≡ draft
 held_is bytes low items children draft holds size n-items n-children =
     let is-items : stored_items bytes items ≡ draft.items = ap (stored_items bytes) (sym n-items) ∙ items_are bytes low draft holds size in
@@ -152,10 +136,10 @@ held_is bytes low items children draft holds size n-items n-children =
 
 -- a buffer that was written so that it holds a draft
 pub record Steps (bytes : List ℕ) (low : ℕ) (kept wanted : Draft) : Type 0 where
-  pub holds : Holds bytes low kept
+  pub holds : HoldsDraft bytes low kept
   pub is : kept ≡ wanted
 
-steps : (bytes : List ℕ) (low items children : ℕ) (draft : Draft) → Holds bytes low draft → length bytes ≡ draft.nodesize
+steps : (bytes : List ℕ) (low items children : ℕ) (draft : Draft) → HoldsDraft bytes low draft → length bytes ≡ draft.nodesize
     → length draft.items ≡ items → length draft.children ≡ children
     → Steps bytes low (held bytes draft.started draft.want draft.chunk_tree items children) draft
 steps bytes low items children draft holds size n-items n-children =
@@ -164,10 +148,10 @@ steps bytes low items children draft holds size n-items n-children =
 
 -- an item more
 pub push_steps : (bytes new : List ℕ) (low : ℕ) (started : Bool) (want : Expect) (chunk_tree : List ℕ) (items children : ℕ) (key : Key) (body : List ℕ)
-    → Holds bytes low (held bytes started want chunk_tree items children) → want.level ≡ 0
-    → 25 + length body ≤ room (held bytes started want chunk_tree items children)
+    → HoldsDraft bytes low (held bytes started want chunk_tree items children) → want.level ≡ 0
+    → ITEM_SIZE + length body ≤ room (held bytes started want chunk_tree items children)
     → key_layout.fits key → Ascends (keys_of (stored_items bytes items) ++ key ∷ []) → length new ≡ length bytes
-    → behind_head new ≡ contents (length bytes - 101) (stored_items bytes items ++ (key, body) ∷ []) []
+    → behind_head new ≡ contents (length bytes - HEADER_SIZE) (stored_items bytes items ++ (key, body) ∷ []) []
     → Steps new (low - length body) (held new started want chunk_tree (items + 1) children) (with_item (held bytes started want chunk_tree items children) key body)
 push_steps bytes new low started want chunk_tree items children key body holds leaf fits spelled order size filled =
     let draft : Draft = held bytes started want chunk_tree items children in
@@ -177,17 +161,17 @@ push_steps bytes new low started want chunk_tree items children key body holds l
     steps new (low - length body) (items + 1) children more
     (record {
       right = item_is_right draft key body holds.right leaf fits spelled order;
-      filled = filled ∙ ap (λ cs. contents (length bytes - 101) more.items cs) (sym none) ∙ ap (λ k. contents (k - 101) more.items draft.children) (sym size);
+      filled = filled ∙ ap (λ cs. contents (length bytes - HEADER_SIZE) more.items cs) (sym none) ∙ ap (λ k. contents (k - HEADER_SIZE) more.items draft.children) (sym size);
       placed = omega (arith, holds.placed, size, known.room_is, fits, ap length (data_of-append draft.items (key, body)), length-append body (data_of draft.items));
     })
     size (omega (arith, length-append draft.items ((key, body) ∷ []), length-stored_items bytes items)) (length-stored_children bytes children)
 
 -- a child more
 pub push_child_steps : (bytes new : List ℕ) (low : ℕ) (started : Bool) (want : Expect) (chunk_tree : List ℕ) (items children : ℕ) (child : Child)
-    → Holds bytes low (held bytes started want chunk_tree items children) → 1 ≤ want.level
-    → 33 ≤ room (held bytes started want chunk_tree items children)
+    → HoldsDraft bytes low (held bytes started want chunk_tree items children) → 1 ≤ want.level
+    → KEY_PTR_SIZE ≤ room (held bytes started want chunk_tree items children)
     → child_layout.fits child → Ascends (first_keys (stored_children bytes children) ++ child.key ∷ []) → length new ≡ length bytes
-    → behind_head new ≡ contents (length bytes - 101) [] (stored_children bytes children ++ child ∷ [])
+    → behind_head new ≡ contents (length bytes - HEADER_SIZE) [] (stored_children bytes children ++ child ∷ [])
     → Steps new low (held new started want chunk_tree items (children + 1)) (with_child (held bytes started want chunk_tree items children) child)
 push_child_steps bytes new low started want chunk_tree items children child holds inner fits spelled order size filled =
     let draft : Draft = held bytes started want chunk_tree items children in
@@ -196,14 +180,14 @@ push_child_steps bytes new low started want chunk_tree items children child hold
     steps new low items (children + 1) more
     (record {
       right = child_is_right draft child holds.right inner fits spelled order;
-      filled = filled ∙ ap (λ is. contents (length bytes - 101) is more.children) (sym none) ∙ ap (λ k. contents (k - 101) draft.items more.children) (sym size);
+      filled = filled ∙ ap (λ is. contents (length bytes - HEADER_SIZE) is more.children) (sym none) ∙ ap (λ k. contents (k - HEADER_SIZE) draft.items more.children) (sym size);
       placed = holds.placed ∙ sym size;
     })
     size (length-stored_items bytes items) (omega (arith, length-append draft.children (child ∷ []), length-stored_children bytes children))
 
 -- a head and a checksum, which change nothing behind them
 pub finish_steps : (bytes new : List ℕ) (low : ℕ) (started : Bool) (want : Expect) (chunk_tree : List ℕ) (items children : ℕ)
-    → Holds bytes low (held bytes started want chunk_tree items children)
+    → HoldsDraft bytes low (held bytes started want chunk_tree items children)
     → new ≡ node_bytes (held bytes started want chunk_tree items children)
     → Steps new low (held new started want chunk_tree items children) (held bytes started want chunk_tree items children)
 finish_steps bytes new low started want chunk_tree items children holds is =
@@ -212,19 +196,19 @@ finish_steps bytes new low started want chunk_tree items children holds is =
     steps new low items children draft
     (record {
       right = holds.right;
-      filled = ap behind_head is ∙ node_behind_head draft holds.right ∙ ap (λ k. contents (k - 101) draft.items draft.children) (sym size);
+      filled = ap behind_head is ∙ node_behind_head draft holds.right ∙ ap (λ k. contents (k - HEADER_SIZE) draft.items draft.children) (sym size);
       placed = holds.placed ∙ sym size;
     })
     size (length-stored_items bytes items) (length-stored_children bytes children)
 
-empty_contents : (n size : ℕ) → size ≡ n → behind_head (zeros n) ≡ contents (size - 101) [] []
+empty_contents : (n size : ℕ) → size ≡ n → behind_head (zeros n) ≡ contents (size - HEADER_SIZE) [] []
 unfolding contents
 empty_contents n size is =
-    let left : n - 101 ≡ size - 101 - 0 = omega arith in
-    drop-replicate {X = ℕ} 101 n 0 ∙ ap zeros left ∙ sym (append-nil (zeros (size - 101 - 0)))
+    let left : n - HEADER_SIZE ≡ size - HEADER_SIZE - 0 = omega arith in
+    drop-replicate {X = ℕ} HEADER_SIZE n 0 ∙ ap zeros left ∙ sym (append-nil (zeros (size - HEADER_SIZE - 0)))
 
 -- a buffer of zeros holds an empty draft
-pub start_steps : (bytes : List ℕ) (n low : ℕ) (started : Bool) (want : Expect) (chunk_tree : List ℕ) → bytes ≡ zeros n → IsNodeSize n → 101 + low ≡ n
+pub start_steps : (bytes : List ℕ) (n low : ℕ) (started : Bool) (want : Expect) (chunk_tree : List ℕ) → bytes ≡ zeros n → IsNodeSize n → HEADER_SIZE + low ≡ n
     → head_layout.fits (head_of (record { nodesize = n; started = started; want = want; chunk_tree = chunk_tree; items = []; children = [] }))
     → Steps bytes low (held bytes started want chunk_tree 0 0) (record { nodesize = n; started = started; want = want; chunk_tree = chunk_tree; items = []; children = [] })
 start_steps bytes n low started want chunk_tree is right placed fits =
@@ -258,13 +242,13 @@ head_spelled nodesize started want chunk_tree fsid address tree generation owner
 
 -- what stands in a buffer that was sealed
 pub sealed_is : (bytes new : List ℕ) (low : ℕ) (started : Bool) (want : Expect) (chunk_tree : List ℕ) (items children : ℕ)
-    → Holds bytes low (held bytes started want chunk_tree items children)
-    → new ≡ sealed want.sums (spelling head_layout (record (head_of (held bytes started want chunk_tree items children)) { count = items + children }) ++ drop 101 bytes)
+    → HoldsDraft bytes low (held bytes started want chunk_tree items children)
+    → new ≡ sealed want.sums (spelling head_layout (record (head_of (held bytes started want chunk_tree items children)) { count = items + children }) ++ drop HEADER_SIZE bytes)
     → new ≡ node_bytes (held bytes started want chunk_tree items children)
 unfolding node_bytes
 sealed_is bytes new low started want chunk_tree items children holds is =
     let draft : Draft = held bytes started want chunk_tree items children in
     let counted : items + children ≡ length draft.items + length draft.children = omega (arith, length-stored_items bytes items, length-stored_children bytes children) in
     is
-    ∙ ap (λ n. sealed want.sums (spelling head_layout (record (head_of draft) { count = n }) ++ drop 101 bytes)) counted
+    ∙ ap (λ n. sealed want.sums (spelling head_layout (record (head_of draft) { count = n }) ++ drop HEADER_SIZE bytes)) counted
     ∙ ap (λ z. sealed want.sums (spelling head_layout (head_of draft) ++ z)) holds.filled

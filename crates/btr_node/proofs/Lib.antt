@@ -4,6 +4,7 @@ pub mod Apart
 pub mod Ascending
 pub mod Breaks
 pub mod Holding
+pub mod Imports
 pub mod Inners
 pub mod Leaves
 pub mod NodeBack

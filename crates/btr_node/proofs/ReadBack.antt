@@ -1,19 +1,5 @@
 -- What the bytes of a node read as.
-use Rattle.std.proofs.Common.{◌≡◌, ◌≤◌, ◌<◌, ◌^◌, ℕ, suc, ◌+◌, ◌-◌, ◌*◌, List, [], ◌∷◌, ◌++◌, length, take, drop, map, slice_range, true, refl, sym, ap, ◌∙◌, arith, append_assoc, length-append}
-use Rattle.std.specs.List.{All, flat_map}
-use Rattle.std.proofs.lemmas.List.{append-nil, take_at, drop_at}
-use Rattle.std.proofs.lemmas.List.Elements.{All-nil, All-cons, All-head, All-tail}
-use Rattle.btr_keys.specs.Key.{key_layout}
-use Rattle.btr_keys.specs.Layout.{Layout, spelling}
-use Rattle.btr_keys.proofs.Layouts.{Reads}
-use Rattle.btr_node.specs.Areas.{descends, HasAreas}
-use Rattle.btr_node.specs.Draft.{bytes_of, room_in, heads_of, data_of, contents}
-use Rattle.btr_node.specs.Head.{behind_head}
-use Rattle.btr_node.specs.Inner.{child_layout}
-use Rattle.btr_node.specs.Leaf.{Item, item_layout, item_of}
-use Rattle.btr_node.specs.Records.{records_in}
-use Rattle.btr_node.specs.Writer.{stored_items, stored_children}
-use Rattle.btr_node.specs.declared.child.Child.{Child}
+use Rattle.btr_node.proofs.Imports.{◌≡◌, ◌≤◌, ◌<◌, ◌^◌, ℕ, suc, ◌+◌, ◌-◌, ◌*◌, List, [], ◌∷◌, ◌++◌, length, take, drop, map, slice_range, true, refl, sym, ap, ◌∙◌, arith, append_assoc, length-append, All, flat_map, append-nil, take_at, drop_at, All-nil, All-cons, All-head, All-tail, ITEM_SIZE, KEY_PTR_SIZE, key_layout, Layout, spelling, Reads, descends, HasAreas, draft_bytes, room_in, heads_of, data_of, contents, behind_head, child_layout, Item, item_layout, item_of, records_in, stored_items, stored_children, Child}
 use Rattle.btr_node.proofs.Apart.{descends-has_areas, areas_decide, within_test}
 use Rattle.btr_node.proofs.Putting.{zeros, length-zeros, length-heads_of, bytes_of-parts, head_below}
 use Rattle.btr_node.proofs.Rows.{joined}
@@ -67,25 +53,25 @@ heads_descend low end (item ∷ items) fits =
     joined _ _ (within_test low end (head_below end item) (omega (arith, long)) (omega (arith, long))) (heads_descend low (end - length item.1) items (omega (arith, long)))
 
 -- a node's contents have their size
-pub length-contents : (n : ℕ) (items : List Item) (children : List Child) → bytes_of items + 33 * length children ≤ n → length (contents n items children) ≡ n
+pub length-contents : (n : ℕ) (items : List Item) (children : List Child) → draft_bytes items + KEY_PTR_SIZE * length children ≤ n → length (contents n items children) ≡ n
 unfolding contents
 length-contents n items children fits =
     let heads : List ℕ = flat_map (spelling item_layout) (heads_of n items) in
     let links : List ℕ = flat_map (spelling child_layout) children in
     let room : ℕ = room_in n items children in
-    omega (arith, length-append heads (links ++ (zeros room ++ data_of items)), length-append links (zeros room ++ data_of items), length-append (zeros room) (data_of items), length-zeros room, length-records (spelling item_layout) 25 item_size (heads_of n items), length-heads_of n items, length-records (spelling child_layout) 33 child_size children, bytes_of-parts items)
+    omega (arith, length-append heads (links ++ (zeros room ++ data_of items)), length-append links (zeros room ++ data_of items), length-append (zeros room) (data_of items), length-zeros room, length-records (spelling item_layout) ITEM_SIZE item_size (heads_of n items), length-heads_of n items, length-records (spelling child_layout) KEY_PTR_SIZE child_size children, bytes_of-parts items)
 
-pub heads_back : (n : ℕ) (items : List Item) (children : List Child) → n < 2 ^ 32 → bytes_of items + 33 * length children ≤ n → All (λ item. key_layout.fits item.0) items
-    → records_in 25 item_layout (length items) (contents n items children) ≡ heads_of n items
+pub heads_back : (n : ℕ) (items : List Item) (children : List Child) → n < 2 ^ 32 → draft_bytes items + KEY_PTR_SIZE * length children ≤ n → All (λ item. key_layout.fits item.0) items
+    → records_in ITEM_SIZE item_layout (length items) (contents n items children) ≡ heads_of n items
 unfolding contents
 heads_back n items children small fits keys =
     let rest : List ℕ = flat_map (spelling child_layout) children ++ (zeros (room_in n items children) ++ data_of items) in
     let spelled : List ℕ = flat_map (spelling item_layout) (heads_of n items) ++ rest in
-    ap (λ k. records_in 25 item_layout k spelled) (sym (length-heads_of n items))
-    ∙ records_back item_layout 25 item_reads item_size (heads_of n items) rest (heads_fit n items small (omega (arith, bytes_of-parts items)) keys)
+    ap (λ k. records_in ITEM_SIZE item_layout k spelled) (sym (length-heads_of n items))
+    ∙ records_back item_layout ITEM_SIZE item_reads item_size (heads_of n items) rest (heads_fit n items small (omega (arith, bytes_of-parts items)) keys)
 
 pub items_back : (bytes : List ℕ) (n : ℕ) (items : List Item) (children : List Child) → behind_head bytes ≡ contents n items children → n < 2 ^ 32
-    → bytes_of items + 33 * length children ≤ n → All (λ item. key_layout.fits item.0) items → stored_items bytes (length items) ≡ items
+    → draft_bytes items + KEY_PTR_SIZE * length children ≤ n → All (λ item. key_layout.fits item.0) items → stored_items bytes (length items) ≡ items
 unfolding stored_items contents
 items_back bytes n items children is small fits keys =
     let heads : List ℕ = flat_map (spelling item_layout) (heads_of n items) in
@@ -98,7 +84,7 @@ items_back bytes n items children is small fits keys =
     ∙ ap (λ z. before ++ z) (sym (append-nil (data_of items))) in
     let placed : length before + length (data_of items) ≡ n =
     omega (arith, length-contents n items children fits, ap length whole, length-append before (data_of items ++ []), length-append (data_of items) []) in
-    ap (λ z. map (item_of z) (records_in 25 item_layout (length items) z)) is
+    ap (λ z. map (item_of z) (records_in ITEM_SIZE item_layout (length items) z)) is
     ∙ ap (map (item_of (contents n items children))) (heads_back n items children small fits keys)
     ∙ data_back n items (contents n items children) before [] whole placed
 
@@ -106,7 +92,7 @@ pub children_back : (bytes : List ℕ) (n : ℕ) (children : List Child) → beh
     → All child_layout.fits children → stored_children bytes (length children) ≡ children
 unfolding stored_children contents
 children_back bytes n children is fits =
-    ap (records_in 33 child_layout (length children)) is ∙ records_back child_layout 33 child_reads child_size children (zeros (room_in n [] children) ++ []) fits
+    ap (records_in KEY_PTR_SIZE child_layout (length children)) is ∙ records_back child_layout KEY_PTR_SIZE child_reads child_size children (zeros (room_in n [] children) ++ []) fits
 
 -- the data of items lies behind the heads and apart
 pub heads_have_areas : (low n : ℕ) (items : List Item) → low + length (data_of items) ≤ n → HasAreas low n (heads_of n items)

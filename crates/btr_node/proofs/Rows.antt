@@ -1,9 +1,5 @@
 -- Records of one width, one after the other.
-use Rattle.std.proofs.Common.{◌≡◌, ◌<◌, ◌≤◌, Bool, true, false, ◌&&◌, [], ℕ, zero, suc, ◌+◌, ◌*◌, List, ◌∷◌, length, drop, get_or, refl, ap, sym, ◌∙◌, arith}
-use Rattle.std.proofs.lemmas.List.{drop-drop, at_drop_all, at_drop_more}
-use Rattle.std.proofs.Math.Nat.{mul-suc, mul-zero}
-use Rattle.btr_keys.specs.Layout.{Layout}
-use Rattle.btr_node.specs.Records.{records_in}
+use Rattle.btr_node.proofs.Imports.{◌≡◌, ◌<◌, ◌≤◌, Bool, true, false, ◌&&◌, [], ℕ, zero, suc, ◌+◌, ◌*◌, List, ◌∷◌, length, drop, get_or, refl, ap, sym, ◌∙◌, arith, drop-drop, at_drop_all, at_drop_more, mul-suc, mul-zero, Layout, records_in}
 
 pub length-records_in : {R : Type 0} (width : ℕ) (layout : Layout R R) (n : ℕ) (bytes : List ℕ) → length (records_in width layout n bytes) ≡ n
 length-records_in width layout zero bytes = refl

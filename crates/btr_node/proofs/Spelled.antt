@@ -1,30 +1,12 @@
 -- The bytes of heads, items and children: how many they are, and that they read as what they spell.
-use Rattle.std.proofs.Common.{◌≡◌, ◌<◌, ◌^◌, ℕ, ◌*◌, List, [], ◌∷◌, length, refl, arith, length-append}
-use Rattle.std.proofs.Math.Nat.{mul-suc}
-use Rattle.std.specs.List.{flat_map}
-use Rattle.btr_keys.specs.Key.{key_layout}
-use Rattle.btr_keys.specs.declared.key.Key.{Key}
-use Rattle.btr_keys.specs.Layout.{spelling}
-use Rattle.btr_keys.proofs.Layouts.{Reads, start, ◌▹◌, array_reads, u8_reads, u32_reads, u64_reads, part_reads}
+use Rattle.btr_node.proofs.Imports.{◌≡◌, ◌<◌, ◌^◌, ℕ, ◌*◌, List, [], ◌∷◌, length, refl, arith, length-append, mul-suc, flat_map, ITEM_SIZE, KEY_PTR_SIZE, key_layout, Key, spelling, Reads, start, ◌▹◌, array_reads, u8_reads, u32_reads, u64_reads, part_reads, make_head, head_layout, make_child, child_layout, make_item_head, item_layout, Child, BtrItemHead}
 use Rattle.btr_keys.proofs.Records.{key_reads}
-use Rattle.csum_kinds.specs.declared.kind.SumKind.{SumKind}
-use Rattle.csum_kinds.specs.declared.kind.SumKind.TheVariants.{Crc32c}
-use Rattle.csum_kinds.specs.Kind.{kind_sum}
-use Rattle.btr_node.specs.Head.{make_head, head_layout}
-use Rattle.btr_node.specs.Inner.{make_child, child_layout}
-use Rattle.btr_node.specs.Leaf.{make_item_head, item_layout}
-use Rattle.btr_node.specs.declared.child.Child.{Child}
-use Rattle.btr_node.specs.declared.item.ItemHead.{ItemHead}
 
-pub length-kind_sum : (sums : SumKind) (bytes : List ℕ) → length (kind_sum sums bytes) ≡ 32
-unfolding kind_sum
-length-kind_sum Crc32c bytes = refl
-
-pub item_size : (head : ItemHead) → length (spelling item_layout head) ≡ 25
+pub item_size : (head : BtrItemHead) → length (spelling item_layout head) ≡ ITEM_SIZE
 unfolding item_layout key_layout
 item_size head = refl
 
-pub child_size : (child : Child) → length (spelling child_layout child) ≡ 33
+pub child_size : (child : Child) → length (spelling child_layout child) ≡ KEY_PTR_SIZE
 unfolding child_layout key_layout
 child_size child = refl
 

@@ -2,6 +2,8 @@
 -- items.
 use Rattle.std.specs.Prelude.{◌≡◌, ℕ, ◌+◌, ◌-◌, ◌*◌, ◌≤◌, Bool, true, false, List, [], ◌∷◌, ◌++◌, length, replicate, sum_by}
 use Rattle.std.specs.List.{All, flat_map}
+use Rattle.btrfs_format.specs.declared.flag.TheConstants.{HEADER_FLAG_WRITTEN, MIXED_BACKREF_REV}
+use Rattle.btrfs_format.specs.declared.size.TheConstants.{HEADER_SIZE, ITEM_SIZE, KEY_PTR_SIZE}
 use Rattle.btr_keys.specs.Key.{key_layout}
 use Rattle.btr_keys.specs.Layout.{spelling}
 use Rattle.csum_kinds.specs.declared.kind.SumKind.{SumKind}
@@ -14,7 +16,7 @@ use Rattle.btr_node.specs.Order.{Ascends}
 use Rattle.btr_node.specs.declared.child.Child.{Child}
 use Rattle.btr_node.specs.declared.expect.Expect.{Expect}
 use Rattle.btr_node.specs.declared.head.Head.{Head}
-use Rattle.btr_node.specs.declared.item.ItemHead.{ItemHead}
+use Rattle.btr_node.specs.declared.item.BtrItemHead.{BtrItemHead}
 
 pub record Draft : Type 0 where
   pub nodesize : ℕ
@@ -27,18 +29,18 @@ pub record Draft : Type 0 where
   pub children : List Child
 
 -- the bytes that items take, with their heads
-abbrev pub bytes_of : List Item → ℕ
-bytes_of items = sum_by (λ item. 25 + length item.1) items
+abbrev pub draft_bytes : List Item → ℕ
+draft_bytes items = sum_by (λ item. ITEM_SIZE + length item.1) items
 
 -- the bytes that are left behind the head of n bytes with these entries
 abbrev pub room_in : ℕ → List Item → List Child → ℕ
-room_in n items children = n - (bytes_of items + 33 * length children)
+room_in n items children = n - (draft_bytes items + KEY_PTR_SIZE * length children)
 
 abbrev pub room : Draft → ℕ
-room draft = room_in (draft.nodesize - 101) draft.items draft.children
+room draft = room_in (draft.nodesize - HEADER_SIZE) draft.items draft.children
 
 -- The heads of items: the data of the first ends at `end`, and that of each other one where the one before begins.
-abbrev pub heads_of : ℕ → List Item → List ItemHead
+abbrev pub heads_of : ℕ → List Item → List BtrItemHead
 heads_of end [] = []
 heads_of end (item ∷ items) =
     record { key = item.0; offset = end - length item.1; size = length item.1 } ∷ heads_of (end - length item.1) items
@@ -60,8 +62,8 @@ head_of draft =
     record {
       fsid = draft.want.fsid;
       address = draft.want.address;
-      flags = 1 ∷ replicate 6 0;
-      revision = 1;
+      flags = HEADER_FLAG_WRITTEN ∷ replicate 6 0;
+      revision = MIXED_BACKREF_REV;
       chunk_tree = draft.chunk_tree;
       generation = draft.want.generation;
       owner = draft.want.owner;
@@ -75,7 +77,7 @@ sealed sums bytes = kind_sum sums bytes ++ bytes
 
 -- the bytes of the node
 unfoldable pub node_bytes : Draft → List ℕ
-node_bytes draft = sealed draft.want.sums (spelling head_layout (head_of draft) ++ contents (draft.nodesize - 101) draft.items draft.children)
+node_bytes draft = sealed draft.want.sums (spelling head_layout (head_of draft) ++ contents (draft.nodesize - HEADER_SIZE) draft.items draft.children)
 
 -- nothing is started yet
 pub record IsBlank (nodesize : ℕ) (draft : Draft) : Type 0 where
@@ -92,7 +94,7 @@ started_for nodesize want chunk_tree =
 -- A node that can be written: what it holds fits and ascends, and its numbers have a spelling.
 pub record IsDraft (draft : Draft) : Type 0 where
   pub nodesize : IsNodeSize draft.nodesize
-  pub fits : 101 + bytes_of draft.items + 33 * length draft.children ≤ draft.nodesize
+  pub fits : HEADER_SIZE + draft_bytes draft.items + KEY_PTR_SIZE * length draft.children ≤ draft.nodesize
   pub head : head_layout.fits (head_of draft)
   pub keys : All (λ item. key_layout.fits item.0) draft.items
   pub links : All (λ child. child_layout.fits child) draft.children

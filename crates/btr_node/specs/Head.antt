@@ -1,6 +1,7 @@
 -- The head of a node, as the Btrfs on-disk format documentation has it (struct btrfs_header).
 use Rattle.std.specs.Prelude.{◌≡◌, ◌==◌, ◌&&◌, Bool, ℕ, List, drop}
 use Rattle.std.specs.Str.{bytes_eq}
+use Rattle.btrfs_format.specs.declared.size.TheConstants.{CSUM_SIZE, HEADER_SIZE}
 use Rattle.btr_keys.specs.Layout.{Layout, made_by, ◌▸◌, array, u8, u32, u64}
 use Rattle.csum_kinds.specs.declared.kind.SumKind.{SumKind}
 use Rattle.btr_node.specs.declared.expect.Expect.{Expect}
@@ -35,15 +36,15 @@ head_layout =
 
 -- the head stands behind the checksum
 abbrev pub head_in : List ℕ → Head
-head_in bytes = head_layout.read (drop 32 bytes)
+head_in bytes = head_layout.read (drop CSUM_SIZE bytes)
 
 -- how many items or children a node has
-abbrev pub count : List ℕ → ℕ
-count bytes = (head_in bytes).count
+abbrev pub nritems : List ℕ → ℕ
+nritems bytes = (head_in bytes).count
 
 -- What stands behind the head. The places of a leaf's data count from here.
 abbrev pub behind_head : List ℕ → List ℕ
-behind_head bytes = drop 101 bytes
+behind_head bytes = drop HEADER_SIZE bytes
 
 -- what a parent would say of a node with this head
 abbrev pub expected : SumKind → Head → Expect

@@ -2,7 +2,7 @@
 use Rattle.std.specs.Prelude.{◌≡◌, ℕ, ◌≤◌, Bool, true, false, List, [], ◌∷◌, ◌++◌}
 use Rattle.refusals.specs.declared.rule.BtrRule.{BtrRule}
 use Rattle.refusals.specs.declared.rule.BtrRule.TheVariants.{NodeCsum, NodeHead, NodeLayout, KeyOrder}
-use Rattle.btr_node.specs.Head.{count, HasHead}
+use Rattle.btr_node.specs.Head.{nritems, HasHead}
 use Rattle.btr_node.specs.Sum.{HasSum, has_sum}
 use Rattle.btr_node.specs.Order.{Ascends}
 use Rattle.btr_node.specs.Leaf.{HasLeafLayout, items_in, keys_of, has_leaf_head, has_leaf_layout, has_leaf_order}
@@ -19,7 +19,7 @@ LeafObeys _ want bytes = Unit {0}
 
 abbrev pub InnerObeys : BtrRule → Expect → List ℕ → Type 0
 InnerObeys NodeCsum want bytes = HasSum want.sums bytes
-InnerObeys NodeHead want bytes = (1 ≤ want.level) × (1 ≤ count bytes) × HasHead want bytes
+InnerObeys NodeHead want bytes = (1 ≤ want.level) × (1 ≤ nritems bytes) × HasHead want bytes
 InnerObeys NodeLayout want bytes = HasInnerLayout bytes
 InnerObeys KeyOrder want bytes = Ascends (first_keys (children_in bytes))
 InnerObeys _ want bytes = Unit {0}

@@ -1,12 +1,13 @@
 -- The checksum of a node: the first 32 bytes, over all bytes behind them.
 use Rattle.std.specs.Prelude.{◌≡◌, ℕ, Bool, List, take, drop}
 use Rattle.std.specs.Str.{bytes_eq}
+use Rattle.btrfs_format.specs.declared.size.TheConstants.{CSUM_SIZE}
 use Rattle.csum_kinds.specs.declared.kind.SumKind.{SumKind}
 use Rattle.csum_kinds.specs.Kind.{kind_sum}
 
 abbrev pub HasSum : SumKind → List ℕ → Type 0
-HasSum sums bytes = take 32 bytes ≡ kind_sum sums (drop 32 bytes)
+HasSum sums bytes = take CSUM_SIZE bytes ≡ kind_sum sums (drop CSUM_SIZE bytes)
 
 -- The same as a test.
 abbrev pub has_sum : SumKind → List ℕ → Bool
-has_sum sums bytes = bytes_eq (take 32 bytes) (kind_sum sums (drop 32 bytes))
+has_sum sums bytes = bytes_eq (take CSUM_SIZE bytes) (kind_sum sums (drop CSUM_SIZE bytes))

@@ -2,6 +2,7 @@ ghost use Rattle.std.specs.Prelude.{◌≡◌, ◌≤◌, ◌+◌, length, drop}
 ghost use Rattle.btr_node.specs.Inner.{child_layout};
 
 use btr_keys::Key;
+use btrfs_format::size::KEY_PTR_SIZE;
 use refusals::u64_at;
 
 /// A child of an inner node, 33 bytes, as the Btrfs on-disk format documentation has it.
@@ -17,18 +18,18 @@ pub struct Child {
 
 impl Child {
     /// The bytes of a child in its parent.
-    pub const SIZE: usize = 33;
+    pub const SIZE: usize = KEY_PTR_SIZE;
 
     /// The child in the 33 bytes from byte `at` on.
     pub fn at(bytes: &[u8], at: usize) -> Child
-        requires { at + 33 ≤ length bytes.now }
+        requires { at + KEY_PTR_SIZE ≤ length bytes.now }
         ensures { result ≡ child_layout.read (drop at bytes.now) }
     {
         Child::first(&bytes[at..])
     }
 
     fn first(bytes: &[u8]) -> Child
-        requires { 33 ≤ length bytes.now }
+        requires { KEY_PTR_SIZE ≤ length bytes.now }
         ensures { result ≡ child_layout.read bytes.now }
     {
         Child {

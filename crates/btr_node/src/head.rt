@@ -3,12 +3,9 @@ ghost use Rattle.btr_keys.specs.Layout.{spelling};
 ghost use Rattle.btr_node.specs.Head.{head_layout, head_in, behind_head, expected, has_head};
 
 use crate::expect::Expect;
-use crate::sum::SUM_SIZE;
+use btrfs_format::size::{CSUM_SIZE, HEADER_REST_SIZE, HEADER_SIZE};
 use csum_kinds::SumKind;
 use refusals::{Field, put_fields, u32_at, u64_at};
-
-/// The bytes of a node's checksum and head.
-pub const HEAD_SIZE: usize = 101;
 
 /// The head of a node behind its checksum, 69 bytes, as the Btrfs on-disk format documentation has it.
 #[derive(Clone, Copy, Debug, PartialEq, Eq)]
@@ -36,14 +33,14 @@ pub struct Head {
 impl Head {
     /// The head of the node with these bytes.
     pub fn of(bytes: &[u8]) -> Head
-        requires { 101 ≤ length bytes.now }
+        requires { HEADER_SIZE ≤ length bytes.now }
         ensures { result ≡ head_in bytes.now }
     {
-        Head::first(&bytes[SUM_SIZE..])
+        Head::first(&bytes[CSUM_SIZE..])
     }
 
     fn first(bytes: &[u8]) -> Head
-        requires { 69 ≤ length bytes.now }
+        requires { HEADER_REST_SIZE ≤ length bytes.now }
         ensures { result ≡ head_layout.read bytes.now }
     {
         let mut fsid = [0; 16];
@@ -68,7 +65,7 @@ impl Head {
     /// Writes the head into 69 bytes.
     #[tactic(auto, unfolding(crate::specs::Head::head_layout))]
     pub fn write(&self, into: &mut [u8])
-        requires { length into.old ≡ 69 }
+        requires { length into.old ≡ HEADER_REST_SIZE }
         ensures { into.new ≡ spelling head_layout self.now }
     {
         put_fields(
@@ -104,7 +101,7 @@ impl Head {
 
 /// Whether the head of a node says what its parent says.
 pub fn has_head(bytes: &[u8], want: &Expect) -> bool
-    requires { 101 ≤ length bytes.now }
+    requires { HEADER_SIZE ≤ length bytes.now }
     ensures { result ≡ has_head want.now bytes.now }
 {
     Head::of(bytes).expected(want.sums) == *want
@@ -112,8 +109,8 @@ pub fn has_head(bytes: &[u8], want: &Expect) -> bool
 
 /// What stands behind the head of a node.
 pub fn behind_head(bytes: &[u8]) -> &[u8]
-    requires { 101 ≤ length bytes.now }
+    requires { HEADER_SIZE ≤ length bytes.now }
     ensures { result.now ≡ behind_head bytes.now }
 {
-    &bytes[HEAD_SIZE..]
+    &bytes[HEADER_SIZE..]
 }

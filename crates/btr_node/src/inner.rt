@@ -1,14 +1,15 @@
 ghost use Rattle.std.specs.Prelude.{◌≡◌, ◌<◌, ◌↔◌, [], length, IsOk, IfOk, IfErr, MatchResult, Contains, slice_index_or};
 ghost use Rattle.btr_node.specs.NodeSize.{IsNodeSize};
-ghost use Rattle.btr_node.specs.Head.{count};
-ghost use Rattle.btr_node.specs.Inner.{IsInner, HasInnerLayout, children_in, child_at, has_inner_head, has_inner_layout, has_inner_order};
+ghost use Rattle.btr_node.specs.Head.{nritems};
+ghost use Rattle.btr_node.specs.Inner.{IsBtrfsInner, HasInnerLayout, children_in, child_at, has_inner_head, has_inner_layout, has_inner_order};
 ghost use Rattle.btr_node.specs.Rules.{InnerObeys, inner_damages};
 
 use crate::child::Child;
 use crate::expect::Expect;
-use crate::head::{HEAD_SIZE, Head, behind_head, has_head};
+use crate::head::{Head, behind_head, has_head};
 use crate::order::keys_ascend;
 use crate::sum::has_sum;
+use btrfs_format::size::HEADER_SIZE;
 use refusals::BtrRule;
 use std::marker::Model;
 
@@ -39,7 +40,7 @@ impl<'a> InnerView<'a> {
     /// [`BtrRule::KeyOrder`].
     pub fn read(bytes: &'a [u8], want: &Expect) -> Result<InnerView<'a>, BtrRule>
         requires { IsNodeSize (length bytes.now) }
-        ensures grammar { IsOk result ↔ IsInner want.now bytes.now }
+        ensures grammar { IsOk result ↔ IsBtrfsInner want.now bytes.now }
         ensures children { IfOk result (λ node. node ≡ children_in bytes.now) }
         ensures fails { IfErr result (λ rule. ¬ InnerObeys rule want.now bytes.now) }
         ensures damages { MatchResult result (λ _. inner_damages want.now bytes.now ≡ []) (λ rule. Contains (inner_damages want.now bytes.now) rule) }
@@ -78,7 +79,7 @@ impl<'a> InnerView<'a> {
 /// Child i of an inner node.
 fn child_at(bytes: &[u8], i: usize) -> Child
     requires layout { HasInnerLayout bytes.now }
-    requires within { i < count bytes.now }
+    requires within { i < nritems bytes.now }
     ensures { result ≡ child_at bytes.now i }
 {
     Child::at(behind_head(bytes), Child::SIZE * i)
@@ -97,7 +98,7 @@ fn has_layout(bytes: &[u8]) -> bool
     requires { IsNodeSize (length bytes.now) }
     ensures { result ≡ has_inner_layout bytes.now }
 {
-    HEAD_SIZE + Child::SIZE * Head::of(bytes).count as usize <= bytes.len()
+    HEADER_SIZE + Child::SIZE * Head::of(bytes).count as usize <= bytes.len()
 }
 
 /// Whether the first keys of the children ascend.

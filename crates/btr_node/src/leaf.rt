@@ -1,16 +1,17 @@
 ghost use Rattle.std.specs.Prelude.{◌≡◌, ◌<◌, ◌↔◌, ◌≤◌, ◌*◌, [], length, IsOk, IfOk, IfErr, MatchResult, Contains, slice_index_or};
 ghost use Rattle.btr_node.specs.NodeSize.{IsNodeSize};
-ghost use Rattle.btr_node.specs.Head.{count, behind_head};
-ghost use Rattle.btr_node.specs.Leaf.{IsLeaf, Item, HasLeafLayout, items_in, item_of, head_at, has_leaf_head, has_leaf_layout, has_leaf_order};
+ghost use Rattle.btr_node.specs.Head.{nritems, behind_head};
+ghost use Rattle.btr_node.specs.Leaf.{IsBtrfsLeaf, Item, HasLeafLayout, items_in, item_of, head_at, has_leaf_head, has_leaf_layout, has_leaf_order};
 ghost use Rattle.btr_node.specs.Rules.{LeafObeys, leaf_damages};
 
 use crate::areas::has_areas;
 use crate::expect::Expect;
-use crate::head::{HEAD_SIZE, Head, behind_head, has_head};
-use crate::item::ItemHead;
+use crate::head::{Head, behind_head, has_head};
+use crate::item::BtrItemHead;
 use crate::order::keys_ascend;
 use crate::sum::has_sum;
 use btr_keys::Key;
+use btrfs_format::size::HEADER_SIZE;
 use refusals::BtrRule;
 use std::marker::Model;
 
@@ -38,7 +39,7 @@ impl<'a> LeafView<'a> {
     /// generation), [`BtrRule::NodeLayout`] (the heads and the data) and [`BtrRule::KeyOrder`]. A leaf may be empty.
     pub fn read(bytes: &'a [u8], want: &Expect) -> Result<LeafView<'a>, BtrRule>
         requires { IsNodeSize (length bytes.now) }
-        ensures grammar { IsOk result ↔ IsLeaf want.now bytes.now }
+        ensures grammar { IsOk result ↔ IsBtrfsLeaf want.now bytes.now }
         ensures items { IfOk result (λ leaf. leaf ≡ items_in bytes.now) }
         ensures fails { IfErr result (λ rule. ¬ LeafObeys rule want.now bytes.now) }
         ensures damages { MatchResult result (λ _. leaf_damages want.now bytes.now ≡ []) (λ rule. Contains (leaf_damages want.now bytes.now) rule) }
@@ -91,18 +92,18 @@ impl<'a> LeafView<'a> {
 }
 
 /// The head of item i of a leaf.
-fn head_at(bytes: &[u8], i: usize) -> ItemHead
+fn head_at(bytes: &[u8], i: usize) -> BtrItemHead
     requires layout { HasLeafLayout bytes.now }
-    requires within { i < count bytes.now }
+    requires within { i < nritems bytes.now }
     ensures { result ≡ head_at bytes.now i }
 {
-    ItemHead::at(behind_head(bytes), ItemHead::SIZE * i)
+    BtrItemHead::at(behind_head(bytes), BtrItemHead::SIZE * i)
 }
 
 /// The data of item i of a leaf.
 fn data_at(bytes: &[u8], i: usize) -> &[u8]
     requires layout { HasLeafLayout bytes.now }
-    requires within { i < count bytes.now }
+    requires within { i < nritems bytes.now }
     ensures { result.now ≡ (item_of (behind_head bytes.now) (head_at bytes.now i)).1 }
 {
     let head = head_at(bytes, i);
@@ -124,7 +125,7 @@ fn has_layout(bytes: &[u8]) -> bool
     ensures { result ≡ has_leaf_layout bytes.now }
 {
     let count = Head::of(bytes).count as usize;
-    HEAD_SIZE + ItemHead::SIZE * count <= bytes.len() && has_areas(behind_head(bytes), count)
+    HEADER_SIZE + BtrItemHead::SIZE * count <= bytes.len() && has_areas(behind_head(bytes), count)
 }
 
 /// Whether the keys of the items ascend.
@@ -133,5 +134,5 @@ fn has_order(bytes: &[u8]) -> bool
     ensures { result ≡ has_leaf_order bytes.now }
 {
     let count = Head::of(bytes).count as usize;
-    keys_ascend(behind_head(bytes), count, ItemHead::SIZE)
+    keys_ascend(behind_head(bytes), count, BtrItemHead::SIZE)
 }

@@ -28,7 +28,7 @@ pub use csum_kinds::{SumKind, data_ref_hash, kind_sum, kind_width, name_hash};
 pub use expect::Expect;
 pub use head::Head;
 pub use inner::InnerView;
-pub use item::ItemHead;
+pub use item::BtrItemHead;
 pub use laws::{
     damages_tell, inner_nodes_read_back, joined_ascend, leaves_read_back, parts_ascend,
 };

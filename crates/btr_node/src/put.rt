@@ -6,17 +6,17 @@ ghost use Rattle.btr_node.specs.Leaf.{Item};
 ghost use Rattle.btr_node.specs.declared.child.Child.{Child as ChildOf};
 
 use crate::child::Child;
-use crate::head::{HEAD_SIZE, Head};
-use crate::item::ItemHead;
-use crate::sum::SUM_SIZE;
+use crate::head::Head;
+use crate::item::BtrItemHead;
 use btr_keys::Key;
+use btrfs_format::size::{CSUM_SIZE, HEADER_SIZE, ITEM_SIZE, KEY_PTR_SIZE};
 use csum_kinds::{SumKind, kind_sum};
 use refusals::{Field, put_fields};
 
 /// Puts an item behind the `count` items that a leaf has. `behind` is what stands behind the leaf's head, and the data
 /// of the leaf begins at byte `low` of it.
 pub fn put_item(behind: &mut [u8], count: usize, low: usize, key: Key, body: &[u8])
-    requires heads { 25 * count + 25 + length body.now ≤ low }
+    requires heads { ITEM_SIZE * count + ITEM_SIZE + length body.now ≤ low }
     requires within { low ≤ length behind.old }
     requires small { length behind.old ≤ 65536 }
     ensures { (items : List Item) → length items ≡ count → low + length (data_of items) ≡ length behind.old
@@ -25,9 +25,9 @@ pub fn put_item(behind: &mut [u8], count: usize, low: usize, key: Key, body: &[u
 {
     let begin = low - body.len();
     behind[begin..low].copy_from_slice(body);
-    let at = ItemHead::SIZE * count;
+    let at = BtrItemHead::SIZE * count;
     put_fields(
-        &mut behind[at..at + ItemHead::SIZE],
+        &mut behind[at..at + BtrItemHead::SIZE],
         &[
             Field::Bytes(&key.to_bytes()),
             Field::U32(begin as u32),
@@ -38,7 +38,7 @@ pub fn put_item(behind: &mut [u8], count: usize, low: usize, key: Key, body: &[u
 
 /// Puts a child behind the `count` children that an inner node has. `behind` is what stands behind the node's head.
 pub fn put_child(behind: &mut [u8], count: usize, child: &Child)
-    requires { 33 * count + 33 ≤ length behind.old }
+    requires { KEY_PTR_SIZE * count + KEY_PTR_SIZE ≤ length behind.old }
     ensures { (children : List ChildOf) → length children ≡ count
         → behind.old ≡ contents (length behind.old) [] children
         → behind.new ≡ contents (length behind.old) [] (children ++ child.now ∷ []) }
@@ -56,10 +56,10 @@ pub fn put_child(behind: &mut [u8], count: usize, child: &Child)
 
 /// Writes the head of a node, and its checksum before it.
 pub fn put_head(bytes: &mut [u8], head: &Head, sums: SumKind)
-    requires { 101 ≤ length bytes.old }
-    ensures { bytes.new ≡ sealed sums (spelling head_layout head.now ++ drop 101 bytes.old) }
+    requires { HEADER_SIZE ≤ length bytes.old }
+    ensures { bytes.new ≡ sealed sums (spelling head_layout head.now ++ drop HEADER_SIZE bytes.old) }
 {
-    head.write(&mut bytes[SUM_SIZE..HEAD_SIZE]);
-    let sum = kind_sum(sums, &bytes[SUM_SIZE..]);
-    bytes[..SUM_SIZE].copy_from_slice(&sum);
+    head.write(&mut bytes[CSUM_SIZE..HEADER_SIZE]);
+    let sum = kind_sum(sums, &bytes[CSUM_SIZE..]);
+    bytes[..CSUM_SIZE].copy_from_slice(&sum);
 }

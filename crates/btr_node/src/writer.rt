@@ -2,8 +2,8 @@ ghost use Rattle.std.specs.Prelude.{◌≡◌, ◌≤◌, ◌<◌, ◌+◌, ◌�
 ghost use Rattle.std.specs.Borrow.{sem};
 ghost use Rattle.std.specs.Io.BufRead.{Rests};
 ghost use Rattle.btr_node.specs.Draft.{room, node_bytes, IsBlank, started_for};
-ghost use Rattle.btr_node.specs.Inner.{IsInner, first_keys, children_in};
-ghost use Rattle.btr_node.specs.Leaf.{IsLeaf, keys_of, items_in};
+ghost use Rattle.btr_node.specs.Inner.{IsBtrfsInner, first_keys, children_in};
+ghost use Rattle.btr_node.specs.Leaf.{IsBtrfsLeaf, keys_of, items_in};
 ghost use Rattle.btr_node.specs.NodeSize.{IsNodeSize};
 ghost use Rattle.btr_node.specs.Order.{Ascends};
 ghost use Rattle.btr_node.specs.contracts.writer.NodeWriter.{the_row};
@@ -11,9 +11,11 @@ ghost use Rattle.btr_node.specs.contracts.writer.NodeWriter.{the_row};
 use crate::buffer::{add_child, add_item, clear, seal, zeroed};
 use crate::child::Child;
 use crate::expect::Expect;
-use crate::head::{HEAD_SIZE, Head};
-use crate::item::ItemHead;
+use crate::head::Head;
+use crate::item::BtrItemHead;
 use btr_keys::Key;
+use btrfs_format::flag::MIXED_BACKREF_REV;
+use btrfs_format::size::{HEADER_SIZE, ITEM_SIZE, KEY_PTR_SIZE};
 use csum_kinds::SumKind;
 use refusals::Memory;
 use std::alloc::Global;
@@ -39,13 +41,13 @@ pub struct NodeWriter {
 
 impl Model for NodeWriter {
     ghost use Rattle.btr_node.specs.Draft.{Draft};
-    ghost use Rattle.btr_node.specs.Writer.{held, Holds};
+    ghost use Rattle.btr_node.specs.Writer.{held, HoldsDraft};
 
     ghost Value = { Draft };
 
     ghost view = { λ a. held a.buffer.items a.started a.want a.chunk_tree a.items a.children };
 
-    ghost invariant = { λ a. Holds a.buffer.items a.low (held a.buffer.items a.started a.want a.chunk_tree a.items a.children) };
+    ghost invariant = { λ a. HoldsDraft a.buffer.items a.low (held a.buffer.items a.started a.want a.chunk_tree a.items a.children) };
 }
 
 impl NodeWriter {
@@ -68,7 +70,7 @@ impl NodeWriter {
             chunk_tree: [0; 16],
             items: 0,
             children: 0,
-            low: nodesize as usize - HEAD_SIZE,
+            low: nodesize as usize - HEADER_SIZE,
         })
     }
 
@@ -88,14 +90,14 @@ impl NodeWriter {
         self.chunk_tree = chunk_tree;
         self.items = 0;
         self.children = 0;
-        self.low = self.buffer.len() - HEAD_SIZE;
+        self.low = self.buffer.len() - HEADER_SIZE;
     }
 
     /// How many bytes are left for items with their heads of 25 bytes, or for children of 33 bytes.
     pub fn room(&self) -> usize
         ensures { result ≡ room self.now }
     {
-        self.low - ItemHead::SIZE * self.items - Child::SIZE * self.children
+        self.low - BtrItemHead::SIZE * self.items - Child::SIZE * self.children
     }
 
     /// Adds an item to a leaf, behind those that it has. Full comes exactly where the room is below 25 bytes and the
@@ -104,11 +106,11 @@ impl NodeWriter {
         requires started { IsTrue self.old.started }
         requires leaf { self.old.want.level ≡ 0 }
         requires order { Ascends (keys_of self.old.items ++ key ∷ []) }
-        ensures full { IsErr result ↔ (room self.old < 25 + length body.now) }
+        ensures full { IsErr result ↔ (room self.old < ITEM_SIZE + length body.now) }
         ensures ok { OnOk result (self.new ≡ record self.old { items = self.old.items ++ (key, body.now) ∷ [] }) }
         ensures err { OnErr result (self.new ≡ self.old) }
     {
-        if self.room() < ItemHead::SIZE + body.len() {
+        if self.room() < BtrItemHead::SIZE + body.len() {
             return Err(Full);
         }
         add_item(&mut self.buffer, self.items, self.low, key, body);
@@ -123,7 +125,7 @@ impl NodeWriter {
         requires started { IsTrue self.old.started }
         requires inner { 1 ≤ self.old.want.level }
         requires order { Ascends (first_keys self.old.children ++ child.key ∷ []) }
-        ensures full { IsErr result ↔ (room self.old < 33) }
+        ensures full { IsErr result ↔ (room self.old < KEY_PTR_SIZE) }
         ensures ok { OnOk result (self.new ≡ record self.old { children = self.old.children ++ child ∷ [] }) }
         ensures err { OnErr result (self.new ≡ self.old) }
     {
@@ -141,9 +143,9 @@ impl NodeWriter {
         requires children { 1 ≤ self.old.want.level → 1 ≤ length self.old.children }
         ensures bytes { result.now ≡ node_bytes self.old }
         ensures size { length result.now ≡ self.old.nodesize }
-        ensures leaf { self.old.want.level ≡ 0 → IsLeaf self.old.want result.now }
+        ensures leaf { self.old.want.level ≡ 0 → IsBtrfsLeaf self.old.want result.now }
         ensures items { self.old.want.level ≡ 0 → items_in result.now ≡ self.old.items }
-        ensures inner { 1 ≤ self.old.want.level → IsInner self.old.want result.now }
+        ensures inner { 1 ≤ self.old.want.level → IsBtrfsInner self.old.want result.now }
         ensures links { 1 ≤ self.old.want.level → children_in result.now ≡ self.old.children }
         ensures* after { sem 𝓛 (Rests the_row self.entry (λ new. new ≡ self.old)) }
     {
@@ -151,7 +153,7 @@ impl NodeWriter {
             fsid: self.want.fsid,
             address: self.want.address,
             flags: [1, 0, 0, 0, 0, 0, 0],
-            revision: 1,
+            revision: MIXED_BACKREF_REV,
             chunk_tree: self.chunk_tree,
             generation: self.want.generation,
             owner: self.want.owner,

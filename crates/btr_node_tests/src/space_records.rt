@@ -5,6 +5,7 @@ use btr_space_items::{
     BlockGroup, Chunk, DevExtent, Device, ExtentHead, InlineRef, InlineRefs, RootItem, RootRef,
     Stripe,
 };
+use btrfs_format::object::{CHUNK_TREE, FIRST_CHUNK_TREE_OBJECTID};
 use std::test::Fail;
 
 /// The root item of a subvolume.
@@ -232,7 +233,7 @@ fn metadata_extent(rt: HostRuntime) -> Result<(), Fail> {
 fn block_group(rt: HostRuntime) {
     let wanted = BlockGroup {
         used: 3698688,
-        chunk_objectid: 256,
+        chunk_objectid: FIRST_CHUNK_TREE_OBJECTID,
         flags: 1,
     };
     assert_eq!(rt; BlockGroup::read(&BLOCK_GROUP), Some(wanted));
@@ -264,8 +265,8 @@ fn device(rt: HostRuntime) {
     assert_eq!(rt; Device::read(&DEVICE), Some(wanted));
     assert_eq!(rt; wanted.to_bytes(), DEVICE);
     let extent = DevExtent {
-        chunk_tree: 3,
-        chunk_objectid: 256,
+        chunk_tree: CHUNK_TREE,
+        chunk_objectid: FIRST_CHUNK_TREE_OBJECTID,
         chunk_offset: 13631488,
         length: 8388608,
         chunk_tree_uuid: [

@@ -105,6 +105,27 @@ fn reads(rt: HostRuntime) -> Result<(), Fail> {
     Ok(())
 }
 
+/// `btrfstune -M` gives the volume another identifier, and keeps that of the nodes behind it.
+#[test]
+fn nodes_keep_their_identifier(rt: HostRuntime) -> Result<(), Fail> {
+    let plain = superblock();
+    let found = Super::read(&plain, 16, BLOCKS).ok().ok_or("a superblock")?;
+    assert_eq!(rt; found.node_fsid(), found.fsid);
+    let renamed = Super {
+        fsid: [0x5a; 16],
+        incompat: found.incompat | 0x400,
+        metadata_uuid: found.fsid,
+        ..found
+    };
+    let mut block = Block::zero();
+    renamed.encode(&mut block);
+    assert_eq!(rt; &block.bytes[571..587], found.fsid.as_slice());
+    let again = Super::read(&block, 16, BLOCKS).ok().ok_or("a superblock")?;
+    assert_eq!(rt; again.node_fsid(), found.fsid);
+    assert_eq!(rt; again.fsid, [0x5a; 16]);
+    Ok(())
+}
+
 #[test]
 fn writes(rt: HostRuntime) -> Result<(), Fail> {
     let block = superblock();

@@ -1,19 +1,5 @@
 -- Chunks that are added to a map.
-use Rattle.std.proofs.Common.{◌≡◌, ℕ, ◌+◌, ◌<◌, true, false, List, [], ◌∷◌, ◌++◌, length, drop, get_or, Option, Some, None, if◌then◌else◌, refl, sym, ◌∙◌, ap, subst, append_assoc}
-use Rattle.std.specs.List.{list_any}
-use Rattle.std.specs.Option.{option_map}
-use Rattle.std.proofs.lemmas.List.{drop_more}
-use Rattle.btr_reader_walk.specs.refusals.declared.answer.BtrAnswer.{BtrAnswer}
-use Rattle.btr_reader_walk.specs.refusals.declared.refusal.BtrRefusal.{BtrRefusal}
-use Rattle.btr_reader_walk.specs.btr_keys.declared.key.Key.{Key}
-use Rattle.btr_space_items.specs.Chunk.{chunk_of}
-use Rattle.btr_space_items.specs.declared.chunk.Chunk.{Chunk}
-use Rattle.btr_reader_walk.specs.declared.map.MapRange.{MapRange}
-use Rattle.btr_reader_walk.specs.Events.{TreeItem}
-use Rattle.btr_reader_walk.proofs.Events.{none_both}
-use Rattle.btr_reader.specs.declared.chunk.ChunkAt.{ChunkAt}
-use Rattle.btr_reader.specs.Chunks.{range_of, same_chunk, is_chunk_key, beside_refusals, chunks_refusals, chunk_in, new_chunk, with_chunk, chunk_item_refusals, with_items, items_refusals}
-use Rattle.btr_reader.specs.Opening.{IsAmong}
+use Rattle.btr_reader.proofs.Imports.{◌≡◌, ℕ, ◌+◌, ◌<◌, true, false, List, [], ◌∷◌, ◌++◌, length, drop, get_or, Option, Some, None, if◌then◌else◌, refl, sym, ◌∙◌, ap, subst, append_assoc, list_any, option_map, drop_more, BtrAnswer, BtrRefusal, Key, MapRange, TreeItem, none_both, ChunkAt, placed_chunk, range_of, same_chunk, is_chunk_key, beside_refusals, chunks_refusals, chunk_in, new_chunk, with_chunk, chunk_item_refusals, with_items, items_refusals, IsAmong}
 use Rattle.btr_reader.proofs.Among.{among_left, among_right}
 
 -- the next chunk of those that are left is refused
@@ -25,14 +11,11 @@ next_refused device ranges chunks i d all e lt rest bad =
     (among_left (beside_refusals device ranges c) (chunks_refusals device (ranges ++ range_of c ∷ []) (drop (i + 1) chunks)) e bad)
 
 -- a chunk of the chunk tree that the array has not
-pub chunk_is_new : (boot : List ChunkAt) (key : Key) (body : List ℕ) (chunk : Chunk) → is_chunk_key key ≡ true → chunk_of body ≡ Some chunk
-    → list_any (same_chunk (record { logical = key.offset; chunk = chunk })) boot ≡ false
-    → chunk_in boot key body ≡ Some (Some (record { logical = key.offset; chunk = chunk }))
-chunk_is_new boot key body chunk named read fresh =
-    let c : ChunkAt = record { logical = key.offset; chunk = chunk } in
-    ap (λ t. if t then option_map (λ x. new_chunk boot (record { logical = key.offset; chunk = x })) (chunk_of body) else Some None) named
-    ∙ (ap (λ (o : Option Chunk). option_map (λ x. new_chunk boot (record { logical = key.offset; chunk = x })) o) read
-    ∙ ap (λ t. Some (if t then None else Some c)) fresh)
+pub chunk_is_new : (boot : List ChunkAt) (key : Key) (body : List ℕ) (c : ChunkAt) → is_chunk_key key ≡ true → placed_chunk key.offset body ≡ Some c → list_any (same_chunk c) boot ≡ false
+    → chunk_in boot key body ≡ Some (Some c)
+chunk_is_new boot key body c named read fresh =
+    ap (λ t. if t then option_map (new_chunk boot) (placed_chunk key.offset body) else Some None) named
+    ∙ (ap (option_map (new_chunk boot)) read ∙ ap (λ t. Some (if t then None else Some c)) fresh)
 
 pub with_items-append : (boot : List ChunkAt) (ranges : List MapRange) (xs ys : List TreeItem) → with_items boot ranges (xs ++ ys) ≡ with_items boot (with_items boot ranges xs) ys
 with_items-append boot ranges [] ys = refl

@@ -1,11 +1,6 @@
 -- Refusals as members of lists, and what a walk has given.
-use Rattle.std.proofs.Common.{◌≡◌, ◌≤◌, ℕ, Result, Err, List, [], ◌∷◌, ◌++◌, sym, ◌∙◌, ap, subst, arith}
-use Rattle.std.proofs.lemmas.List.Elements.{Contains-append_left, Contains-append_right}
+use Rattle.btr_reader.proofs.Imports.{◌≡◌, ◌≤◌, ℕ, Result, Err, List, [], ◌∷◌, ◌++◌, sym, ◌∙◌, ap, subst, arith, Contains-append_left, Contains-append_right, BtrAnswer, Refused, Fault, Memory, BtrRefusal, IsAmong, or_later}
 use Rattle.btr_reader_walk.specs.outside.Fault.{HasCauseOf, Rose}
-use Rattle.btr_reader_walk.specs.refusals.declared.answer.BtrAnswer.{BtrAnswer}
-use Rattle.btr_reader_walk.specs.refusals.declared.answer.BtrAnswer.TheVariants.{Refused, Fault, Memory}
-use Rattle.btr_reader_walk.specs.refusals.declared.refusal.BtrRefusal.{BtrRefusal}
-use Rattle.btr_reader.specs.Opening.{IsAmong, or_later}
 
 pub among_left : (xs ys : List BtrRefusal) (e : BtrAnswer) → IsAmong xs e → IsAmong (xs ++ ys) e
 among_left xs ys (Refused r) h = Contains-append_left xs ys r h

@@ -1,34 +1,8 @@
 -- What is answered where the rows of a volume are read.
-use Rattle.std.proofs.Common.{◌≡◌, inl, inr, ℕ, Bool, List, [], map, Contains, Option, Some, None, ◌∙◌, ap, subst}
-use Rattle.std.specs.Prelude.{Result, Ok, Err, IfOk, OnOk, IfErr}
-use Rattle.std.specs.Result.{MatchResult}
-use Rattle.btr_reader_walk.specs.outside.History.{Image}
-use Rattle.btr_reader_walk.specs.refusals.declared.answer.BtrAnswer.{BtrAnswer}
-use Rattle.btr_reader_walk.specs.refusals.declared.answer.BtrAnswer.TheVariants.{Refused, Fault, Memory}
-use Rattle.btr_reader_walk.specs.refusals.declared.refusal.BtrRefusal.{BtrRefusal}
-use Rattle.btr_super.specs.declared.superblock.Super.{Super}
-use Rattle.btr_reader_walk.specs.declared.map.MapRange.{MapRange}
-use Rattle.btr_reader_walk.specs.declared.tree.Pointer.{Pointer}
-use Rattle.btr_reader_walk.specs.declared.tree.Tree.{Tree}
-use Rattle.btr_reader_walk.specs.Events.{TreeItem}
-use Rattle.btr_reader_walk.specs.Walks.{found, wrong}
-use Rattle.fs_rows.specs.Rows.{WholeRow, row_of}
-use Rattle.fs_rows.specs.declared.row.Row.{Row}
-use Rattle.fs_paths.specs.declared.node.NodeId.{NodeId}
+use Rattle.btr_reader.proofs.Imports.{◌≡◌, inl, inr, ℕ, Bool, List, [], map, Contains, Option, Some, None, ◌∙◌, ap, subst, OnOk, MatchResult, FS_TREE, Image, BtrAnswer, Refused, Fault, Memory, BtrRefusal, Super, MapRange, NodePointer, Tree, TreeItem, found, wrong, WholeRow, row_of, Row, NodeId, has_root, BreaksNames, KeepsNames, NameTable, AreNamed, links_of, AreTreeLinks, AreSound, wanted_at, RefusesContents, IsChecked, IsMemory, RefusesChecked, RefusesRows, RefusesTree, tree_of, FindsTree, root_item, pointer_of, AreRows, AreBtrfsRows, BreaksExtents, CanBeRead, roots_on, IsFileTreeRefusal, no_root_item, bad_root_item, bad_tree, bad_names, bad_extents}
+use Rattle.std.specs.Prelude.{Result, Ok, Err, IfOk, IfErr}
 use Rattle.btr_reader_names.specs.Read.{BlamesTree}
-use Rattle.btr_reader_names.specs.Roots.{has_root}
-use Rattle.btr_reader_names.specs.Rules.{BreaksNames, KeepsNames}
-use Rattle.btr_reader_names.specs.declared.table.Names.{Names}
 use Rattle.btr_reader_names.specs.Refuses.{RefusesNames}
-use Rattle.btr_reader_names.specs.Steps.{AreNamed, links_of}
-use Rattle.btr_reader_names.specs.TreeLinks.{AreTreeLinks}
-use Rattle.btr_reader_contents.specs.Checked.{AreSound}
-use Rattle.btr_reader_contents.specs.Contents.{wanted_at, RefusesContents}
-use Rattle.btr_reader.specs.Made.{IsChecked, IsMemory, RefusesChecked, RefusesRows, RefusesTree}
-use Rattle.btr_reader.specs.Opening.{tree_of}
-use Rattle.btr_reader.specs.Reading.{FindsTree}
-use Rattle.btr_reader.specs.Roots.{root_item, pointer_of}
-use Rattle.btr_reader.specs.Rows.{AreRows, AreBtrfsRows, BreaksExtents, CanBeRead, roots_on, IsTreeRefusal, no_root_item, bad_root_item, bad_tree, bad_names, bad_extents}
 use Rattle.btr_reader.proofs.Bridging.{breaks_named, extents_right, none_among}
 
 some_none : {X : Type 0} (x : X) (o : Option X) → o ≡ Some x → o ≡ None → ⊥
@@ -43,7 +17,7 @@ refused_checked items root roots Fault h = tt
 refused_checked items root roots Memory h = tt
 
 -- what a check of names answers, by numbers that are those of the trees of the root tree
-pub checked_by : {X : Type 0} (has : X → NodeId → Bool) (names : Names) (result : Result X BtrAnswer) (items : List TreeItem) (root : ℕ) (told roots : ℕ → Bool) → told ≡ roots
+pub checked_by : {X : Type 0} (has : X → NodeId → Bool) (names : NameTable) (result : Result X BtrAnswer) (items : List TreeItem) (root : ℕ) (told roots : ℕ → Bool) → told ≡ roots
     → IfOk result (λ x. AreNamed items (has x)) → OnOk result (KeepsNames told items root) → IfOk result (λ x. AreTreeLinks items (links_of names (has x))) → IfErr result (RefusesNames told items root)
     → MatchResult result (λ x. IsChecked names (has x) items root roots) (RefusesChecked roots items root)
 checked_by has names (Ok x) items root told roots same named keeps links refused =
@@ -57,7 +31,7 @@ of_memory image s ranges Fault h = absurd h
 of_memory image s ranges Memory h = tt
 
 -- no file tree is found
-pub not_found : (image : Image) (s : Super) (ranges : List MapRange) (e : BtrAnswer) → FindsTree s 5 (root_item 5 (roots_on image s ranges)) (Err e) → RefusesTree image s ranges e
+pub not_found : (image : Image) (s : Super) (ranges : List MapRange) (e : BtrAnswer) → FindsTree s FS_TREE (root_item FS_TREE (roots_on image s ranges)) (Err e) → RefusesTree image s ranges e
 not_found image s ranges (Refused r) (i, there, off, is) = bad_root_item i there off is
 not_found image s ranges Fault h = tt
 not_found image s ranges Memory h = tt
@@ -79,14 +53,14 @@ pub checked_without_log : {X : Type 0} (image : Image) (s : Super) (ranges : Lis
 checked_without_log image s ranges (Ok x) none h = (none, h)
 checked_without_log image s ranges (Err e) none h = tree_or_log image s ranges e none h
 
-module _ (image : Image) (s : Super) (ranges : List MapRange) (i : TreeItem) (p : Pointer) (there : root_item 5 (roots_on image s ranges) ≡ Some i) (at : pointer_of i.body ≡ Some p) where
+module _ (image : Image) (s : Super) (ranges : List MapRange) (i : TreeItem) (p : NodePointer) (there : root_item FS_TREE (roots_on image s ranges) ≡ Some i) (at : pointer_of i.body ≡ Some p) where
   abbrev items : List TreeItem
-  items = found image ranges (tree_of s 5 p)
+  items = found image ranges (tree_of s FS_TREE p)
 
   abbrev roots : ℕ → Bool
   roots = has_root (roots_on image s ranges)
 
-  tree_blamed : (e : BtrAnswer) → BlamesTree image ranges (tree_of s 5 p) e → RefusesTree image s ranges e
+  tree_blamed : (e : BtrAnswer) → BlamesTree image ranges (tree_of s FS_TREE p) e → RefusesTree image s ranges e
   tree_blamed (Refused r) among = bad_tree i p there at among
   tree_blamed Fault h = tt
   tree_blamed Memory h = tt
@@ -96,15 +70,15 @@ module _ (image : Image) (s : Super) (ranges : List MapRange) (i : TreeItem) (p 
   names_refused Fault h = tt
   names_refused Memory h = tt
 
-  contents_blamed : (has : NodeId → Bool) (e : BtrAnswer) → AreNamed items has → RefusesContents (wanted_at has items) image ranges (tree_of s 5 p) e → RefusesTree image s ranges e
+  contents_blamed : (has : NodeId → Bool) (e : BtrAnswer) → AreNamed items has → RefusesContents (wanted_at has items) image ranges (tree_of s FS_TREE p) e → RefusesTree image s ranges e
   contents_blamed has (Refused r) named (inl among) = bad_tree i p there at among
   contents_blamed has (Refused r) named (inr broken) = bad_extents i p there at (breaks_named has ranges items r named broken)
   contents_blamed has Fault named h = tt
   contents_blamed has Memory named h = tt
 
   -- the tree that is read is the file tree
-  module _ (slice : List MapRange) (t : Tree) (same : slice ≡ ranges) (is : t ≡ tree_of s 5 p) where
-    pub here : (P : List MapRange → Tree → Type 0) → P slice t → P ranges (tree_of s 5 p)
+  module _ (slice : List MapRange) (t : Tree) (same : slice ≡ ranges) (is : t ≡ tree_of s FS_TREE p) where
+    pub here : (P : List MapRange → Tree → Type 0) → P slice t → P ranges (tree_of s FS_TREE p)
     here P h = subst (P ranges) is (subst (λ (r : List MapRange). P r t) same h)
 
     pub tree_refused : (e : BtrAnswer) → BlamesTree image slice t e → RefusesTree image s ranges e
@@ -113,18 +87,18 @@ module _ (image : Image) (s : Super) (ranges : List MapRange) (i : TreeItem) (p 
     pub contents_refused : (has : NodeId → Bool) (e : BtrAnswer) → AreNamed items has → RefusesContents (wanted_at has (found image slice t)) image slice t e → RefusesTree image s ranges e
     contents_refused has e named h = contents_blamed has e named (here (λ r x. RefusesContents (wanted_at has (found image r x)) image r x e) h)
 
-  module _ (sound : wrong image ranges (tree_of s 5 p) ≡ []) (keeps : KeepsNames roots items p.address) (right : (r : BtrRefusal) → BreaksExtents ranges items r → ⊥) where
-    same_at : (j : TreeItem) (q : Pointer) → root_item 5 (roots_on image s ranges) ≡ Some j → pointer_of j.body ≡ Some q → q ≡ p
-    same_at j q other off = same_some q p (pointer_of i.body) (ap (λ (x : TreeItem). pointer_of x.body) (same_some i j (root_item 5 (roots_on image s ranges)) there other) ∙ off) at
+  module _ (sound : wrong image ranges (tree_of s FS_TREE p) ≡ []) (keeps : KeepsNames roots items p.address) (right : (r : BtrRefusal) → BreaksExtents ranges items r → ⊥) where
+    same_at : (j : TreeItem) (q : NodePointer) → root_item FS_TREE (roots_on image s ranges) ≡ Some j → pointer_of j.body ≡ Some q → q ≡ p
+    same_at j q other off = same_some q p (pointer_of i.body) (ap (λ (x : TreeItem). pointer_of x.body) (same_some i j (root_item FS_TREE (roots_on image s ranges)) there other) ∙ off) at
 
-    readable : (r : BtrRefusal) → IsTreeRefusal image s ranges r → ⊥
-    readable r (no_root_item none is) = some_none i (root_item 5 (roots_on image s ranges)) there none
+    readable : (r : BtrRefusal) → IsFileTreeRefusal image s ranges r → ⊥
+    readable r (no_root_item none is) = some_none i (root_item FS_TREE (roots_on image s ranges)) there none
     readable r (bad_root_item j other off is) =
-        some_none p (pointer_of i.body) at (ap (λ (x : TreeItem). pointer_of x.body) (same_some i j (root_item 5 (roots_on image s ranges)) there other) ∙ off)
+        some_none p (pointer_of i.body) at (ap (λ (x : TreeItem). pointer_of x.body) (same_some i j (root_item FS_TREE (roots_on image s ranges)) there other) ∙ off)
     readable r (bad_tree j q other off among) =
-        none_among (wrong image ranges (tree_of s 5 p)) r sound (subst (λ (x : Pointer). Contains (wrong image ranges (tree_of s 5 x)) r) (same_at j q other off) among)
-    readable r (bad_names j q other off broken) = keeps r (subst (λ (x : Pointer). BreaksNames roots (found image ranges (tree_of s 5 x)) x.address r) (same_at j q other off) broken)
-    readable r (bad_extents j q other off broken) = right r (subst (λ (x : Pointer). BreaksExtents ranges (found image ranges (tree_of s 5 x)) r) (same_at j q other off) broken)
+        none_among (wrong image ranges (tree_of s FS_TREE p)) r sound (subst (λ (x : NodePointer). Contains (wrong image ranges (tree_of s FS_TREE x)) r) (same_at j q other off) among)
+    readable r (bad_names j q other off broken) = keeps r (subst (λ (x : NodePointer). BreaksNames roots (found image ranges (tree_of s FS_TREE x)) x.address r) (same_at j q other off) broken)
+    readable r (bad_extents j q other off broken) = right r (subst (λ (x : NodePointer). BreaksExtents ranges (found image ranges (tree_of s FS_TREE x)) r) (same_at j q other off) broken)
 
     pub rows_answered : (result : Result (List Row) BtrAnswer) → MatchResult result (λ rows. (whole : List WholeRow) × AreRows image ranges items whole × (rows ≡ map row_of whole)) IsMemory
         → MatchResult result (λ rows. (whole : List WholeRow) × AreBtrfsRows image s ranges whole × (rows ≡ map row_of whole)) (RefusesTree image s ranges)
@@ -132,7 +106,7 @@ module _ (image : Image) (s : Super) (ranges : List MapRange) (i : TreeItem) (p 
     rows_answered (Err e) h = of_memory image s ranges e h
 
   -- what a check of the contents answers
-  pub tree_checked : {X : Type 0} (slice : List MapRange) (t : Tree) (same : slice ≡ ranges) (is : t ≡ tree_of s 5 p) (has : NodeId → Bool) (result : Result X BtrAnswer) → wrong image ranges (tree_of s 5 p) ≡ [] → KeepsNames roots items p.address
+  pub tree_checked : {X : Type 0} (slice : List MapRange) (t : Tree) (same : slice ≡ ranges) (is : t ≡ tree_of s FS_TREE p) (has : NodeId → Bool) (result : Result X BtrAnswer) → wrong image ranges (tree_of s FS_TREE p) ≡ [] → KeepsNames roots items p.address
       → AreNamed items has → OnOk result (AreSound (wanted_at has (found image slice t)) slice (found image slice t)) → IfErr result (RefusesContents (wanted_at has (found image slice t)) image slice t)
       → MatchResult result (λ _. CanBeRead image s ranges) (RefusesTree image s ranges)
   tree_checked slice t same is has (Ok x) sound keeps named right refused =

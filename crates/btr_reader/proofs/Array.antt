@@ -1,9 +1,5 @@
 -- The chunks of the bootstrap array, one after the other.
-use Rattle.std.proofs.Common.{◌≡◌, ℕ, zero, suc, ◌≤◌, ◌<◌, List, [], ◌∷◌, ◌++◌, length, drop, Option, Some, None, refl, sym, ◌∙◌, ap, arith, append_assoc, length-drop}
-use Rattle.std.specs.Option.{option_map, option_and_then}
-use Rattle.std.proofs.lemmas.List.{append-nil}
-use Rattle.btr_reader.specs.declared.chunk.ChunkAt.{ChunkAt}
-use Rattle.btr_reader.specs.Chunks.{entry_size, front_chunk, chunks_within}
+use Rattle.btr_reader.proofs.Imports.{◌≡◌, ℕ, zero, suc, ◌≤◌, ◌<◌, List, [], ◌∷◌, ◌++◌, length, drop, Option, Some, None, refl, sym, ◌∙◌, ap, arith, append_assoc, length-drop, option_map, option_and_then, append-nil, ChunkAt, entry_size, front_chunk, chunks_within}
 
 -- what is behind the first chunk
 abbrev pub with_first : List ℕ → ℕ → Option ChunkAt → Option (List ChunkAt)

@@ -1,56 +1,57 @@
 -- Chunks that were written into the bootstrap array read as these chunks.
-use Rattle.std.proofs.Common.{◌≡◌, ℕ, ◌+◌, ◌-◌, ◌^◌, ◌≤◌, ◌<◌, cond, ltb, Bool, false, List, [], ◌∷◌, ◌++◌, length, take, drop, Option, Some, None, refl, sym, ◌∙◌, ap, arith, append_assoc, length-append}
-use Rattle.std.specs.List.{flat_map, AllByRecursion}
-use Rattle.std.specs.Option.{option_map}
+use Rattle.btr_reader.proofs.Imports.{◌≡◌, ℕ, ◌+◌, ◌-◌, ◌^◌, ◌≤◌, ◌<◌, cond, ltb, Bool, false, List, [], ◌∷◌, ◌++◌, length, take, drop, Option, Some, None, refl, sym, ◌∙◌, ap, arith, append_assoc, length-append, flat_map, AllByRecursion, option_map, le-ltb, ne_eqb, take_at, drop_at, CHUNK_ITEM, FIRST_CHUNK_TREE_OBJECTID, field, Key, Super, ChunkAt, placed_chunk, entry_size, front_chunk, chunks_within, array_chunks, is_chunk_key, second_stripe, array_entry, FitsArray, boot_chunks}
 use Rattle.std.proofs.Math.Seq.{drop-append-add}
-use Rattle.std.proofs.lemmas.Bool.{le-ltb}
-use Rattle.std.proofs.lemmas.List.{take_at, drop_at}
-use Rattle.btr_reader_walk.specs.vol_block.Volume.{field}
-use Rattle.btr_reader_walk.specs.btr_keys.Key.{key_layout, key_bytes, make_key, key_at}
-use Rattle.btr_reader_walk.specs.btr_keys.declared.key.Key.{Key}
+use Rattle.btr_reader_walk.specs.btr_keys.Key.{key_layout, key_bytes, make_key, key_in_bytes}
 use Rattle.btr_reader_walk.proofs.btr_keys.Records.{key_reads}
-use Rattle.btr_space_items.specs.Chunk.{chunk_of, chunk_bytes}
+use Rattle.btr_space_items.specs.Chunk.{chunk_bytes}
+use Rattle.btr_space_items.specs.Stripe.{stripe_at}
 use Rattle.btr_space_items.specs.declared.chunk.Chunk.{Chunk}
+use Rattle.btr_space_items.specs.declared.stripe.Stripe.{Stripe}
 use Rattle.btr_space_items.proofs.Records.{chunks_read_back, chunk_reads, chunk_width, stripes_at}
-use Rattle.btr_super.specs.declared.superblock.Super.{Super}
-use Rattle.btr_reader.specs.declared.chunk.ChunkAt.{ChunkAt}
-use Rattle.btr_reader.specs.Chunks.{entry_size, front_chunk, chunks_within, array_chunks, is_chunk_key}
-use Rattle.btr_reader.specs.Laws.{array_entry, FitsArray}
-use Rattle.btr_reader.specs.Opening.{boot_chunks}
 use Rattle.btr_reader.proofs.Array.{with_first, more_chunks}
 
 key_width : key_layout.width ≡ 17
 unfolding key_layout
 key_width = refl
 
-fits_key : (n : ℕ) → n < 2 ^ 64 → key_layout.fits (make_key 256 228 n)
+fits_key : (n : ℕ) → n < 2 ^ 64 → key_layout.fits (make_key FIRST_CHUNK_TREE_OBJECTID CHUNK_ITEM n)
 unfolding key_layout
 fits_key n small = (((tt, omega arith), omega arith), omega (arith, small))
 
+-- the body of one stripe has no second one, and reads as the chunk
+pub chunk_made : (c : ChunkAt) → FitsArray c → placed_chunk c.logical (chunk_bytes c.chunk) ≡ Some c
+chunk_made c fits =
+    let bytes : List ℕ = chunk_bytes c.chunk in
+    let long : length bytes ≡ 80 = chunk_reads.len c.chunk fits.fields ∙ chunk_width in
+    let lone : second_stripe bytes ≡ c.mirror = ap (λ (b : Bool). cond b (Some (stripe_at bytes 80)) None) (ne_eqb (length bytes) 112 (λ e. omega (arith, e, long))) ∙ sym fits.alone in
+    let make : Chunk → ChunkAt = λ x. record { logical = c.logical; chunk = x; mirror = second_stripe bytes } in
+    ap (option_map make) (chunks_read_back c.chunk fits.fields fits.single)
+    ∙ ap (λ (m : Option Stripe). let o : Option ChunkAt = Some (record { logical = c.logical; chunk = c.chunk; mirror = m }) in o) lone
+
 module _ (c : ChunkAt) (fits : FitsArray c) (rest : List ℕ) where
   own : Key
-  own = make_key 256 228 c.logical
+  own = make_key FIRST_CHUNK_TREE_OBJECTID CHUNK_ITEM c.logical
 
-  key_len : length (key_bytes (make_key 256 228 c.logical)) ≡ 17
-  key_len = key_reads.len (make_key 256 228 c.logical) (fits_key c.logical fits.logical) ∙ key_width
+  key_len : length (key_bytes (make_key FIRST_CHUNK_TREE_OBJECTID CHUNK_ITEM c.logical)) ≡ 17
+  key_len = key_reads.len (make_key FIRST_CHUNK_TREE_OBJECTID CHUNK_ITEM c.logical) (fits_key c.logical fits.logical) ∙ key_width
 
   body_len : length (chunk_bytes c.chunk) ≡ 80
   body_len = chunk_reads.len c.chunk fits.fields ∙ chunk_width
 
-  apart : array_entry c ++ rest ≡ key_bytes (make_key 256 228 c.logical) ++ (chunk_bytes c.chunk ++ rest)
-  apart = append_assoc (key_bytes (make_key 256 228 c.logical)) (chunk_bytes c.chunk) rest
+  apart : array_entry c ++ rest ≡ key_bytes (make_key FIRST_CHUNK_TREE_OBJECTID CHUNK_ITEM c.logical) ++ (chunk_bytes c.chunk ++ rest)
+  apart = append_assoc (key_bytes (make_key FIRST_CHUNK_TREE_OBJECTID CHUNK_ITEM c.logical)) (chunk_bytes c.chunk) rest
 
   -- what is behind the key
   behind_key : (n : ℕ) → drop (17 + n) (array_entry c ++ rest) ≡ drop n (chunk_bytes c.chunk ++ rest)
   behind_key n =
       ap (λ (m : ℕ). drop (m + n) (array_entry c ++ rest)) (sym key_len)
-      ∙ (ap (drop (length (key_bytes (make_key 256 228 c.logical)) + n)) apart
-      ∙ drop-append-add (key_bytes (make_key 256 228 c.logical)) (chunk_bytes c.chunk ++ rest) n)
+      ∙ (ap (drop (length (key_bytes (make_key FIRST_CHUNK_TREE_OBJECTID CHUNK_ITEM c.logical)) + n)) apart
+      ∙ drop-append-add (key_bytes (make_key FIRST_CHUNK_TREE_OBJECTID CHUNK_ITEM c.logical)) (chunk_bytes c.chunk ++ rest) n)
 
-  keyed : key_at (array_entry c ++ rest) 0 ≡ make_key 256 228 c.logical
+  keyed : key_in_bytes (array_entry c ++ rest) 0 ≡ make_key FIRST_CHUNK_TREE_OBJECTID CHUNK_ITEM c.logical
   keyed =
-      ap key_layout.read (apart ∙ sym (key_reads.apart (make_key 256 228 c.logical) (chunk_bytes c.chunk ++ rest)))
-      ∙ key_reads.back (make_key 256 228 c.logical) (chunk_bytes c.chunk ++ rest) (fits_key c.logical fits.logical)
+      ap key_layout.read (apart ∙ sym (key_reads.apart (make_key FIRST_CHUNK_TREE_OBJECTID CHUNK_ITEM c.logical) (chunk_bytes c.chunk ++ rest)))
+      ∙ key_reads.back (make_key FIRST_CHUNK_TREE_OBJECTID CHUNK_ITEM c.logical) (chunk_bytes c.chunk ++ rest) (fits_key c.logical fits.logical)
 
   pub entry : entry_size (array_entry c ++ rest) ≡ 97
   entry =
@@ -60,7 +61,7 @@ module _ (c : ChunkAt) (fits : FitsArray c) (rest : List ℕ) where
       omega (arith, stripes)
 
   long : length (array_entry c ++ rest) ≡ 97 + length rest
-  long = omega (arith, length-append (array_entry c) rest, length-append (key_bytes (make_key 256 228 c.logical)) (chunk_bytes c.chunk), key_len, body_len)
+  long = omega (arith, length-append (array_entry c) rest, length-append (key_bytes (make_key FIRST_CHUNK_TREE_OBJECTID CHUNK_ITEM c.logical)) (chunk_bytes c.chunk), key_len, body_len)
 
   pub size : length (array_entry c ++ rest) ≡ 97 + length rest
   size = long
@@ -70,22 +71,18 @@ module _ (c : ChunkAt) (fits : FitsArray c) (rest : List ℕ) where
       ap (λ (n : ℕ). take (n - 17) (drop 17 (array_entry c ++ rest))) entry
       ∙ (ap (take 80) (behind_key 0) ∙ take_at (chunk_bytes c.chunk) rest 80 body_len)
 
-  abbrev placed : Key → Option Chunk → Option ChunkAt
-  placed key chunk = option_map (λ (x : Chunk). record { logical = key.offset; chunk = x }) chunk
-
   pub front : front_chunk (array_entry c ++ rest) ≡ Some c
   front =
       let bytes : List ℕ = array_entry c ++ rest in
-      let read : chunk_of (take (entry_size bytes - 17) (drop 17 bytes)) ≡ Some c.chunk = ap chunk_of body ∙ chunks_read_back c.chunk fits.fields fits.single in
       let whole : ltb (length bytes) 97 ≡ false = le-ltb _ _ (omega (arith, long)) in
-      ap (λ (b : Bool). cond b None (cond (is_chunk_key (key_at bytes 0)) (placed (key_at bytes 0) (chunk_of (take (entry_size bytes - 17) (drop 17 bytes)))) None)) whole
-      ∙ (ap (λ (b : Bool). cond b (placed (key_at bytes 0) (chunk_of (take (entry_size bytes - 17) (drop 17 bytes)))) None) (ap is_chunk_key keyed)
-      ∙ (ap (λ (k : Key). placed k (chunk_of (take (entry_size bytes - 17) (drop 17 bytes)))) keyed ∙ ap (placed (make_key 256 228 c.logical)) read))
+      ap (λ (b : Bool). cond b None (cond (is_chunk_key (key_in_bytes bytes 0)) (placed_chunk (key_in_bytes bytes 0).offset (take (entry_size bytes - 17) (drop 17 bytes))) None)) whole
+      ∙ (ap (λ (b : Bool). cond b (placed_chunk (key_in_bytes bytes 0).offset (take (entry_size bytes - 17) (drop 17 bytes))) None) (ap is_chunk_key keyed)
+      ∙ (ap (λ (k : Key). placed_chunk k.offset (take (entry_size bytes - 17) (drop 17 bytes))) keyed ∙ (ap (placed_chunk c.logical) body ∙ chunk_made c fits)))
 
   pub behind : drop (entry_size (array_entry c ++ rest)) (array_entry c ++ rest) ≡ rest
   behind =
       ap (λ (n : ℕ). drop n (array_entry c ++ rest)) entry
-      ∙ drop_at (array_entry c) rest 97 (omega (arith, length-append (key_bytes (make_key 256 228 c.logical)) (chunk_bytes c.chunk), key_len, body_len))
+      ∙ drop_at (array_entry c) rest 97 (omega (arith, length-append (key_bytes (make_key FIRST_CHUNK_TREE_OBJECTID CHUNK_ITEM c.logical)) (chunk_bytes c.chunk), key_len, body_len))
 
 within : (n : ℕ) (chunks : List ChunkAt) → AllByRecursion FitsArray chunks → length (flat_map array_entry chunks) ≤ n → chunks_within n (flat_map array_entry chunks) ≡ Some chunks
 unfolding chunks_within

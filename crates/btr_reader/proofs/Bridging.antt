@@ -1,27 +1,6 @@
 -- What is wrong with the extents of what is kept, and with those of named files and symlinks.
-use Rattle.std.proofs.Common.{◌≡◌, ◌⊎◌, inl, inr, ⊎_elim, ℕ, ◌≤◌, nat_le, Bool, true, false, if◌then◌else◌, List, [], Contains, Option, Some, None, refl, sym, ◌∙◌, ap, subst, arith}
-use Rattle.std.proofs.lemmas.Bool.{cases_lt}
-use Rattle.std.proofs.lemmas.Bool.Decides.{nat_tests}
-use Rattle.std.specs.Option.{option_and_then}
-use Rattle.btr_reader_walk.specs.outside.History.{Image}
-use Rattle.btr_reader_walk.specs.refusals.declared.refusal.BtrRefusal.{BtrRefusal}
-use Rattle.btr_reader_walk.specs.btr_keys.declared.inode.Inode.{Inode}
-use Rattle.btr_reader_walk.specs.declared.map.MapRange.{MapRange}
-use Rattle.btr_reader_walk.specs.Events.{TreeItem}
-use Rattle.btr_reader_contents.specs.Extents.{extents_of, extents_refusals}
-use Rattle.fs_rows.specs.declared.row.Kind.{Kind}
-use Rattle.fs_rows.specs.declared.row.Kind.TheVariants.{Directory, File, Symlink, Character, Block, Fifo, Socket, Subvolume}
-use Rattle.fs_paths.specs.declared.node.NodeId.{NodeId}
-use Rattle.btr_reader_names.specs.Inodes.{inode_on, kind_of_mode, HasKind}
-use Rattle.btr_reader_names.specs.Links.{IsNamed}
-use Rattle.btr_reader_names.specs.Rules.{KeepsNames}
-use Rattle.btr_reader_names.specs.Steps.{inode_node, AreNamed}
-use Rattle.fs_rows.specs.declared.content.Content.{Content}
-use Rattle.btr_reader_contents.specs.declared.wanted.Wanted.{Wanted}
-use Rattle.btr_reader_contents.specs.Checked.{AreSound}
+use Rattle.btr_reader.proofs.Imports.{◌≡◌, ◌⊎◌, inl, inr, ⊎_elim, ℕ, ◌≤◌, nat_le, Bool, true, false, if◌then◌else◌, List, [], Contains, Option, Some, None, refl, sym, ◌∙◌, ap, subst, arith, cases_lt, nat_tests, option_and_then, Image, BtrRefusal, Inode, MapRange, TreeItem, extents_of, extents_refusals, Kind, Directory, File, Symlink, Character, Block, Fifo, Socket, Subvolume, NodeId, inode_on, kind_of_mode, HasKind, IsNamedInode, KeepsNames, inode_node, AreNamed, Content, Wanted, AreSound, wanted_by, wanted_inode, wanted_at, TellsContent, HasContents, BreaksExtents}
 use Rattle.btr_reader_contents.specs.Contents as kept
-use Rattle.btr_reader_contents.specs.Contents.{wanted_by, wanted_inode, wanted_at, TellsContent, HasContents}
-use Rattle.btr_reader.specs.Rows.{BreaksExtents}
 use Rattle.btr_reader.proofs.Known.{not_long}
 
 no_some : {A : Type 0} (x : A) → None ≡ Some x → ⊥
@@ -51,7 +30,7 @@ inode_in : (items : List TreeItem) (ino : ℕ) (w : Wanted) (o : Option Inode) �
 inode_in items ino w None on is = absurd (no_some w is)
 inode_in items ino w (Some own) on is = kind_in items ino own w (kind_of_mode own.mode) on refl is
 
-pub breaks_named : (has : NodeId → Bool) (ranges : List MapRange) (items : List TreeItem) (r : BtrRefusal) → AreNamed items has → kept.BreaksExtents (wanted_at has items) ranges items r → BreaksExtents ranges items r
+pub breaks_named : (has : NodeId → Bool) (ranges : List MapRange) (items : List TreeItem) (r : BtrRefusal) → AreNamed items has → kept.BreaksWantedExtents (wanted_at has items) ranges items r → BreaksExtents ranges items r
 breaks_named has ranges items r named b = by (has (inode_node b.ino)) refl
   where
     by : (t : Bool) → has (inode_node b.ino) ≡ t → BreaksExtents ranges items r
@@ -72,25 +51,25 @@ pub none_among : (refusals : List BtrRefusal) (r : BtrRefusal) → refusals ≡ 
 none_among refusals r none among = let h = subst (λ (l : List BtrRefusal). Contains l r) none among in absurd (omega (arith, h.1))
 
 module _ (has_root : ℕ → Bool) (items : List TreeItem) (root_at : ℕ) (keeps : KeepsNames has_root items root_at) (has : NodeId → Bool) (named : AreNamed items has) where
-  wanted_of : (ino : ℕ) (own : Inode) (w : Option Wanted) → IsNamed items ino → inode_on items ino ≡ Some own → wanted_inode own ≡ w → wanted_at has items ino ≡ w
+  wanted_of : (ino : ℕ) (own : Inode) (w : Option Wanted) → IsNamedInode items ino → inode_on items ino ≡ Some own → wanted_inode own ≡ w → wanted_at has items ino ≡ w
   wanted_of ino own w is on wants =
       ap (λ (b : Bool). if b then option_and_then wanted_inode (inode_on items ino) else None) (named.whole ino is) ∙ (ap (option_and_then wanted_inode) on ∙ wants)
 
   file_wanted : (own : Inode) → kind_of_mode own.mode ≡ Some File → wanted_inode own ≡ Some (record { link = false; size = own.size })
   file_wanted own kind = ap (option_and_then (wanted_by own.size)) kind
 
-  short : (ino : ℕ) (own : Inode) → IsNamed items ino → inode_on items ino ≡ Some own → kind_of_mode own.mode ≡ Some Symlink → nat_le own.size 4095 ≡ true
+  short : (ino : ℕ) (own : Inode) → IsNamedInode items ino → inode_on items ino ≡ Some own → kind_of_mode own.mode ≡ Some Symlink → nat_le own.size 4095 ≡ true
   short ino own is on kind =
       let low : own.size ≤ 4095 = ⊎_elim (λ long. absurd (not_long has_root items root_at keeps ino own is on kind long)) (λ low. low) (cases_lt 4095 own.size) in
       grind (arith, nat_tests, low)
 
-  link_wanted : (ino : ℕ) (own : Inode) → IsNamed items ino → inode_on items ino ≡ Some own → kind_of_mode own.mode ≡ Some Symlink → wanted_inode own ≡ Some (record { link = true; size = own.size })
+  link_wanted : (ino : ℕ) (own : Inode) → IsNamedInode items ino → inode_on items ino ≡ Some own → kind_of_mode own.mode ≡ Some Symlink → wanted_inode own ≡ Some (record { link = true; size = own.size })
   link_wanted ino own is on kind =
       let link : Wanted = record { link = true; size = own.size } in
       ap (option_and_then (wanted_by own.size)) kind ∙ ap (λ (b : Bool). if b then Some link else None) (short ino own is on kind)
 
   module _ (ranges : List MapRange) (sound_of : AreSound (wanted_at has items) ranges items) where
-    sound_by : (ino : ℕ) → IsNamed items ino → HasKind items ino File ⊎ HasKind items ino Symlink → extents_refusals ranges 0 0 (extents_of items ino) ≡ []
+    sound_by : (ino : ℕ) → IsNamedInode items ino → HasKind items ino File ⊎ HasKind items ino Symlink → extents_refusals ranges 0 0 (extents_of items ino) ≡ []
     sound_by ino is (inl (own, on, kind)) =
         let w : Wanted = record { link = false; size = own.size } in
         sound_of ino w (wanted_of ino own (Some w) is on (file_wanted own kind))

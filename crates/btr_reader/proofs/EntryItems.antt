@@ -1,33 +1,23 @@
 -- An entry found as the items go by.
-use Rattle.std.proofs.Common.{◌≡◌, ℕ, Bool, true, false, ◌&&◌, eqb, List, [], ◌∷◌, ◌++◌, Option, Some, if◌then◌else◌, refl, sym, ◌∙◌, ap, subst, append_assoc}
-use Rattle.std.proofs.lemmas.List.{append-nil}
-use Rattle.btr_reader_walk.specs.refusals.declared.answer.BtrAnswer.{BtrAnswer}
-use Rattle.btr_reader_walk.specs.refusals.declared.refusal.BtrRefusal.{BtrRefusal}
-use Rattle.btr_reader_walk.specs.btr_keys.declared.key.Key.{Key}
-use Rattle.btr_reader_walk.specs.Events.{TreeItem}
-use Rattle.btr_reader_walk.proofs.Events.{none_both}
-use Rattle.btr_reader.specs.Image.{first_key, entry_named, own_index_refusals, index_refusals}
-use Rattle.btr_reader_names.specs.declared.naming.Naming.{Naming}
-use Rattle.btr_reader_names.specs.Links.{own_naming, namings}
-use Rattle.btr_reader.specs.Opening.{IsAmong}
+use Rattle.btr_reader.proofs.Imports.{◌≡◌, ℕ, Bool, true, false, ◌&&◌, eqb, List, [], ◌∷◌, ◌++◌, Option, Some, if◌then◌else◌, refl, sym, ◌∙◌, ap, subst, append_assoc, append-nil, BtrAnswer, BtrRefusal, Key, TreeItem, none_both, first_key, entry_named, own_index_refusals, index_refusals, DirIndex, own_naming, dir_indexes, IsAmong}
 use Rattle.btr_reader.proofs.Among.{among_left, among_right}
 
-pub namings-append : (xs ys : List TreeItem) → namings (xs ++ ys) ≡ namings xs ++ namings ys
+pub namings-append : (xs ys : List TreeItem) → dir_indexes (xs ++ ys) ≡ dir_indexes xs ++ dir_indexes ys
 namings-append [] ys = refl
-namings-append (i ∷ xs) ys = ap (λ (z : List Naming). own_naming i ++ z) (namings-append xs ys) ∙ sym (append_assoc (own_naming i) (namings xs) (namings ys))
+namings-append (i ∷ xs) ys = ap (λ (z : List DirIndex). own_naming i ++ z) (namings-append xs ys) ∙ sym (append_assoc (own_naming i) (dir_indexes xs) (dir_indexes ys))
 
 either_way : (t : Bool) (key : Key) (later earlier second : Option Key) → later ≡ first_key earlier second → (if t then Some key else later) ≡ first_key (if t then Some key else earlier) second
 either_way true key later earlier second is = refl
 either_way false key later earlier second is = is
 
-entry_named-append : (test : List ℕ → Bool) (xs ys : List Naming) → entry_named test (xs ++ ys) ≡ first_key (entry_named test xs) (entry_named test ys)
+entry_named-append : (test : List ℕ → Bool) (xs ys : List DirIndex) → entry_named test (xs ++ ys) ≡ first_key (entry_named test xs) (entry_named test ys)
 entry_named-append test [] ys = refl
 entry_named-append test (n ∷ xs) ys = either_way (eqb n.dir 256 && test n.name) n.location (entry_named test (xs ++ ys)) (entry_named test xs) (entry_named test ys) (entry_named-append test xs ys)
 
-pub entry_push : (test : List ℕ → Bool) (xs : List TreeItem) (i : TreeItem) → entry_named test (namings (xs ++ i ∷ [])) ≡ first_key (entry_named test (namings xs)) (entry_named test (own_naming i))
+pub entry_push : (test : List ℕ → Bool) (xs : List TreeItem) (i : TreeItem) → entry_named test (dir_indexes (xs ++ i ∷ [])) ≡ first_key (entry_named test (dir_indexes xs)) (entry_named test (own_naming i))
 entry_push test xs i =
     ap (entry_named test) (namings-append xs (i ∷ []))
-    ∙ (entry_named-append test (namings xs) (own_naming i ++ []) ∙ ap (λ (z : List Naming). first_key (entry_named test (namings xs)) (entry_named test z)) (append-nil (own_naming i)))
+    ∙ (entry_named-append test (dir_indexes xs) (own_naming i ++ []) ∙ ap (λ (z : List DirIndex). first_key (entry_named test (dir_indexes xs)) (entry_named test z)) (append-nil (own_naming i)))
 
 index_refusals-append : (xs ys : List TreeItem) → index_refusals (xs ++ ys) ≡ index_refusals xs ++ index_refusals ys
 index_refusals-append [] ys = refl

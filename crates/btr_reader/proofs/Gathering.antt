@@ -1,21 +1,7 @@
 -- The extents of a file, one after the other.
-use Rattle.std.proofs.Common.{◌≡◌, ℕ, ◌+◌, ◌-◌, ◌*◌, ◌/◌, ◌%◌, ◌≤◌, ◌<◌, eqb, nat_lt, Bool, true, false, if◌then◌else◌, List, [], ◌∷◌, ◌++◌, Option, Some, None, refl, sym, ◌∙◌, ap, arith}
-use Rattle.std.proofs.lemmas.Bool.Decides.{nat_tests}
-use Rattle.std.proofs.lemmas.List.{append-nil}
-use Rattle.std.specs.Option.{option_map}
-use Rattle.btr_reader_walk.specs.refusals.declared.refusal.BtrRefusal.{BtrRefusal}
-use Rattle.btr_reader_walk.specs.btr_keys.FileExtent.{ContentValue, Inline, Regular, Prealloc, FileExtentValue, file_extent_of}
-use Rattle.btr_reader_walk.specs.btr_keys.declared.file_extent.DiskRange.{DiskRange}
-use Rattle.btr_reader_walk.specs.declared.map.MapRange.{MapRange}
-use Rattle.btr_reader_walk.specs.Map.{place}
-use Rattle.btr_reader_walk.specs.Events.{TreeItem}
-use Rattle.btr_reader_contents.proofs.ExtentLists.{none_right, first, second, end_grows, covers_at, past_end, before_start}
-use Rattle.btr_reader.specs.declared.piece.Piece.{Piece}
-use Rattle.btr_reader_contents.specs.Extents.{is_hole, covers, range_is_aligned, is_aligned, end_after, covered_after, refusals_at, extents_refusals, extents_end}
-use Rattle.btr_reader.specs.Image.{content_block, block_from, file_block}
-use Rattle.btr_reader.specs.Pieces.{holds_block, block_in, or_else, pieces_place, range_piece, range_pieces, pieces_of}
+use Rattle.btr_reader.proofs.Imports.{◌≡◌, ℕ, ◌+◌, ◌-◌, ◌*◌, ◌/◌, ◌%◌, ◌≤◌, ◌<◌, eqb, nat_lt, Bool, true, false, if◌then◌else◌, List, [], ◌∷◌, ◌++◌, Option, Some, None, refl, sym, ◌∙◌, ap, arith, nat_tests, append-nil, option_map, BtrRefusal, ContentValue, Inline, Regular, Prealloc, FileExtentValue, file_extent_of, DiskRange, MapRange, place, TreeItem, none_right, first, second, end_grows, covers_at, past_end, before_start, MappedExtent, is_hole, covers, range_is_aligned, is_aligned, end_after, covered_after, refusals_at, extents_refusals, extents_end, content_block, block_by_extent, file_block, holds_block, block_in, or_else, pieces_place, range_piece, range_pieces, pieces_of}
 
-passes : (ranges : List MapRange) (i : TreeItem) (o : Option FileExtentValue) (b : ℕ) (other : Option ℕ) → covers_at i.key.offset (4096 * b) o ≡ false → block_from ranges i o b other ≡ other
+passes : (ranges : List MapRange) (i : TreeItem) (o : Option FileExtentValue) (b : ℕ) (other : Option ℕ) → covers_at i.key.offset (4096 * b) o ≡ false → block_by_extent ranges i o b other ≡ other
 passes ranges i None b other no_ = refl
 passes ranges i (Some x) b other no_ = ap (λ t. if t then content_block ranges x.content (b - i.key.offset / 4096) else other) no_
 
@@ -36,7 +22,7 @@ passes_all ranges e c b (i ∷ xs) ys none past =
 -- an extent behind others that has not the block
 adds_none : (ranges : List MapRange) (b : ℕ) (xs : List TreeItem) (i : TreeItem) → file_block ranges (i ∷ []) b ≡ None → file_block ranges (xs ++ i ∷ []) b ≡ file_block ranges xs b
 adds_none ranges b [] i none = none
-adds_none ranges b (x ∷ xs) i none = ap (block_from ranges x (file_extent_of x.body) b) (adds_none ranges b xs i none)
+adds_none ranges b (x ∷ xs) i none = ap (block_by_extent ranges x (file_extent_of x.body) b) (adds_none ranges b xs i none)
 
 or_else-none : (o : Option ℕ) → or_else o None ≡ o
 or_else-none None = refl
@@ -46,7 +32,7 @@ or_else-assoc : (a b c : Option ℕ) → or_else a (or_else b c) ≡ or_else (or
 or_else-assoc None b c = refl
 or_else-assoc (Some n) b c = refl
 
-pieces_place-append : (ranges : List MapRange) (b : ℕ) (ps qs : List Piece) → pieces_place ranges (ps ++ qs) b ≡ or_else (pieces_place ranges ps b) (pieces_place ranges qs b)
+pieces_place-append : (ranges : List MapRange) (b : ℕ) (ps qs : List MappedExtent) → pieces_place ranges (ps ++ qs) b ≡ or_else (pieces_place ranges ps b) (pieces_place ranges qs b)
 pieces_place-append ranges b [] qs = refl
 pieces_place-append ranges b (p ∷ ps) qs =
     ap (or_else (block_in ranges p b)) (pieces_place-append ranges b ps qs) ∙ or_else-assoc (block_in ranges p b) (pieces_place ranges ps b) (pieces_place ranges qs b)
@@ -88,13 +74,13 @@ content_pieces ranges offset b (Prealloc r) aligned = sym (none_either (covers o
 one_extent : (ranges : List MapRange) (i : TreeItem) (x : FileExtentValue) (b : ℕ) → file_extent_of i.body ≡ Some x → is_aligned i.key.offset x.content ≡ true
     → pieces_place ranges (pieces_of i.key.offset x.content) b ≡ file_block ranges (i ∷ []) b
 one_extent ranges i x b read aligned =
-    content_pieces ranges i.key.offset b x.content aligned ∙ ap (λ (o : Option FileExtentValue). block_from ranges i o b None) (sym read)
+    content_pieces ranges i.key.offset b x.content aligned ∙ ap (λ (o : Option FileExtentValue). block_by_extent ranges i o b None) (sym read)
 
 -- and behind those of others, the blocks of all
-abbrev Same : List MapRange → List Piece → List TreeItem → ℕ → Type 0
+abbrev Same : List MapRange → List MappedExtent → List TreeItem → ℕ → Type 0
 Same ranges ps xs b = pieces_place ranges ps b ≡ file_block ranges xs b
 
-one_more_by : (ranges : List MapRange) (done : List TreeItem) (i : TreeItem) (x : FileExtentValue) (ps : List Piece) (b : ℕ) (t : Bool) → nat_lt (4096 * b) (extents_end 0 done) ≡ t
+one_more_by : (ranges : List MapRange) (done : List TreeItem) (i : TreeItem) (x : FileExtentValue) (ps : List MappedExtent) (b : ℕ) (t : Bool) → nat_lt (4096 * b) (extents_end 0 done) ≡ t
     → file_extent_of i.body ≡ Some x → extents_refusals ranges 0 0 done ≡ [] → extents_end 0 done ≤ i.key.offset → is_aligned i.key.offset x.content ≡ true
     → Same ranges ps done b → Same ranges (ps ++ pieces_of i.key.offset x.content) (done ++ i ∷ []) b
 one_more_by ranges done i x ps b true test read sound behind aligned same =
@@ -110,7 +96,7 @@ one_more_by ranges done i x ps b false test read sound behind aligned same =
     ∙ (ap (λ o. or_else o (pieces_place ranges (pieces_of i.key.offset x.content) b)) (same ∙ nil)
     ∙ (one_extent ranges i x b read aligned ∙ sym (passes_all ranges 0 0 b done (i ∷ []) sound past)))
 
-pub one_more : (ranges : List MapRange) (done : List TreeItem) (i : TreeItem) (x : FileExtentValue) (ps : List Piece) (b : ℕ)
+pub one_more : (ranges : List MapRange) (done : List TreeItem) (i : TreeItem) (x : FileExtentValue) (ps : List MappedExtent) (b : ℕ)
     → file_extent_of i.body ≡ Some x → extents_refusals ranges 0 0 done ≡ [] → extents_end 0 done ≤ i.key.offset → is_aligned i.key.offset x.content ≡ true
     → Same ranges ps done b → Same ranges (ps ++ pieces_of i.key.offset x.content) (done ++ i ∷ []) b
 one_more ranges done i x ps b read sound behind aligned same =

@@ -2,6 +2,7 @@ pub use Rattle.btr_reader_walk.proofs.btr_keys as btr_keys
 pub use Rattle.btr_reader_walk.proofs.btr_node as btr_node
 pub use Rattle.btr_space_items.proofs as btr_space_items
 pub use Rattle.btr_super.proofs as btr_super
+pub use Rattle.btr_super.proofs.csum_kinds as csum_kinds
 pub use Rattle.fs_paths.proofs as fs_paths
 pub mod Adding
 pub mod Among
@@ -13,6 +14,7 @@ pub mod Chosen
 pub mod Decided
 pub mod EntryItems
 pub mod Gathering
+pub mod Imports
 pub mod Known
 pub mod MapApart
 pub mod MapBlocks

@@ -1,22 +1,5 @@
 -- The ranges of a map have no address in common.
-use Rattle.std.proofs.Common.{◌≡◌, ℕ, zero, suc, ◌+◌, ◌<◌, Bool, true, false, ◌||◌, if◌then◌else◌, List, [], ◌∷◌, ◌++◌, length, map, get_or, AllPairs, Option, Some, None, ⊎_elim, true≢false, refl, sym, subst, arith, append_assoc, length-append}
-use Rattle.std.specs.List.{list_any}
-use Rattle.std.proofs.lemmas.Bool.{cases_lt}
-use Rattle.std.proofs.lemmas.Bool.Decides.{nat_tests}
-use Rattle.std.proofs.lemmas.List.{append-nil, get_or_append_left, get_or_at}
-use Rattle.btr_reader_walk.specs.outside.History.{Image}
-use Rattle.btr_reader_walk.specs.refusals.declared.refusal.BtrRefusal.{BtrRefusal}
-use Rattle.btr_reader_walk.specs.refusals.declared.refusal.BtrRefusal.TheVariants.{BadBtrfs}
-use Rattle.btr_reader_walk.specs.refusals.declared.rule.BtrRule.TheVariants.{ChunkForm}
-use Rattle.btr_super.specs.declared.superblock.Super.{Super}
-use Rattle.btr_reader_walk.specs.declared.map.MapRange.{MapRange}
-use Rattle.btr_reader_walk.specs.Events.{TreeItem}
-use Rattle.btr_reader_walk.specs.Walks.{found}
-use Rattle.btr_reader_contents.proofs.ExtentLists.{none_left, none_right}
-use Rattle.btr_reader.specs.declared.chunk.ChunkAt.{ChunkAt}
-use Rattle.btr_reader.specs.Chunks.{range_of, overlap, chunk_refusals, beside_refusals, chunks_refusals, chunk_in, with_chunk, chunk_item_refusals, with_items, items_refusals}
-use Rattle.btr_reader.specs.Laws.{AreApart}
-use Rattle.btr_reader.specs.Opening.{chunk_tree, boot_chunks, boot_list, boot_refusals, IsOpened}
+use Rattle.btr_reader.proofs.Imports.{◌≡◌, ℕ, zero, suc, ◌+◌, ◌<◌, Bool, true, false, ◌||◌, if◌then◌else◌, List, [], ◌∷◌, ◌++◌, length, map, get_or, AllPairs, Option, Some, None, ⊎_elim, true≢false, refl, sym, subst, arith, append_assoc, length-append, list_any, cases_lt, nat_tests, append-nil, get_or_append_left, get_or_at, Image, BtrRefusal, BadBtrfs, ChunkForm, Super, MapRange, TreeItem, found, none_left, none_right, ChunkAt, range_of, overlap, chunk_refusals, beside_refusals, chunks_refusals, chunk_in, with_chunk, chunk_item_refusals, with_items, items_refusals, AreRangesApart, chunk_tree, boot_chunks, boot_list, boot_refusals, IsBtrfsOpened}
 use Rattle.btr_reader.proofs.MapBlocks.{opened_sound}
 
 or_first : (a b : Bool) → (a || b) ≡ false → a ≡ false
@@ -48,7 +31,7 @@ pairs_more R xs y all last i j d before within =
     (cases_lt j (length xs))
 
 -- ranges that do not overlap have no address in common
-apart : (a b : MapRange) → overlap b a ≡ false → AreApart a b
+apart : (a b : MapRange) → overlap b a ≡ false → AreRangesApart a b
 apart a b none address first second = grind (arith, nat_tests, none, first.from, first.below, second.from, second.below)
 
 if_none : (b : Bool) (r : BtrRefusal) → (if b then r ∷ [] else []) ≡ [] → b ≡ false
@@ -56,35 +39,35 @@ if_none false r none = refl
 if_none true r none = absurd (cc none)
 
 -- a map with one more chunk with which nothing is wrong
-chunk_apart : (device : ℕ) (others : List MapRange) (c : ChunkAt) → AllPairs AreApart others → beside_refusals device others c ≡ [] → AllPairs AreApart (others ++ range_of c ∷ [])
+chunk_apart : (device : ℕ) (others : List MapRange) (c : ChunkAt) → AllPairs AreRangesApart others → beside_refusals device others c ≡ [] → AllPairs AreRangesApart (others ++ range_of c ∷ [])
 chunk_apart device others c all none =
     let any = if_none (list_any (overlap (range_of c)) others) (BadBtrfs c.logical ChunkForm) (none_right (chunk_refusals device c) _ none) in
-    pairs_more AreApart others (range_of c) all (λ i d within. apart (get_or others i d) (range_of c) (any_none (overlap (range_of c)) others any i d within))
+    pairs_more AreRangesApart others (range_of c) all (λ i d within. apart (get_or others i d) (range_of c) (any_none (overlap (range_of c)) others any i d within))
 
-chunks_apart : (device : ℕ) (others : List MapRange) (cs : List ChunkAt) → AllPairs AreApart others → chunks_refusals device others cs ≡ [] → AllPairs AreApart (others ++ map range_of cs)
-chunks_apart device others [] all none = subst (AllPairs AreApart) (sym (append-nil others)) all
+chunks_apart : (device : ℕ) (others : List MapRange) (cs : List ChunkAt) → AllPairs AreRangesApart others → chunks_refusals device others cs ≡ [] → AllPairs AreRangesApart (others ++ map range_of cs)
+chunks_apart device others [] all none = subst (AllPairs AreRangesApart) (sym (append-nil others)) all
 chunks_apart device others (c ∷ cs) all none =
     let own : List BtrRefusal = beside_refusals device others c in
     let rest : List BtrRefusal = chunks_refusals device (others ++ range_of c ∷ []) cs in
-    subst (AllPairs AreApart) (append_assoc others (range_of c ∷ []) (map range_of cs))
+    subst (AllPairs AreRangesApart) (append_assoc others (range_of c ∷ []) (map range_of cs))
     (chunks_apart device (others ++ range_of c ∷ []) cs (chunk_apart device others c all (none_left own rest none)) (none_right own rest none))
 
-no_pairs : AllPairs AreApart []
+no_pairs : AllPairs AreRangesApart []
 no_pairs i j d before within = absurd (omega (arith, before, within))
 
-boot_apart : (device : ℕ) (chunks : Option (List ChunkAt)) → boot_refusals device chunks ≡ [] → AllPairs AreApart (map range_of (boot_list chunks))
+boot_apart : (device : ℕ) (chunks : Option (List ChunkAt)) → boot_refusals device chunks ≡ [] → AllPairs AreRangesApart (map range_of (boot_list chunks))
 boot_apart device None none = no_pairs
 boot_apart device (Some chunks) none = chunks_apart device [] chunks no_pairs none
 
 -- a map after an item of the chunk tree
-with_chunk_apart : (device : ℕ) (ranges : List MapRange) (logical : ℕ) (o : Option (Option ChunkAt)) → chunk_item_refusals device ranges logical o ≡ [] → AllPairs AreApart ranges
-    → AllPairs AreApart (with_chunk ranges o)
+with_chunk_apart : (device : ℕ) (ranges : List MapRange) (logical : ℕ) (o : Option (Option ChunkAt)) → chunk_item_refusals device ranges logical o ≡ [] → AllPairs AreRangesApart ranges
+    → AllPairs AreRangesApart (with_chunk ranges o)
 with_chunk_apart device ranges logical None none all = all
 with_chunk_apart device ranges logical (Some None) none all = all
 with_chunk_apart device ranges logical (Some (Some c)) none all = chunk_apart device ranges c all none
 
-with_items_apart : (device : ℕ) (boot : List ChunkAt) (ranges : List MapRange) (items : List TreeItem) → items_refusals device boot ranges items ≡ [] → AllPairs AreApart ranges
-    → AllPairs AreApart (with_items boot ranges items)
+with_items_apart : (device : ℕ) (boot : List ChunkAt) (ranges : List MapRange) (items : List TreeItem) → items_refusals device boot ranges items ≡ [] → AllPairs AreRangesApart ranges
+    → AllPairs AreRangesApart (with_items boot ranges items)
 with_items_apart device boot ranges [] none all = all
 with_items_apart device boot ranges (i ∷ items) none all =
     let o : Option (Option ChunkAt) = chunk_in boot i.key i.body in
@@ -94,9 +77,9 @@ with_items_apart device boot ranges (i ∷ items) none all =
     (with_chunk_apart device ranges i.key.offset o (none_left own rest none) all)
 
 -- the map of a volume that was opened
-pub opened_apart : (image : Image) (s : Super) (ranges : List MapRange) → IsOpened image s ranges → AllPairs AreApart ranges
+pub opened_apart : (image : Image) (s : Super) (ranges : List MapRange) → IsBtrfsOpened image s ranges → AllPairs AreRangesApart ranges
 opened_apart image s ranges opened =
     let device : ℕ = length image in
     let boot : List ChunkAt = boot_list (boot_chunks s) in
     let sound = opened_sound image s ranges opened in
-    subst (AllPairs AreApart) (sym opened.map_is) (with_items_apart device boot (map range_of boot) (found image (map range_of boot) (chunk_tree s)) sound.1 (boot_apart device (boot_chunks s) sound.0))
+    subst (AllPairs AreRangesApart) (sym opened.map_is) (with_items_apart device boot (map range_of boot) (found image (map range_of boot) (chunk_tree s)) sound.1 (boot_apart device (boot_chunks s) sound.0))

@@ -1,29 +1,12 @@
 -- The ranges of a map begin and end with blocks.
-use Rattle.std.proofs.Common.{◌≡◌, ℕ, ◌+◌, ◌*◌, ◌%◌, ◌≤◌, eqb, nat_le, true, List, [], ◌∷◌, ◌++◌, length, map, Option, Some, None, refl, sym, ◌∙◌, subst, arith}
-use Rattle.std.proofs.lemmas.Bool.Decides.{nat_tests}
-use Rattle.std.proofs.lemmas.List.Elements.{All-nil, All-cons, All-append}
-use Rattle.btr_reader_walk.specs.outside.History.{Image}
-use Rattle.btr_reader_walk.specs.refusals.declared.refusal.BtrRefusal.{BtrRefusal}
-use Rattle.btr_reader_walk.specs.refusals.declared.refusal.BtrRefusal.TheVariants.{BadBtrfs, Unsupported}
-use Rattle.btr_reader_walk.specs.refusals.declared.rule.BtrRule.TheVariants.{ChunkForm}
-use Rattle.btr_reader_walk.specs.refusals.declared.rule.Feature.TheVariants.{ChunkType}
-use Rattle.btr_super.specs.declared.superblock.Super.{Super}
-use Rattle.btr_reader_walk.specs.declared.map.MapRange.{MapRange}
-use Rattle.btr_reader_walk.specs.Events.{TreeItem}
-use Rattle.btr_reader_walk.specs.Walks.{LieOn, wrong, found}
-use Rattle.btr_reader_contents.specs.Blocks.{IsInBlocks, AreInBlocks}
-use Rattle.btr_reader_contents.specs.Extents.{unless}
-use Rattle.btr_reader_contents.proofs.ExtentLists.{none_left, none_right, holds_unless, first, second}
-use Rattle.btr_reader.specs.declared.chunk.ChunkAt.{ChunkAt}
-use Rattle.btr_reader.specs.Chunks.{range_of, is_read_kind, lies_on, chunk_refusals, beside_refusals, chunks_refusals, chunk_in, with_chunk, chunk_item_refusals, with_items, items_refusals}
-use Rattle.btr_reader.specs.Opening.{chunk_tree, root_tree, boot_chunks, boot_list, boot_refusals, map_from, or_later, trees_refusals, IsOpened}
+use Rattle.btr_reader.proofs.Imports.{◌≡◌, ℕ, ◌+◌, ◌*◌, ◌%◌, ◌≤◌, eqb, nat_le, true, List, [], ◌∷◌, ◌++◌, length, map, Option, Some, None, refl, sym, ◌∙◌, subst, arith, nat_tests, All-nil, All-cons, All-append, Image, BtrRefusal, BadBtrfs, Unsupported, ChunkForm, ChunkType, Super, MapRange, TreeItem, LieOn, wrong, found, IsInBlocks, AreInBlocks, refused_unless, none_left, none_right, holds_unless, first, second, ChunkAt, range_of, is_read_kind, lies_on, stripe_lies_on, stripes_of, chunk_refusals, beside_refusals, chunks_refusals, chunk_in, with_chunk, chunk_item_refusals, with_items, items_refusals, chunk_tree, root_tree, boot_chunks, boot_list, boot_refusals, map_from, or_later, trees_refusals, IsBtrfsOpened}
 use Rattle.btr_reader.proofs.Opens.{opening_is}
 
 on_device : (device : ℕ) (c : ChunkAt) → chunk_refusals device c ≡ [] → lies_on device c ≡ true
 on_device device c none =
-    let plain : List BtrRefusal = unless (is_read_kind c.chunk.kind) (Unsupported ChunkType c.chunk.kind) in
-    let single : List BtrRefusal = unless (eqb c.chunk.num_stripes 1) (Unsupported ChunkType c.chunk.num_stripes) in
-    let placed : List BtrRefusal = unless (lies_on device c) (BadBtrfs c.logical ChunkForm) in
+    let plain : List BtrRefusal = refused_unless (is_read_kind c.chunk.kind) (Unsupported ChunkType c.chunk.kind) in
+    let single : List BtrRefusal = refused_unless (eqb c.chunk.num_stripes (stripes_of c.chunk.kind)) (Unsupported ChunkType c.chunk.num_stripes) in
+    let placed : List BtrRefusal = refused_unless (lies_on device c) (BadBtrfs c.logical ChunkForm) in
     holds_unless (lies_on device c) (BadBtrfs c.logical ChunkForm) (none_right single placed (none_right plain (single ++ placed) none))
 
 is_in_blocks : (device : ℕ) (c : ChunkAt) → lies_on device c ≡ true → IsInBlocks (range_of c)
@@ -31,14 +14,16 @@ is_in_blocks device c h =
     let logical : eqb (c.logical % 4096) 0 ≡ true = first (eqb (c.logical % 4096) 0) _ h in
     let rest = second (eqb (c.logical % 4096) 0) _ h in
     let long : eqb (c.chunk.length % 4096) 0 ≡ true = first (eqb (c.chunk.length % 4096) 0) _ rest in
-    let place : eqb (c.chunk.stripe.offset % 4096) 0 ≡ true = first (eqb (c.chunk.stripe.offset % 4096) 0) _ (second (eqb (c.chunk.length % 4096) 0) _ rest) in
+    let stripe : stripe_lies_on device c.chunk.length c.chunk.stripe ≡ true = first (stripe_lies_on device c.chunk.length c.chunk.stripe) _ (second (eqb (c.chunk.length % 4096) 0) _ rest) in
+    let place : eqb (c.chunk.stripe.offset % 4096) 0 ≡ true = first (eqb (c.chunk.stripe.offset % 4096) 0) _ stripe in
     record { logical = grind (arith, nat_tests, logical); length = grind (arith, nat_tests, long); physical = grind (arith, nat_tests, place) }
 
 -- a map with one more chunk that lies on the device
 pub added_inside : (device : ℕ) (ranges made : List MapRange) (c : ChunkAt) → LieOn device ranges → lies_on device c ≡ true → made ≡ ranges ++ range_of c ∷ [] → LieOn device made
 added_inside device ranges made c all h is =
     let rest = second (eqb (c.logical % 4096) 0) _ h in
-    let last : nat_le (c.chunk.stripe.offset + c.chunk.length) (4096 * device) ≡ true = second (eqb (c.chunk.stripe.offset % 4096) 0) _ (second (eqb (c.chunk.length % 4096) 0) _ rest) in
+    let stripe : stripe_lies_on device c.chunk.length c.chunk.stripe ≡ true = first (stripe_lies_on device c.chunk.length c.chunk.stripe) _ (second (eqb (c.chunk.length % 4096) 0) _ rest) in
+    let last : nat_le (c.chunk.stripe.offset + c.chunk.length) (4096 * device) ≡ true = second (eqb (c.chunk.stripe.offset % 4096) 0) _ stripe in
     let P : MapRange → Type 0 = λ r. r.physical + r.length ≤ 4096 * device in
     subst (LieOn device) (sym is) (All-append P ranges (range_of c ∷ []) all (All-cons P (range_of c) [] (grind (arith, nat_tests, last)) (All-nil P)))
 
@@ -86,7 +71,7 @@ later_none [] ys none = none
 later_none (x ∷ xs) ys none = absurd (cc none)
 
 -- nothing is wrong with the array of a volume that was opened, nor with the items of its chunk tree
-pub opened_sound : (image : Image) (s : Super) (ranges : List MapRange) → IsOpened image s ranges
+pub opened_sound : (image : Image) (s : Super) (ranges : List MapRange) → IsBtrfsOpened image s ranges
     → (boot_refusals (length image) (boot_chunks s) ≡ []) × (items_refusals (length image) (boot_list (boot_chunks s)) (map range_of (boot_list (boot_chunks s))) (found image (map range_of (boot_list (boot_chunks s))) (chunk_tree s)) ≡ [])
 opened_sound image s ranges opened =
     let device : ℕ = length image in
@@ -100,7 +85,7 @@ opened_sound image s ranges opened =
     )
 
 -- the map of a volume that was opened
-pub opened_in_blocks : (image : Image) (s : Super) (ranges : List MapRange) → IsOpened image s ranges → AreInBlocks ranges
+pub opened_in_blocks : (image : Image) (s : Super) (ranges : List MapRange) → IsBtrfsOpened image s ranges → AreInBlocks ranges
 opened_in_blocks image s ranges opened =
     let device : ℕ = length image in
     let boot : List ChunkAt = boot_list (boot_chunks s) in

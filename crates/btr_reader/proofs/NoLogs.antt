@@ -1,16 +1,5 @@
 -- Refusals that name no log tree.
-use Rattle.std.proofs.Common.{◌==◌, ℕ, zero, suc, ◌+◌, ◌/◌, Bool, true, false, cond, List, [], ◌∷◌, ◌++◌, Contains, Option, Some, None}
-use Rattle.std.specs.List.{All}
-use Rattle.std.proofs.lemmas.List.Elements.{All-nil, All-cons, All-append, All-contains}
-use Rattle.btr_reader_walk.specs.refusals.declared.refusal.BtrRefusal.{BtrRefusal}
-use Rattle.btr_reader_walk.specs.refusals.declared.refusal.BtrRefusal.TheVariants.{BadBtrfs, Unsupported}
-use Rattle.btr_reader_walk.specs.refusals.declared.rule.BtrRule.TheVariants.{ExtentForm}
-use Rattle.btr_reader_walk.specs.refusals.declared.rule.Feature.TheVariants.{Compression, Encryption}
-use Rattle.btr_reader_walk.specs.btr_keys.FileExtent.{ContentValue, Inline, Regular, Prealloc, FileExtentValue}
-use Rattle.btr_super.specs.Rules.{NamesNoLog}
-use Rattle.btr_reader_walk.specs.declared.map.MapRange.{MapRange}
-use Rattle.btr_reader_walk.specs.Map.{place}
-use Rattle.btr_reader_contents.specs.Extents.{unless, at_unmapped, unmapped_in, place_refusals, has_form, is_hole, extent_refusals}
+use Rattle.btr_reader.proofs.Imports.{◌==◌, ℕ, zero, suc, ◌+◌, ◌/◌, Bool, true, false, cond, List, [], ◌∷◌, ◌++◌, Contains, Option, Some, None, All, All-nil, All-cons, All-append, All-contains, BtrRefusal, BadBtrfs, Unsupported, ExtentForm, Compression, Encryption, ContentValue, Inline, Regular, Prealloc, FileExtentValue, NamesNoLog, MapRange, place, refused_unless, at_unmapped, unmapped_in, place_refusals, has_form, is_hole, extent_refusals}
 
 abbrev NoneNamesLog : List BtrRefusal → Type 0
 NoneNamesLog rs = All NamesNoLog rs
@@ -24,7 +13,7 @@ one r h = All-cons NamesNoLog r [] h none
 both : (xs ys : List BtrRefusal) → NoneNamesLog xs → NoneNamesLog ys → NoneNamesLog (xs ++ ys)
 both xs ys first second = All-append NamesNoLog xs ys first second
 
-by_test : (t : Bool) (r : BtrRefusal) → NamesNoLog r → NoneNamesLog (unless t r)
+by_test : (t : Bool) (r : BtrRefusal) → NamesNoLog r → NoneNamesLog (refused_unless t r)
 by_test true r h = none
 by_test false r h = one r h
 
@@ -49,7 +38,7 @@ by_content ranges (Prealloc r) = none
 pub of_extent : (ranges : List MapRange) (end covered offset leaf : ℕ) (e : FileExtentValue) (r : BtrRefusal) → Contains (extent_refusals ranges end covered offset leaf e) r → NamesNoLog r
 of_extent ranges end covered offset leaf e r among =
     let placed = by_content ranges e.content in
-    let formed = both (unless (has_form end covered offset e.content) (BadBtrfs leaf ExtentForm)) (place_refusals ranges e.content) (by_test (has_form end covered offset e.content) (BadBtrfs leaf ExtentForm) tt) placed in
-    let unencrypted = both (unless (e.encryption == 0) (Unsupported Encryption e.encryption)) _ (by_test (e.encryption == 0) (Unsupported Encryption e.encryption) tt) formed in
-    let all = both (unless (e.compression == 0) (Unsupported Compression e.compression)) _ (by_test (e.compression == 0) (Unsupported Compression e.compression) tt) unencrypted in
+    let formed = both (refused_unless (has_form end covered offset e.content) (BadBtrfs leaf ExtentForm)) (place_refusals ranges e.content) (by_test (has_form end covered offset e.content) (BadBtrfs leaf ExtentForm) tt) placed in
+    let unencrypted = both (refused_unless (e.encryption == 0) (Unsupported Encryption e.encryption)) _ (by_test (e.encryption == 0) (Unsupported Encryption e.encryption) tt) formed in
+    let all = both (refused_unless (e.compression == 0) (Unsupported Compression e.compression)) _ (by_test (e.compression == 0) (Unsupported Compression e.compression) tt) unencrypted in
     All-contains NamesNoLog (extent_refusals ranges end covered offset leaf e) r all among

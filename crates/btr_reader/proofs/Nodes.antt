@@ -1,22 +1,10 @@
 -- What a tree gives depends on the blocks of its nodes alone.
-use Rattle.std.proofs.Common.{◌≡◌, ◌∙◌, ℕ, zero, suc, ◌+◌, ◌*◌, ◌/◌, ◌<◌, Bool, List, [], ◌∷◌, ◌++◌, Option, Some, None, refl, sym, ap, subst, arith, if◌then◌else◌}
-use Rattle.std.specs.List.{All, flat_map}
-use Rattle.std.proofs.lemmas.List.Elements.{All-nil, All-cons, All-head, All-tail}
-use Rattle.btr_reader_walk.specs.outside.History.{Image}
-use Rattle.btr_reader_walk.specs.refusals.declared.refusal.BtrRefusal.{BtrRefusal}
+use Rattle.btr_reader.proofs.Imports.{◌≡◌, ◌∙◌, ℕ, zero, suc, ◌+◌, ◌*◌, ◌/◌, ◌<◌, Bool, List, [], ◌∷◌, ◌++◌, Option, Some, None, refl, sym, ap, subst, arith, if◌then◌else◌, All, flat_map, All-nil, All-cons, All-head, All-tail, Image, BtrRefusal, Unmapped, TreeEvent, items_in_events, may_be_bare, nodes_in, block_of_place, blocks_at, is_mapped, node_at, place, found, met, wrong, MapRange, NodePointer, Tree, AreNodesApart, IsApart, IsNodeApart, IsSameOutside}
 use Rattle.btr_reader_walk.specs.refusals.declared.rule.BtrRule.{BtrRule}
-use Rattle.btr_reader_walk.specs.refusals.declared.rule.BtrRule.TheVariants.{Unmapped}
-use Rattle.btr_reader_walk.specs.Events.{Event, items_in_events, may_be_bare, nodes_in}
-use Rattle.btr_reader_walk.specs.Map.{block_of_place, blocks_at, is_mapped, node_at, place}
 use Rattle.btr_reader_walk.specs.Node.{content_damages, node_damages, want}
 use Rattle.btr_reader_walk.specs.Tree.{at_address, node_faults, order_damages, pointer_damages}
-use Rattle.btr_reader_walk.specs.Walks.{found, met, wrong}
-use Rattle.btr_reader_walk.specs.declared.map.MapRange.{MapRange}
 use Rattle.btr_reader_walk.specs.declared.tree.Form.{Form}
-use Rattle.btr_reader_walk.specs.declared.tree.Pointer.{Pointer}
-use Rattle.btr_reader_walk.specs.declared.tree.Tree.{Tree}
 use Rattle.btr_reader_walk.proofs.Decides.{nodes_decide}
-use Rattle.btr_reader.specs.Apart.{AreNodesApart, IsApart, IsNodeApart, IsSameOutside}
 
 all_weaker : {X : Type 0} (P Q : X → Type 0) → ((x : X) → P x → Q x) → (xs : List X) → All P xs → All Q xs
 all_weaker P Q turn [] all = All-nil Q
@@ -28,10 +16,10 @@ flat_map_same P f g each (x ∷ xs) all =
     ap (λ z. z ++ flat_map g xs) (each x (All-head P x xs all)) ∙ ap (λ z. f x ++ z) (flat_map_same P f g each xs (All-tail P x xs all))
 
 -- what a node breaks, by its bytes
-abbrev breaks : List MapRange → Form → ℕ → Bool → Pointer → List ℕ → List BtrRule
+abbrev breaks : List MapRange → Form → ℕ → Bool → NodePointer → List ℕ → List BtrRule
 breaks ranges form owner bare p bytes = if is_mapped ranges form.nodesize p.address then content_damages (want form owner p) bare bytes else Unmapped ∷ []
 
-same_damages : (image other : Image) (ranges : List MapRange) (form : Form) (owner : ℕ) (bare : Bool) (p : Pointer)
+same_damages : (image other : Image) (ranges : List MapRange) (form : Form) (owner : ℕ) (bare : Bool) (p : NodePointer)
     → node_at other ranges form.nodesize p.address ≡ node_at image ranges form.nodesize p.address
     → node_damages other ranges form owner bare p ≡ node_damages image ranges form owner bare p
 unfolding node_damages
@@ -51,7 +39,7 @@ module _ (test : ℕ → Bool) (image other : Image) (same : IsSameOutside test 
       λ k less. (let next : address + 4096 * (k + 1) ≡ address + 4096 + 4096 * k = omega arith in subst (λ (a : ℕ). IsApart test (place ranges a)) next (apart (k + 1) (omega (arith, less)))) in
       ap (λ (z : List ℕ). z ++ blocks_at other ranges n (address + 4096)) here ∙ ap (λ (z : List ℕ). block_of_place image (place ranges address) ++ z) (blocks_same n (address + 4096) later)
 
-  node_same : (nodesize : ℕ) (p : Pointer) → IsNodeApart test ranges nodesize p → node_at other ranges nodesize p.address ≡ node_at image ranges nodesize p.address
+  node_same : (nodesize : ℕ) (p : NodePointer) → IsNodeApart test ranges nodesize p → node_at other ranges nodesize p.address ≡ node_at image ranges nodesize p.address
   unfolding node_at
   node_same nodesize p apart = blocks_same (nodesize / 4096) p.address apart
 
@@ -76,9 +64,9 @@ module _ (test : ℕ → Bool) (image other : Image) (same : IsSameOutside test 
 
     pub wrong_same : wrong other ranges tree ≡ wrong image ranges tree
     wrong_same =
-        ap (λ (events : List Event). node_faults other ranges tree.form tree.owner (may_be_bare tree.root) events ++ order_damages None (items_in_events events)) met_same
+        ap (λ (events : List TreeEvent). node_faults other ranges tree.form tree.owner (may_be_bare tree.root) events ++ order_damages None (items_in_events events)) met_same
         ∙ ap (λ (faults : List BtrRefusal). faults ++ order_damages None (found image ranges tree)) faults_same
 
     -- the nodes of the other disk's tree lie apart, too
     pub apart_same : AreNodesApart test other ranges tree
-    apart_same = subst (λ (events : List Event). All (IsNodeApart test ranges tree.form.nodesize) (nodes_in events)) (sym met_same) apart
+    apart_same = subst (λ (events : List TreeEvent). All (IsNodeApart test ranges tree.form.nodesize) (nodes_in events)) (sym met_same) apart

@@ -1,21 +1,7 @@
 -- What is gathered of a file after one more item of its tree.
-use Rattle.std.proofs.Common.{◌≡◌, ℕ, ◌+◌, ◌≤◌, Bool, true, false, ◌||◌, List, [], ◌∷◌, ◌++◌, Option, Some, Contains, refl, sym, ◌∙◌, ap, subst}
-use Rattle.std.proofs.lemmas.List.Elements.{Contains-append_left, Contains-append_right, filter-append}
+use Rattle.btr_reader.proofs.Imports.{◌≡◌, ℕ, ◌+◌, ◌≤◌, Bool, true, false, ◌||◌, List, [], ◌∷◌, ◌++◌, Option, Some, Contains, refl, sym, ◌∙◌, ap, subst, Contains-append_left, Contains-append_right, filter-append, BtrAnswer, BtrRefusal, FileExtentValue, file_extent_of, MapRange, TreeItem, none_both, Gathered, MappedExtent, is_extent_of, extents_of, extent_length, covered_by, end_after, covered_after, has_form, extent_refusals, refusals_at, extents_refusals, extents_end, extents_covered, content_is_inline, is_inline, IsAmong, pieces_place, pieces_of, any_inline, GathersExtents, extents_refusals-append, extents_end-append, extents_covered-append, form_of_sound, behind_end, aligned_of, extents_of-one}
 use Rattle.std.proofs.lemmas.List.Folds.{list_any-append}
-use Rattle.btr_reader_walk.specs.refusals.declared.answer.BtrAnswer.{BtrAnswer}
-use Rattle.btr_reader_walk.specs.refusals.declared.refusal.BtrRefusal.{BtrRefusal}
-use Rattle.btr_reader_walk.specs.btr_keys.FileExtent.{FileExtentValue, file_extent_of}
-use Rattle.btr_reader_walk.specs.declared.map.MapRange.{MapRange}
-use Rattle.btr_reader_walk.specs.Events.{TreeItem}
-use Rattle.btr_reader_walk.proofs.Events.{none_both}
-use Rattle.btr_reader.specs.declared.gathered.Gathered.{Gathered}
-use Rattle.btr_reader.specs.declared.piece.Piece.{Piece}
-use Rattle.btr_reader_contents.specs.Extents.{is_extent_of, extents_of, extent_length, covered_by, end_after, covered_after, has_form, extent_refusals, refusals_at, extents_refusals, extents_end, extents_covered}
-use Rattle.btr_reader.specs.Image.{content_is_inline, is_inline}
-use Rattle.btr_reader.specs.Opening.{IsAmong}
-use Rattle.btr_reader.specs.Pieces.{pieces_place, pieces_of, any_inline, Gathers}
 use Rattle.btr_reader.proofs.Among.{among_left}
-use Rattle.btr_reader_contents.proofs.ExtentLists.{extents_refusals-append, extents_end-append, extents_covered-append, form_of_sound, behind_end, aligned_of, extents_of-one}
 use Rattle.btr_reader.proofs.Gathering.{one_more}
 
 -- what is wrong with an extent behind others is wrong with all
@@ -38,10 +24,10 @@ or_false false = refl
 
 -- an extent was added
 pub gathers_one : (ranges : List MapRange) (ino : ℕ) (given : List TreeItem) (i : TreeItem) (g h : Gathered) (x : FileExtentValue) → is_extent_of ino i ≡ true → file_extent_of i.body ≡ Some x
-    → Gathers ranges (extents_of given ino) g → extent_refusals ranges g.reach.end g.reach.covered i.key.offset i.leaf x ≡ []
+    → GathersExtents ranges (extents_of given ino) g → extent_refusals ranges g.reach.end g.reach.covered i.key.offset i.leaf x ≡ []
     → h.reach.end ≡ i.key.offset + extent_length x.content → h.reach.covered ≡ g.reach.covered + covered_by x.content
     → h.inline ≡ (g.inline || content_is_inline x.content) → h.pieces.items ≡ g.pieces.items ++ pieces_of i.key.offset x.content
-    → Gathers ranges (extents_of (given ++ i ∷ []) ino) h
+    → GathersExtents ranges (extents_of (given ++ i ∷ []) ino) h
 gathers_one ranges ino given i g h x own read k none ends covers inline pieces =
     let done : List TreeItem = extents_of given ino in
     let end : ℕ = extents_end 0 done in
@@ -52,7 +38,7 @@ gathers_one ranges ino given i g h x own read k none ends covers inline pieces =
     ∙ (ap (λ (c : ℕ). extent_refusals ranges g.reach.end c i.key.offset i.leaf x) (sym k.covered) ∙ none)) in
     let form : has_form g.reach.end g.reach.covered i.key.offset x.content ≡ true = form_of_sound ranges g.reach.end g.reach.covered i.key.offset i.leaf x none in
     let behind : end ≤ i.key.offset = subst (λ (e : ℕ). e ≤ i.key.offset) k.end (behind_end g.reach.end g.reach.covered i.key.offset x.content form) in
-    subst (λ (z : List TreeItem). Gathers ranges z h) (sym (extents_of-one given i ino own))
+    subst (λ (z : List TreeItem). GathersExtents ranges z h) (sym (extents_of-one given i ino own))
     (record {
       sound =
           extents_refusals-append ranges 0 0 done (i ∷ [])
@@ -68,7 +54,7 @@ gathers_one ranges ino given i g h x own read k none ends covers inline pieces =
           ∙ sym (list_any-append (λ (e : TreeItem). is_inline (file_extent_of e.body)) done (i ∷ []))));
       blocks =
           λ b.
-          ap (λ (z : List Piece). pieces_place ranges z b) pieces
+          ap (λ (z : List MappedExtent). pieces_place ranges z b) pieces
           ∙ one_more ranges done i x g.pieces.items b read k.sound behind (aligned_of g.reach.end g.reach.covered i.key.offset x.content form) (k.blocks b);
     })
 

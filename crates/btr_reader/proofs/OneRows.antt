@@ -1,31 +1,8 @@
 -- The rows of a volume are one list.
-use Rattle.std.proofs.Common.{◌≡◌, ℕ, ◌+◌, ◌<◌, Bool, append_assoc, length-take-le, List, [], ◌∷◌, ◌++◌, length, get_or, take, drop, Contains, Some, ⊎_elim, refl, sym, ap, subst, ◌∙◌, arith}
-use Rattle.std.proofs.lemmas.Bool.{cases_lt}
-use Rattle.std.proofs.lemmas.Bool.Decides.{nat_tests}
-use Rattle.std.proofs.lemmas.List.{get_or_default}
+use Rattle.btr_reader.proofs.Imports.{◌≡◌, ℕ, ◌+◌, ◌<◌, Bool, append_assoc, length-take-le, List, [], ◌∷◌, ◌++◌, length, get_or, take, drop, Contains, Some, ⊎_elim, refl, sym, ap, subst, ◌∙◌, arith, cases_lt, nat_tests, get_or_default, FS_TREE, Image, Inode, MapRange, NodePointer, TreeItem, found, NameList, WholeRow, name_count, Kind, neither_above, DirIndex, kind_of_mode, IsDirectoryInode, dir_indexes, followed, is_followed, IsNamedInode, root, entry, Target, inode, tree, NamesTarget, LeadsToTarget, has_root, AreIn, IsOpen, KeepsNames, twice, from_filter, BtrfsRowsAreOne, row_by, bytes_at, tree_of, pointer_of, top, IsLeastPath, IsInodeRow, IsRowOf, AreRows, roots_on, bad_names, subvolume_row}
 use Rattle.std.proofs.Math.ListN.{get_or-append}
-use Rattle.btr_reader_walk.specs.outside.History.{Image}
-use Rattle.btr_reader_walk.specs.btr_keys.declared.inode.Inode.{Inode}
-use Rattle.btr_reader_walk.specs.declared.map.MapRange.{MapRange}
-use Rattle.btr_reader_walk.specs.declared.tree.Pointer.{Pointer}
-use Rattle.btr_reader_walk.specs.Events.{TreeItem}
-use Rattle.btr_reader_walk.specs.Walks.{found}
-use Rattle.fs_rows.specs.Rows.{NameList, WholeRow, name_count}
-use Rattle.fs_rows.specs.declared.row.Kind.{Kind}
-use Rattle.fs_paths.proofs.FirstPlaces.{neither_above}
 use Rattle.fs_paths.proofs.OneList.{rows_one}
-use Rattle.btr_reader_names.specs.declared.naming.Naming.{Naming}
-use Rattle.btr_reader_names.specs.Inodes.{kind_of_mode, IsDirectory}
-use Rattle.btr_reader_names.specs.Links.{namings, followed, is_followed, IsNamed, root, entry, Target, inode, tree, Names, Leads}
-use Rattle.btr_reader_names.specs.Roots.{has_root}
-use Rattle.btr_reader_names.specs.Rules.{AreIn, IsOpen, KeepsNames, twice}
 use Rattle.btr_reader_names.proofs.Members.{with_rest}
-use Rattle.fs_paths.proofs.Lists.{from_filter}
-use Rattle.btr_reader.specs.Laws.{BtrfsRowsAreOne}
-use Rattle.btr_reader.specs.Made.{row_by, bytes_at}
-use Rattle.btr_reader.specs.Opening.{tree_of}
-use Rattle.btr_reader.specs.Roots.{pointer_of}
-use Rattle.btr_reader.specs.Rows.{top, IsLeastPath, IsInodeRow, IsRowOf, AreRows, roots_on, bad_names, subvolume_row}
 
 -- two elements at places one behind the other
 in_order : {X : Type 0} (xs : List X) (x y : X) (i j : ℕ) → i < j → j < length xs → get_or xs i x ≡ x → get_or xs j y ≡ y → AreIn xs x y
@@ -41,7 +18,7 @@ in_order {X = X} xs x y i j less within first second =
     }
 
 -- an entry names one thing
-target_one : (n : Naming) (a b : Target) → Names n a → Names n b → a ≡ b
+target_one : (n : DirIndex) (a b : Target) → NamesTarget n a → NamesTarget n b → a ≡ b
 target_one n (inode a) (inode b) (is, first) (also, second) = ap (λ (ino : ℕ). inode ino) (sym first ∙ second)
 target_one n (inode a) (tree b) (is, first) (also, second) = absurd (grind (arith, nat_tests, is, also))
 target_one n (tree a) (inode b) (is, first) (also, second) = absurd (grind (arith, nat_tests, is, also))
@@ -49,37 +26,37 @@ target_one n (tree a) (tree b) (is, first) (also, second) = ap (λ (number : ℕ
 
 module _ (has : ℕ → Bool) (items : List TreeItem) (address : ℕ) (keeps : KeepsNames has items address) where
   -- no named directory has one name twice
-  one_name : (m n : Naming) → Contains (namings items) m → Contains (namings items) n → IsOpen items n.dir → m.dir ≡ n.dir → m.name ≡ n.name → m ≡ n
+  one_name : (m n : DirIndex) → Contains (dir_indexes items) m → Contains (dir_indexes items) n → IsOpen items n.dir → m.dir ≡ n.dir → m.name ≡ n.name → m ≡ n
   one_name m n (i, low, first) (j, below, second) opened dir name =
       ⊎_elim
-      (λ less. absurd (keeps _ (twice m n (in_order (namings items) m n i j less below first second) opened dir name refl)))
+      (λ less. absurd (keeps _ (twice m n (in_order (dir_indexes items) m n i j less below first second) opened dir name refl)))
       (λ not_less. ⊎_elim
-      (λ more. absurd (keeps _ (twice n m (in_order (namings items) n m j i more low second first) (subst (λ (d : ℕ). IsOpen items d) (sym dir) opened) (sym dir) (sym name) refl)))
+      (λ more. absurd (keeps _ (twice n m (in_order (dir_indexes items) n m j i more low second first) (subst (λ (d : ℕ). IsOpen items d) (sym dir) opened) (sym dir) (sym name) refl)))
       (λ not_more.
       let same : i ≡ j = omega (arith, not_less, not_more) in
-      sym first ∙ (ap (λ (k : ℕ). get_or (namings items) k m) same ∙ (get_or_default (namings items) j m n below ∙ second)))
+      sym first ∙ (ap (λ (k : ℕ). get_or (dir_indexes items) k m) same ∙ (get_or_default (dir_indexes items) j m n below ∙ second)))
       (cases_lt j i))
       (cases_lt i j)
 
   abbrev IsStart : Target → Type 0
-  IsStart (inode ino) = IsNamed items ino
+  IsStart (inode ino) = IsNamedInode items ino
   IsStart (tree number) = Unit {0}
 
-  goes_on : (n : Naming) (next : Target) → Contains (followed items) n → IsNamed items n.dir → IsDirectory items n.dir → Names n next → IsStart next
-  goes_on n (inode ino) among named directory (is, to) = subst (IsNamed items) to (entry n among named directory is)
+  goes_on : (n : DirIndex) (next : Target) → Contains (followed items) n → IsNamedInode items n.dir → IsDirectoryInode items n.dir → NamesTarget n next → IsStart next
+  goes_on n (inode ino) among named directory (is, to) = subst (IsNamedInode items) to (entry n among named directory is)
   goes_on n (tree number) among named directory names = tt
 
   -- a path leads to one thing
-  leads_one : (from : Target) (path : NameList) (a b : Target) → IsStart from → Leads items from path a → Leads items from path b → a ≡ b
+  leads_one : (from : Target) (path : NameList) (a b : Target) → IsStart from → LeadsToTarget items from path a → LeadsToTarget items from path b → a ≡ b
   leads_one from [] a b start first second = sym first ∙ second
   leads_one (tree number) (name ∷ names) a b start first second = absurd first
   leads_one (inode ino) (name ∷ names) a b start (m, next, among, dir, directory, called, gives, leads) (n, after, other, its_dir, its_directory, its_name, also, follows) =
-      let named : IsNamed items n.dir = subst (IsNamed items) (sym its_dir) start in
-      let opened : IsOpen items n.dir = record { named = named; directory = subst (IsDirectory items) (sym its_dir) its_directory } in
-      let same : m ≡ n = one_name m n (from_filter is_followed (namings items) m among).0 (from_filter is_followed (namings items) n other).0 opened (dir ∙ sym its_dir) (called ∙ sym its_name) in
-      let to : next ≡ after = target_one m next after gives (subst (λ (x : Naming). Names x after) (sym same) also) in
-      let on : IsStart next = goes_on m next among (subst (IsNamed items) (sym dir) start) (subst (IsDirectory items) (sym dir) directory) gives in
-      leads_one next names a b on leads (subst (λ (t : Target). Leads items t names b) (sym to) follows)
+      let named : IsNamedInode items n.dir = subst (IsNamedInode items) (sym its_dir) start in
+      let opened : IsOpen items n.dir = record { named = named; directory = subst (IsDirectoryInode items) (sym its_dir) its_directory } in
+      let same : m ≡ n = one_name m n (from_filter is_followed (dir_indexes items) m among).0 (from_filter is_followed (dir_indexes items) n other).0 opened (dir ∙ sym its_dir) (called ∙ sym its_name) in
+      let to : next ≡ after = target_one m next after gives (subst (λ (x : DirIndex). NamesTarget x after) (sym same) also) in
+      let on : IsStart next = goes_on m next among (subst (IsNamedInode items) (sym dir) start) (subst (IsDirectoryInode items) (sym dir) directory) gives in
+      leads_one next names a b on leads (subst (λ (t : Target). LeadsToTarget items t names b) (sym to) follows)
 
   least_one : (ino : ℕ) (p q : NameList) → IsLeastPath items ino p → IsLeastPath items ino q → p ≡ q
   least_one ino p q first second = neither_above p q (first.least q second.leads) (second.least p first.leads)
@@ -112,7 +89,7 @@ module _ (has : ℕ → Bool) (items : List TreeItem) (address : ℕ) (keeps : K
       bytes = r.bytes j;
     }
 
-    row_leads : (rows : List WholeRow) (row : WholeRow) (to : Target) → IsRowOf image ranges items rows to row → Leads items top row.path to
+    row_leads : (rows : List WholeRow) (row : WholeRow) (to : Target) → IsRowOf image ranges items rows to row → LeadsToTarget items top row.path to
     row_leads rows row (inode ino) r = r.leads
     row_leads rows row (tree number) r = r.leads
 
@@ -139,7 +116,7 @@ module _ (has : ℕ → Bool) (items : List TreeItem) (address : ℕ) (keeps : K
 
       one_target : (p q : Target) → IsRowOf image ranges items rows p a → IsRowOf image ranges items others q b → q ≡ p
       one_target p q first second =
-          leads_one top b.path q p root (row_leads others b q second) (subst (λ (path : NameList). Leads items top path p) same (row_leads rows a p first))
+          leads_one top b.path q p root (row_leads others b q second) (subst (λ (path : NameList). LeadsToTarget items top path p) same (row_leads rows a p first))
 
       pub one_least : (p q : Target) → IsRowOf image ranges items rows p a → IsRowOf image ranges items others q b → a.least ≡ b.least
       one_least p q first second = least_of p first (subst (λ (t : Target). IsRowOf image ranges items others t b) (one_target p q first second) second)
@@ -161,7 +138,7 @@ rows_are_one image s ranges rows others first second =
     let item : first.item ≡ second.item = cc in
     let pointed : Some first.at ≡ Some second.at = sym first.has_root ∙ (ap (λ (i : TreeItem). pointer_of i.body) item ∙ second.has_root) in
     let at : first.at ≡ second.at = cc in
-    let items = found image ranges (tree_of s 5 first.at) in
+    let items = found image ranges (tree_of s FS_TREE first.at) in
     let keeps : KeepsNames (has_root (roots_on image s ranges)) items first.at.address = λ r broken. first.readable r (bad_names first.item first.at first.has_item first.has_root broken) in
     are_one (has_root (roots_on image s ranges)) items first.at.address keeps image ranges rows others first.rows_are
-    (subst (λ (p : Pointer). AreRows image ranges (found image ranges (tree_of s 5 p)) others) (sym at) second.rows_are)
+    (subst (λ (p : NodePointer). AreRows image ranges (found image ranges (tree_of s FS_TREE p)) others) (sym at) second.rows_are)

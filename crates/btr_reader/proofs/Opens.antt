@@ -1,19 +1,5 @@
 -- The stages of opening a volume.
-use Rattle.std.proofs.Common.{◌≡◌, ℕ, List, [], ◌++◌, length, map, Some, Result, Ok, Contains, refl, sym, ◌∙◌, ap, subst, arith}
-use Rattle.btr_reader_walk.specs.outside.History.{Image}
-use Rattle.btr_reader_walk.specs.refusals.declared.answer.BtrAnswer.{BtrAnswer}
-use Rattle.btr_reader_walk.specs.refusals.declared.answer.BtrAnswer.TheVariants.{Refused, Fault, Memory}
-use Rattle.btr_reader_walk.specs.refusals.declared.refusal.BtrRefusal.{BtrRefusal}
-use Rattle.btr_super.specs.declared.superblock.Super.{Super}
-use Rattle.btr_reader_walk.specs.declared.map.MapRange.{MapRange}
-use Rattle.btr_reader_walk.specs.declared.tree.Tree.{Tree}
-use Rattle.btr_reader_walk.specs.Walks.{wrong, found}
-use Rattle.btr_reader.specs.declared.chunk.ChunkAt.{ChunkAt}
-use Rattle.btr_reader.specs.declared.roots.RootItems.{RootItems}
-use Rattle.btr_reader.specs.Chunks.{range_of, items_refusals, with_items}
-use Rattle.btr_reader.specs.Opening.{super_on, chunk_tree, root_tree, boot_chunks, boot_list, boot_refusals, map_from, or_later, trees_refusals, refusals_after, opening_refusals, IsOpened, IsAmong, IsSuperAnswer}
-use Rattle.btr_reader.specs.Roots.{HasRoots}
-use Rattle.btr_reader.specs.Rows.{roots_on}
+use Rattle.btr_reader.proofs.Imports.{◌≡◌, ℕ, List, [], ◌++◌, length, map, Some, Result, Ok, Contains, refl, sym, ◌∙◌, ap, subst, arith, Image, BtrAnswer, Refused, Fault, Memory, BtrRefusal, Super, MapRange, Tree, wrong, found, ChunkAt, RootItems, range_of, items_refusals, with_items, super_on, chunk_tree, root_tree, boot_chunks, boot_list, boot_refusals, map_from, or_later, trees_refusals, refusals_after, opening_refusals, IsBtrfsOpened, IsAmong, IsSuperAnswer, HasRoots, roots_on}
 use Rattle.btr_reader.proofs.Among.{among_first, among_later, none_later}
 
 pub opening_is : (image : Image) (s : Super) → super_on image ≡ Ok s
@@ -83,7 +69,7 @@ module _ (image : Image) (s : Super) (device : ℕ) (chunks : List ChunkAt) (fir
         (subst (λ (t : Tree). IsAmong (wrong image (map_from image s (here s)) t) e) root_is
         (subst (λ (r : List MapRange). IsAmong (wrong image r root) e) (copied ∙ same_map) bad))))
 
-    pub opened : wrong image other root ≡ [] → IsOpened image s ranges
+    pub opened : wrong image other root ≡ [] → IsBtrfsOpened image s ranges
     opened right = record {
       sound =
           opening_is image s read

@@ -1,22 +1,7 @@
 -- What the rows of a volume are refused by, and its parts.
-use Rattle.std.proofs.Common.{◌≡◌, inl, inr, ℕ, ◌==◌, Bool, false, cond, List, [], ◌∷◌, length, map, Some, None, Result, Ok, Err, Contains, refl, sym, ◌∙◌, ap, subst, arith}
-use Rattle.std.specs.Result.{MatchResult}
-use Rattle.std.proofs.lemmas.Bool.Decides.{nat_tests}
-use Rattle.fs_rows.specs.Rows.{WholeRow, row_of}
-use Rattle.fs_rows.specs.declared.row.Row.{Row}
-use Rattle.btr_reader_walk.specs.outside.History.{Image, block_at}
-use Rattle.btr_reader_walk.specs.refusals.declared.answer.BtrAnswer.{BtrAnswer}
-use Rattle.btr_reader_walk.specs.refusals.declared.answer.BtrAnswer.TheVariants.{Refused, Fault, Memory}
-use Rattle.btr_reader_walk.specs.refusals.declared.refusal.BtrRefusal.{BtrRefusal}
-use Rattle.btr_super.specs.declared.superblock.Super.{Super}
-use Rattle.btr_super.specs.Rules.{super_refusals, super_of, unless_refused}
-use Rattle.btr_super.specs.Super.{super_in}
-use Rattle.btr_reader_walk.specs.declared.map.MapRange.{MapRange}
+use Rattle.btr_reader.proofs.Imports.{◌≡◌, inl, inr, ℕ, ◌==◌, Bool, false, cond, List, [], ◌∷◌, length, map, Some, None, Result, Ok, Err, Contains, refl, sym, ◌∙◌, ap, subst, arith, MatchResult, nat_tests, SUPER_BLOCK, WholeRow, row_of, Row, Image, block_at, BtrAnswer, Refused, Fault, Memory, BtrRefusal, Super, super_refusals, super_of, unless_refused, super_in, MapRange, RefusesRows, super_on, chunk_map, opening_refusals, IsBtrfsOpened, IsAmong, IsSuperAnswer, own_super, own_map, log_of, log_tree, IsBtrfsRefusal, HasBtrfsRows, IsRowsRefusal, has_log, unreadable, ListsBtrfs, RefusesBtrfsRows, AreBtrfsRows, CanBeRead, IsFileTreeRefusal}
+use Rattle.btr_reader.specs.Parts.{Tree}
 use Rattle.btr_reader.specs.declared.volume.Btrfs.{Btrfs}
-use Rattle.btr_reader.specs.Made.{RefusesRows}
-use Rattle.btr_reader.specs.Opening.{super_on, chunk_map, opening_refusals, IsOpened, IsAmong, IsSuperAnswer}
-use Rattle.btr_reader.specs.Parts.{own_super, own_map, log_of, log_tree, Tree, IsBtrfsRefusal, HasBtrfsRows, IsRowsRefusal, has_log, unreadable, ListsBtrfs, RefusesBtrfsRows}
-use Rattle.btr_reader.specs.Rows.{AreBtrfsRows, CanBeRead, IsTreeRefusal}
 use Rattle.btr_reader.specs.Volume.{IsVolumeOn}
 use Rattle.btr_reader.proofs.Opens.{super_refused}
 
@@ -35,25 +20,25 @@ fields_are : (block : List ℕ) (place device : ℕ) (s : Super) → super_of bl
 unfolding super_of
 fields_are block place device s read = value_is (super_refusals block place device) (super_in block) s read
 
-pub opened_super : (image : Image) (s : Super) (ranges : List MapRange) → IsOpened image s ranges → s ≡ own_super image
-opened_super image s ranges opened = fields_are (block_at image 16) 16 _ s opened.super
+pub opened_super : (image : Image) (s : Super) (ranges : List MapRange) → IsBtrfsOpened image s ranges → s ≡ own_super image
+opened_super image s ranges opened = fields_are (block_at image SUPER_BLOCK) 16 _ s opened.super
 
-pub opened_map : (image : Image) (s : Super) (ranges : List MapRange) → IsOpened image s ranges → ranges ≡ own_map image
+pub opened_map : (image : Image) (s : Super) (ranges : List MapRange) → IsBtrfsOpened image s ranges → ranges ≡ own_map image
 opened_map image s ranges opened = opened.map_is ∙ ap (chunk_map image) (opened_super image s ranges opened)
 
 -- what is said of an opened volume's superblock and map is said of those of the disk
-pub of_disk : (image : Image) (s : Super) (ranges : List MapRange) (P : Super → List MapRange → Type 0) → IsOpened image s ranges → P s ranges → P (own_super image) (own_map image)
+pub of_disk : (image : Image) (s : Super) (ranges : List MapRange) (P : Super → List MapRange → Type 0) → IsBtrfsOpened image s ranges → P s ranges → P (own_super image) (own_map image)
 of_disk image s ranges P opened h =
     subst (λ (t : Super). P t (own_map image)) (opened_super image s ranges opened) (subst (P s) (opened_map image s ranges opened) h)
 
-pub of_volume : (image : Image) (s : Super) (ranges : List MapRange) (P : Super → List MapRange → Type 0) → IsOpened image s ranges → P (own_super image) (own_map image) → P s ranges
+pub of_volume : (image : Image) (s : Super) (ranges : List MapRange) (P : Super → List MapRange → Type 0) → IsBtrfsOpened image s ranges → P (own_super image) (own_map image) → P s ranges
 of_volume image s ranges P opened h =
     subst (P s) (sym (opened_map image s ranges opened)) (subst (λ (t : Super). P t (own_map image)) (sym (opened_super image s ranges opened)) h)
 
 -- the superblock of a disk whose block 16 this is
-pub read_here : (image : Image) (block : List ℕ) (device : ℕ) (read : Result Super BtrRefusal) → block ≡ block_at image 16 → device ≡ length image → super_of block 16 device ≡ read → super_on image ≡ read
+pub read_here : (image : Image) (block : List ℕ) (device : ℕ) (read : Result Super BtrRefusal) → block ≡ block_at image SUPER_BLOCK → device ≡ length image → super_of block SUPER_BLOCK device ≡ read → super_on image ≡ read
 read_here image block device read is size h =
-    sym (ap (λ (b : List ℕ). super_of b 16 device) is ∙ ap (super_of (block_at image 16) 16) size) ∙ h
+    sym (ap (λ (b : List ℕ). super_of b SUPER_BLOCK device) is ∙ ap (super_of (block_at image SUPER_BLOCK) SUPER_BLOCK) size) ∙ h
 
 none_of : (refusals : List BtrRefusal) (r : BtrRefusal) → refusals ≡ [] → Contains refusals r → ⊥
 none_of refusals r none is =
@@ -88,17 +73,17 @@ opening_refuses image (Refused r) none among = unreadable none (inl among)
 opening_refuses image Fault none among = tt
 opening_refuses image Memory none among = tt
 
-tree_refuses : (image : Image) (s : Super) (ranges : List MapRange) (e : BtrAnswer) → s.log_root ≡ 0 → IsOpened image s ranges → RefusesRows image s ranges e → RefusesBtrfsRows image e
+tree_refuses : (image : Image) (s : Super) (ranges : List MapRange) (e : BtrAnswer) → s.log_root ≡ 0 → IsBtrfsOpened image s ranges → RefusesRows image s ranges e → RefusesBtrfsRows image e
 tree_refuses image s ranges (Refused r) none opened (inl log) = absurd (log.0 none)
 tree_refuses image s ranges (Refused r) none opened (inr bad) =
-    unreadable (no_log image s opened.super none) (inr (opened.sound, of_disk image s ranges (λ t m. IsTreeRefusal image t m r) opened bad.1))
+    unreadable (no_log image s opened.super none) (inr (opened.sound, of_disk image s ranges (λ t m. IsFileTreeRefusal image t m r) opened bad.1))
 tree_refuses image s ranges Fault none opened refuses = tt
 tree_refuses image s ranges Memory none opened refuses = tt
 
 -- a volume whose file tree has no refusal is readable
-tree_readable : (image : Image) (s : Super) (ranges : List MapRange) → IsOpened image s ranges → ((r : BtrRefusal) → IsTreeRefusal image s ranges r → ⊥) → (r : BtrRefusal) → IsBtrfsRefusal image Tree r → ⊥
+tree_readable : (image : Image) (s : Super) (ranges : List MapRange) → IsBtrfsOpened image s ranges → ((r : BtrRefusal) → IsFileTreeRefusal image s ranges r → ⊥) → (r : BtrRefusal) → IsBtrfsRefusal image Tree r → ⊥
 tree_readable image s ranges opened none r (inl among) = none_of (opening_refusals image) r opened.sound among
-tree_readable image s ranges opened none r (inr bad) = none r (of_volume image s ranges (λ t m. IsTreeRefusal image t m r) opened bad.1)
+tree_readable image s ranges opened none r (inr bad) = none r (of_volume image s ranges (λ t m. IsFileTreeRefusal image t m r) opened bad.1)
 
 -- the rows of an opened volume without a log tree
 pub rows_listed : (image : Image) (volume : Btrfs) (result : Result (List Row) BtrAnswer) → IsVolumeOn image volume → volume.sup.log_root ≡ 0
@@ -123,7 +108,7 @@ rows_checked image volume (Ok x) on none told = record {
 rows_checked image volume (Err e) on none refuses = tree_refuses image volume.sup volume.ranges.items e none on.opened refuses
 
 -- the answer of a superblock that is read from block 16
-pub super_answer : (image : Image) (block : List ℕ) (device : ℕ) (e : BtrAnswer) → block ≡ block_at image 16 → device ≡ length image → IsSuperAnswer (super_of block 16 device) e → IsSuperAnswer (super_on image) e
+pub super_answer : (image : Image) (block : List ℕ) (device : ℕ) (e : BtrAnswer) → block ≡ block_at image SUPER_BLOCK → device ≡ length image → IsSuperAnswer (super_of block SUPER_BLOCK device) e → IsSuperAnswer (super_on image) e
 super_answer image block device (Refused r) is size h = read_here image block device (Err r) is size h
 super_answer image block device Fault is size h = tt
 super_answer image block device Memory is size h = h

@@ -1,19 +1,5 @@
 -- What the row of an inode has of its bytes.
-use Rattle.std.proofs.Common.{◌≡◌, ℕ, ◌≤◌, nat_le, Bool, true, false, List, [], replicate, Option, Some, None, IfOk, Result, Ok, Err, if◌then◌else◌, refl, sym, ap, ◌∙◌, arith}
-use Rattle.std.specs.Option.{option_and_then}
-use Rattle.std.proofs.lemmas.Bool.Decides.{nat_tests}
-use Rattle.btr_reader_walk.specs.outside.History.{Image}
-use Rattle.btr_reader_walk.specs.btr_keys.declared.inode.Inode.{Inode}
-use Rattle.btr_reader_walk.specs.declared.map.MapRange.{MapRange}
-use Rattle.btr_reader_walk.specs.Events.{TreeItem}
-use Rattle.btr_reader_contents.specs.Extents.{file_bytes}
-use Rattle.btr_reader_names.specs.Inodes.{kind_of_mode}
-use Rattle.fs_rows.specs.declared.content.Content.{Content}
-use Rattle.btr_reader_contents.specs.declared.wanted.Wanted.{Wanted}
-use Rattle.btr_reader_contents.specs.Contents.{wanted_by, wanted_inode, content_of, content_in}
-use Rattle.fs_rows.specs.declared.row.Kind.{Kind}
-use Rattle.fs_rows.specs.declared.row.Kind.TheVariants.{Directory, File, Symlink, Character, Block, Fifo, Socket, Subvolume}
-use Rattle.btr_reader.specs.Made.{bytes_at}
+use Rattle.btr_reader.proofs.Imports.{◌≡◌, ℕ, ◌≤◌, nat_le, Bool, true, false, List, [], replicate, Option, Some, None, IfOk, Result, Ok, Err, if◌then◌else◌, refl, sym, ap, ◌∙◌, arith, option_and_then, nat_tests, Image, Inode, MapRange, TreeItem, bytes_of_inode, kind_of_mode, Content, Wanted, wanted_by, wanted_inode, content_of, content_in, Kind, Directory, File, Symlink, Character, Block, Fifo, Socket, Subvolume, bytes_at}
 use Rattle.fs_rows.specs.Content.{IsContent}
 
 no_some : {X : Type 0} (x : X) → None ≡ Some x → ⊥
@@ -27,7 +13,7 @@ wanted_is own kind o known is = sym (ap (option_and_then (wanted_by own.size)) k
 
 module _ (image : Image) (ranges : List MapRange) (items : List TreeItem) (ino : ℕ) (own : Inode) where
   abbrev bytes : List ℕ
-  bytes = file_bytes image ranges items ino own.size
+  bytes = bytes_of_inode image ranges items ino own.size
 
   abbrev Has : Kind → ℕ → List ℕ → List ℕ → Type 0
   Has kind size mark target = IsContent kind (bytes_at image ranges items ino own kind) size mark target

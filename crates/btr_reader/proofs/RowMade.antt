@@ -1,30 +1,6 @@
 -- The row that is made for a path of a file tree.
-use Rattle.std.proofs.Common.{◌≡◌, ℕ, ◌<◌, ◌≤◌, ◌==◌, Bool, true, false, List, map, length, get_or, take, Contains, Option, Some, None, unwrap_or, if◌then◌else◌, ⊎_elim, refl, sym, ap, subst, ◌∙◌, arith}
-use Rattle.std.specs.Prelude.{slice_get}
-use Rattle.std.specs.Option.{option_and_then}
-use Rattle.std.proofs.lemmas.Bool.{cases_lt}
-use Rattle.std.proofs.lemmas.List.{get_or-map, length-map, length-take, get_or-take}
-use Rattle.std.proofs.lemmas.Option.{slice_get_within, get_or_from_slice_get, slice_get-get_or}
-use Rattle.btr_reader_walk.specs.outside.History.{Image}
-use Rattle.btr_reader_walk.specs.btr_keys.declared.inode.Inode.{Inode}
-use Rattle.btr_reader_walk.specs.declared.map.MapRange.{MapRange}
-use Rattle.btr_reader_walk.specs.Events.{TreeItem}
-use Rattle.fs_rows.specs.Rows.{NameList, row_of}
-use Rattle.fs_rows.specs.declared.row.Kind.{Kind}
-use Rattle.fs_rows.specs.declared.row.Kind.TheVariants.{File, Symlink}
-use Rattle.fs_rows.specs.declared.row.Row.{Row}
-use Rattle.fs_paths.specs.declared.link.PathTo.{PathTo}
-use Rattle.fs_paths.specs.declared.node.NodeId.{NodeId}
-use Rattle.fs_paths.specs.Paths.{ArePaths, first_path}
-use Rattle.btr_reader_names.specs.declared.table.Names.{Names}
-use Rattle.btr_reader_names.specs.Inodes.{inode_on, kind_of_mode}
-use Rattle.btr_reader_names.specs.Links.{IsNamed, Target, inode, tree, Leads}
-use Rattle.btr_reader_names.specs.Steps.{inode_node, node_of, links_of}
-use Rattle.fs_rows.specs.declared.content.Content.{Content}
-use Rattle.btr_reader_contents.specs.Contents.{wanted_inode, wanted_at}
-use Rattle.btr_reader.specs.Made.{IsReadTree, bytes_at, kind_by, made_inode, made_row, no_inode, own_at, row_by}
-use Rattle.btr_reader.specs.Rows.{subvolume_row}
-use Rattle.fs_paths.proofs.FirstPlaces.{first_before}
+use Rattle.btr_reader.proofs.Imports.{◌≡◌, ℕ, ◌<◌, ◌≤◌, ◌==◌, Bool, true, false, List, map, length, get_or, take, Contains, Option, Some, None, unwrap_or, if◌then◌else◌, ⊎_elim, refl, sym, ap, subst, ◌∙◌, arith, slice_get, option_and_then, cases_lt, get_or-map, length-map, length-take, get_or-take, slice_get_within, get_or_from_slice_get, slice_get-get_or, FIRST_FREE_OBJECTID, Image, Inode, MapRange, TreeItem, NameList, row_of, Kind, File, Symlink, Row, PathTo, NodeId, ArePaths, first_path, NameTable, inode_on, kind_of_mode, IsNamedInode, Target, inode, tree, LeadsToTarget, inode_node, node_of_target, links_of, Content, wanted_inode, wanted_at, IsReadTree, bytes_at, kind_by_inode, made_inode, made_row, own_at, row_by, subvolume_row, first_before}
+use Rattle.btr_reader.specs.Made.{no_inode}
 use Rattle.btr_reader.proofs.Known.{IsKnown, own_on, is_known, not_long, leads_named}
 
 no_some : {X : Type 0} (x : X) → None ≡ Some x → ⊥
@@ -34,7 +10,7 @@ same_some : {X : Type 0} (x y : X) → Some x ≡ Some y → x ≡ y
 same_some x y is = cc is
 
 -- a target in space 0 is an inode
-inode_target : (to : Target) (node : NodeId) → node ≡ node_of to → node.space ≡ 0 → to ≡ inode node.number
+inode_target : (to : Target) (node : NodeId) → node ≡ node_of_target to → node.space ≡ 0 → to ≡ inode node.number
 inode_target (inode ino) node is space = ap (λ (n : NodeId). inode n.number) (sym is)
 inode_target (tree number) node is space = let s = ap (λ (n : NodeId). n.space) is in absurd (omega (arith, s, space))
 
@@ -61,22 +37,22 @@ module _ (image : Image) (ranges : List MapRange) (items : List TreeItem) (list 
   unfolding made_row
   inode_is own kind space there known =
       let own_is : own_at items p.target.number ≡ own = ap (λ (o : Option Inode). unwrap_or o no_inode) there in
-      let kind_is : kind_by own ≡ kind = ap (λ (o : Option Kind). unwrap_or o File) known in
+      let kind_is : kind_by_inode own ≡ kind = ap (λ (o : Option Kind). unwrap_or o File) known in
       ap (λ (n : ℕ). if n == 0 then made_inode image ranges items list p else subvolume_row p.path) space
-      ∙ (ap (λ (i : Inode). row_by i (kind_by i) p.path (first_path list p) p.names (bytes_at image ranges items p.target.number i (kind_by i))) own_is
+      ∙ (ap (λ (i : Inode). row_by i (kind_by_inode i) p.path (first_path list p) p.names (bytes_at image ranges items p.target.number i (kind_by_inode i))) own_is
       ∙ ap (λ (k : Kind). row_by own k p.path (first_path list p) p.names (bytes_at image ranges items p.target.number own k)) kind_is)
 
-module _ (names : Names) (named : NodeId → Bool) (contents : ℕ → Option Content) (image : Image) (ranges : List MapRange) (items : List TreeItem) (root_at : ℕ) (has_root : ℕ → Bool)
-    (is_read : IsReadTree names named contents image ranges items root_at has_root) (list : List PathTo) (are : ArePaths (links_of names named) (inode_node 256) list) (i : ℕ) (p : PathTo)
+module _ (names : NameTable) (named : NodeId → Bool) (contents : ℕ → Option Content) (image : Image) (ranges : List MapRange) (items : List TreeItem) (root_at : ℕ) (has_root : ℕ → Bool)
+    (is_read : IsReadTree names named contents image ranges items root_at has_root) (list : List PathTo) (are : ArePaths (links_of names named) (inode_node FIRST_FREE_OBJECTID) list) (i : ℕ) (p : PathTo)
     (at : slice_get list i ≡ Some p) where
   among : Contains list p
   among = (i, slice_get_within list i p at, get_or_from_slice_get list i p p at)
 
   -- a path to an object in space 0 leads to a named inode
-  target_named : p.target.space ≡ 0 → IsNamed items p.target.number
+  target_named : p.target.space ≡ 0 → IsNamedInode items p.target.number
   target_named space =
       let leads = is_read.links.sound p.path p.target (are.leads p among) in
-      leads_named items p.path p.target.number (subst (Leads items (inode 256) p.path) (inode_target leads.0 p.target leads.1 space) leads.2)
+      leads_named items p.path p.target.number (subst (LeadsToTarget items (inode FIRST_FREE_OBJECTID) p.path) (inode_target leads.0 p.target leads.1 space) leads.2)
 
   target_known : p.target.space ≡ 0 → IsKnown items p.target.number
   target_known space = is_known has_root items root_at is_read.keeps p.target.number (target_named space)
@@ -124,7 +100,7 @@ module _ (names : Names) (named : NodeId → Bool) (contents : ℕ → Option Co
 
     itself : length rows ≤ p.least → p.path ≡ first_path list p
     itself outside =
-        let place = first_before (links_of names named) (inode_node 256) list are p p among i within (get_or_from_slice_get list i p p at) refl in
+        let place = first_before (links_of names named) (inode_node FIRST_FREE_OBJECTID) list are p p among i within (get_or_from_slice_get list i p p at) refl in
         let same : p.least ≡ i = omega (arith, place, outside, long) in
         sym (ap (λ (q : PathTo). q.path) (ap (λ (n : ℕ). get_or list n p) same ∙ get_or_from_slice_get list i p p at))
 

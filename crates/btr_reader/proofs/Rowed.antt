@@ -1,40 +1,17 @@
 -- The rows that are made for the paths of a file tree are its rows.
-use Rattle.std.proofs.Common.{◌≡◌, ℕ, ◌+◌, ◌<◌, ◌≤◌, ◌==◌, Bool, true, false, List, [], ◌∷◌, ◌++◌, map, length, get_or, take, count_by, Contains, Some, refl, sym, ap, subst, ◌∙◌, true≢false, if◌then◌else◌, arith}
+use Rattle.btr_reader.proofs.Imports.{◌≡◌, ℕ, ◌+◌, ◌<◌, ◌≤◌, ◌==◌, Bool, true, false, List, [], ◌∷◌, ◌++◌, map, length, get_or, take, count_by, Contains, Some, refl, sym, ap, subst, ◌∙◌, true≢false, if◌then◌else◌, arith, get_or-map, length-map, map-append, take_more, take_all, get_or_default, FIRST_FREE_OBJECTID, Image, Inode, MapRange, TreeItem, NameList, WholeRow, AscendsByPath, path_cmp, is_same_path, name_count, row_of, Row, Kind, PathTo, NodeId, AreNamedOnce, ArePaths, leads_to, first_path, in_map, from_map, same_node-true, inode_on, kind_of_mode, is_directory, Target, inode, tree, LeadsToTarget, KeepsNames, inode_node, tree_node, node_of_target, AreTreeLinks, row_by, bytes_at, made_inode, made_row, IsLeastPath, IsInodeRow, IsTreeRow, IsRowOf, AreRows, subvolume_row, top, both_ways, count_among, same_names, one_place, first_within, first_in, first_leads, is_least, same_first}
 use Rattle.std.specs.Ordering.{is_le}
 use Rattle.std.proofs.lemmas.Simd.{map-map}
-use Rattle.std.proofs.lemmas.List.{get_or-map, length-map, map-append, take_more, take_all, get_or_default}
-use Rattle.btr_reader_walk.specs.outside.History.{Image}
-use Rattle.btr_reader_walk.specs.btr_keys.declared.inode.Inode.{Inode}
-use Rattle.btr_reader_walk.specs.declared.map.MapRange.{MapRange}
-use Rattle.btr_reader_walk.specs.Events.{TreeItem}
-use Rattle.fs_rows.specs.Rows.{NameList, WholeRow, AscendsByPath, path_cmp, is_same_path, name_count, row_of}
-use Rattle.fs_rows.specs.declared.row.Row.{Row}
-use Rattle.fs_rows.specs.declared.row.Kind.{Kind}
-use Rattle.fs_paths.specs.declared.link.Link.{Link}
-use Rattle.fs_paths.specs.declared.link.PathTo.{PathTo}
-use Rattle.fs_paths.specs.declared.node.NodeId.{NodeId}
-use Rattle.fs_paths.specs.Links.{AreNamedOnce}
-use Rattle.fs_paths.specs.Paths.{ArePaths, leads_to, first_path}
+use Rattle.fs_paths.specs.declared.node_link.NodeLink.{NodeLink}
 use Rattle.fs_paths.proofs.Counts.{count_map}
-use Rattle.fs_paths.proofs.Lists.{in_map, from_map}
-use Rattle.fs_paths.proofs.Nodes.{same_node-true}
-use Rattle.btr_reader_names.specs.Inodes.{inode_on, kind_of_mode}
-use Rattle.fs_rows.specs.Kinds.{is_directory}
-use Rattle.btr_reader_names.specs.Links.{Target, inode, tree, Leads}
-use Rattle.btr_reader_names.specs.Rules.{KeepsNames}
-use Rattle.btr_reader_names.specs.Steps.{inode_node, tree_node, node_of}
-use Rattle.btr_reader_names.specs.TreeLinks.{AreTreeLinks}
-use Rattle.btr_reader.specs.Made.{row_by, bytes_at, made_inode, made_row}
-use Rattle.btr_reader.specs.Rows.{IsLeastPath, IsInodeRow, IsTreeRow, IsRowOf, AreRows, subvolume_row, top}
 use Rattle.btr_reader.proofs.Known.{own_on, is_known, leads_named}
-use Rattle.fs_paths.proofs.FirstPlaces.{both_ways, count_among, same_names, one_place, first_within, first_in, first_leads, is_least, same_first}
 use Rattle.btr_reader.proofs.RowMade.{path_is, tree_is, inode_is}
 
 -- a node of an inode is no other tree
 space_of : (a b : NodeId) → a ≡ b → a.space ≡ b.space
 space_of a b is = ap (λ (n : NodeId). n.space) is
 
-only_inode : (to : Target) (ino : ℕ) → node_of to ≡ inode_node ino → to ≡ inode ino
+only_inode : (to : Target) (ino : ℕ) → node_of_target to ≡ inode_node ino → to ≡ inode ino
 only_inode (inode other) ino is = ap (λ (n : NodeId). inode n.number) is
 only_inode (tree number) ino is = let s = space_of (tree_node number) (inode_node ino) is in absurd (omega (arith, s))
 
@@ -72,7 +49,7 @@ module _ (image : Image) (ranges : List MapRange) (items : List TreeItem) (list 
       inode_is image ranges items list p own kind (ap (λ (n : NodeId). n.space) to) (ap (inode_on items) number ∙ there) known
       ∙ ap (λ (n : ℕ). row_by own kind p.path (first_path list p) p.names (bytes_at image ranges items n own kind)) number
 
-module _ (links : List Link) (root : NodeId) (list : List PathTo) (are : ArePaths links root list) where
+module _ (links : List NodeLink) (root : NodeId) (list : List PathTo) (are : ArePaths links root list) where
   -- of the paths to one inode, and of no others, the rows have this least path
   same_least : (p q : PathTo) → Contains list p → Contains list q → is_inode p ≡ true → (b : Bool) → is_inode q ≡ b
       → leads_to p.target q ≡ is_same_path (if b then first_path list q else q.path) (first_path list p)
@@ -99,35 +76,35 @@ module _ (links : List Link) (root : NodeId) (list : List PathTo) (are : ArePath
       ∙ count_among (leads_to p.target) (λ q. is_same_path (least q) (first_path list p)) list
       (λ q other. same_least p q among other own (is_inode q) refl ∙ ap (λ (l : NameList). is_same_path l (first_path list p)) (sym (is q)))
 
-module _ (image : Image) (ranges : List MapRange) (items : List TreeItem) (has_root : ℕ → Bool) (root_at : ℕ) (keeps : KeepsNames has_root items root_at) (links : List Link)
-    (lead : AreTreeLinks items links) (list : List PathTo) (are : ArePaths links (inode_node 256) list) where
+module _ (image : Image) (ranges : List MapRange) (items : List TreeItem) (has_root : ℕ → Bool) (root_at : ℕ) (keeps : KeepsNames has_root items root_at) (links : List NodeLink)
+    (lead : AreTreeLinks items links) (list : List PathTo) (are : ArePaths links (inode_node FIRST_FREE_OBJECTID) list) where
   abbrev rows : List WholeRow
   rows = map (made_row image ranges items list) list
 
   abbrev made : PathTo → WholeRow
   made p = made_row image ranges items list p
 
-  leads_on : (p : PathTo) → Contains list p → (to : Target) × (p.target ≡ node_of to) × Leads items top p.path to
+  leads_on : (p : PathTo) → Contains list p → (to : Target) × (p.target ≡ node_of_target to) × LeadsToTarget items top p.path to
   leads_on p among = lead.sound p.path p.target (are.leads p among)
 
   least_path : (p : PathTo) (ino : ℕ) → Contains list p → p.target ≡ inode_node ino → IsLeastPath items ino (first_path list p)
   least_path p ino among own =
       let q : PathTo = get_or list p.least p in
-      let u = leads_on q (first_in links (inode_node 256) list are p among) in
-      let to : u.0 ≡ inode ino = only_inode u.0 ino (sym u.1 ∙ (first_leads links (inode_node 256) list are p among ∙ own)) in
+      let u = leads_on q (first_in links (inode_node FIRST_FREE_OBJECTID) list are p among) in
+      let to : u.0 ≡ inode ino = only_inode u.0 ino (sym u.1 ∙ (first_leads links (inode_node FIRST_FREE_OBJECTID) list are p among ∙ own)) in
       record {
-        leads = subst (Leads items top q.path) to u.2;
+        leads = subst (LeadsToTarget items top q.path) to u.2;
         least = λ other leads.
             let w = are.whole other (inode_node ino) (lead.whole other (inode ino) leads) in
-            subst (λ (b : NameList). is_le (path_cmp (first_path list p) b) ≡ true) w.2 (is_least links (inode_node 256) list are p w.0 among w.1 (w.3 ∙ sym own));
+            subst (λ (b : NameList). is_le (path_cmp (first_path list p) b) ≡ true) w.2 (is_least links (inode_node FIRST_FREE_OBJECTID) list are p w.0 among w.1 (w.3 ∙ sym own));
       }
 
   names_are : (p : PathTo) (ino : ℕ) → Contains list p → p.target ≡ inode_node ino → p.names ≡ name_count rows (first_path list p)
   names_are p ino among own =
-      names_counted links (inode_node 256) list are p among (ap (λ (n : NodeId). n.space == 0) own) (λ q. (made q).least) (λ q. least_is image ranges items list q)
+      names_counted links (inode_node FIRST_FREE_OBJECTID) list are p among (ap (λ (n : NodeId). n.space == 0) own) (λ q. (made q).least) (λ q. least_is image ranges items list q)
       ∙ sym (count_map (λ (row : WholeRow). is_same_path row.least (first_path list p)) made list)
 
-  inode_row : (p : PathTo) (ino : ℕ) → Contains list p → p.target ≡ inode_node ino → Leads items top p.path (inode ino) → IsInodeRow image ranges items rows ino (made p)
+  inode_row : (p : PathTo) (ino : ℕ) → Contains list p → p.target ≡ inode_node ino → LeadsToTarget items top p.path (inode ino) → IsInodeRow image ranges items rows ino (made p)
   inode_row p ino among own leads =
       let k = is_known has_root items root_at keeps ino (leads_named items p.path ino leads) in
       let on = own_on items ino k in
@@ -141,14 +118,14 @@ module _ (image : Image) (ranges : List MapRange) (items : List TreeItem) (has_r
         bytes = refl;
       })
 
-  row_to : (p : PathTo) (to : Target) → Contains list p → p.target ≡ node_of to → Leads items top p.path to → IsRowOf image ranges items rows to (made p)
+  row_to : (p : PathTo) (to : Target) → Contains list p → p.target ≡ node_of_target to → LeadsToTarget items top p.path to → IsRowOf image ranges items rows to (made p)
   row_to p (inode ino) among own leads = inode_row p ino among own leads
   row_to p (tree number) among own leads = subst (IsTreeRow items number) (sym (tree_made image ranges items list p number own)) (record { leads = leads; is = refl })
 
   ascending : AscendsByPath rows
   ascending k d within =
       let long = length-map list made in
-      let any : PathTo = record { path = []; target = inode_node 256; least = 0; names = 0 } in
+      let any : PathTo = record { path = []; target = inode_node FIRST_FREE_OBJECTID; least = 0; names = 0 } in
       let next : k + 1 < length list = omega (arith, within, long) in
       let this = get_or-map made list k any d (omega (arith, next)) in
       let after = get_or-map made list (k + 1) any d next in
@@ -165,7 +142,7 @@ module _ (image : Image) (ranges : List MapRange) (items : List TreeItem) (has_r
         let u = leads_on m.0 m.1 in
         (u.0, subst (IsRowOf image ranges items rows u.0) m.2 (row_to m.0 u.0 m.1 u.1 u.2));
     whole = λ path to leads.
-        let w = are.whole path (node_of to) (lead.whole path to leads) in
+        let w = are.whole path (node_of_target to) (lead.whole path to leads) in
         (made w.0, in_map made list w.0 w.1, path_is image ranges items list w.0 ∙ w.2);
   }
 
@@ -182,6 +159,6 @@ all_rows image ranges items list i got all is =
     is ∙ (ap (map (λ p. row_of (made_row image ranges items list p))) (take_all i list all) ∙ sym (map-map row_of (made_row image ranges items list) list))
 
 -- the paths of the links that a tree has
-pub are_paths : (links own : List Link) (root at : NodeId) (list : List PathTo) → links ≡ own → root ≡ at → AreNamedOnce own at → (AreNamedOnce links root → ArePaths links root list) → ArePaths own at list
+pub are_paths : (links own : List NodeLink) (root at : NodeId) (list : List PathTo) → links ≡ own → root ≡ at → AreNamedOnce own at → (AreNamedOnce links root → ArePaths links root list) → ArePaths own at list
 are_paths links own root at list same here once made =
-    subst (λ (n : NodeId). AreNamedOnce own n → ArePaths own n list) here (subst (λ (l : List Link). AreNamedOnce l root → ArePaths l root list) same made) once
+    subst (λ (n : NodeId). AreNamedOnce own n → ArePaths own n list) here (subst (λ (l : List NodeLink). AreNamedOnce l root → ArePaths l root list) same made) once

@@ -1,33 +1,6 @@
 -- The steps on the way to the saved image.
-use Rattle.std.proofs.Common.{◌≡◌, ⊎_elim, ℕ, true, List, [], ◌∷◌, ◌++◌, length, codes, if◌then◌else◌, Option, Some, None, Result, Ok, Err, refl, sym, ◌∙◌, ap, subst, arith}
-use Rattle.std.specs.Option.{option_and_then}
-use Rattle.btr_reader_walk.specs.outside.History.{Image}
-use Rattle.btr_reader_walk.specs.refusals.declared.answer.BtrAnswer.{BtrAnswer}
-use Rattle.btr_reader_walk.specs.refusals.declared.answer.BtrAnswer.TheVariants.{Refused, Fault, Memory}
-use Rattle.btr_reader_walk.specs.refusals.declared.refusal.BtrRefusal.{BtrRefusal}
-use Rattle.btr_reader_walk.specs.refusals.declared.refusal.BtrRefusal.TheVariants.{BadBtrfs}
-use Rattle.btr_reader_walk.specs.refusals.declared.rule.BtrRule.TheVariants.{Body}
-use Rattle.btr_reader_walk.specs.btr_keys.Inode.{inode_of}
-use Rattle.btr_reader_walk.specs.btr_keys.declared.inode.Inode.{Inode}
-use Rattle.btr_reader_walk.specs.btr_keys.declared.key.Key.{Key}
-use Rattle.btr_super.specs.declared.superblock.Super.{Super}
-use Rattle.btr_reader_walk.specs.declared.map.MapRange.{MapRange}
-use Rattle.btr_reader_walk.specs.declared.tree.Pointer.{Pointer}
-use Rattle.btr_reader_walk.specs.declared.tree.Tree.{Tree}
-use Rattle.btr_reader_walk.specs.Events.{TreeItem}
-use Rattle.btr_reader_walk.specs.Walks.{found, wrong}
-use Rattle.btr_reader.specs.declared.gathered.Gathered.{Gathered}
+use Rattle.btr_reader.proofs.Imports.{◌≡◌, ⊎_elim, ℕ, true, List, [], ◌∷◌, ◌++◌, length, codes, if◌then◌else◌, Option, Some, None, Result, Ok, Err, refl, sym, ◌∙◌, ap, subst, arith, option_and_then, FS_TREE, Image, BtrAnswer, Refused, Fault, Memory, BtrRefusal, BadBtrfs, Body, inode_of, Inode, Key, Super, MapRange, NodePointer, Tree, TreeItem, found, wrong, Gathered, extents_of, extents_refusals, ImageFile, is_file_mode, is_called, entry_named, image_entry, saved_location, pointer_in, tree_number, inode_number, file_if_image, image_at, image_in, items_at, image_below, saved_image, entry_refusals, after_pointer, after_root, if_there, own_refusals, file_refusals, image_refusals_in, refusals_below, saved_refusals, image_refusals, find_inode_item, dir_indexes, ChunkAt, tree_of, root_tree, boot_chunks, boot_list, boot_refusals, map_from, or_later, trees_refusals, IsBtrfsOpened, IsAmong, GathersExtents, MapsImage, FindsTree, FindsNumbered, FindsSaved, FindsFile, ReadsImage, root_item, pointer_of, roots_on}
 use Rattle.btr_reader.specs.declared.image_map.ImageMap.{ImageMap}
-use Rattle.btr_reader_contents.specs.Extents.{extents_of, extents_refusals}
-use Rattle.btr_reader.specs.Image.{ImageFile, is_file, is_called, entry_named, image_entry, saved_entry, pointer_in, tree_number, inode_number, file_if_image, image_at, image_in, items_at, image_below, saved_image, entry_refusals, after_pointer, after_root, if_there, own_refusals, file_refusals, image_refusals_in, refusals_below, saved_refusals, image_refusals}
-use Rattle.btr_reader_names.specs.Inodes.{inode_item}
-use Rattle.btr_reader_names.specs.Links.{namings}
-use Rattle.btr_reader.specs.declared.chunk.ChunkAt.{ChunkAt}
-use Rattle.btr_reader.specs.Opening.{tree_of, root_tree, boot_chunks, boot_list, boot_refusals, map_from, or_later, trees_refusals, IsOpened, IsAmong}
-use Rattle.btr_reader.specs.Pieces.{Gathers, MapsImage}
-use Rattle.btr_reader.specs.Reading.{FindsTree, FindsNumbered, FindsSaved, FindsFile, ReadsImage}
-use Rattle.btr_reader.specs.Roots.{root_item, pointer_of}
-use Rattle.btr_reader.specs.Rows.{roots_on}
 use Rattle.btr_reader.proofs.Among.{among_none, among_first, among_later}
 use Rattle.btr_reader.proofs.Opens.{opening_is}
 
@@ -55,14 +28,14 @@ inode_off ranges items ino (Some i) Fault finds = tt
 inode_off ranges items ino (Some i) Memory finds = tt
 
 pub inode_refused : (image : Image) (ranges slice : List MapRange) (tree : Tree) (items : List TreeItem) (ino : ℕ) (e : BtrAnswer) → slice ≡ ranges → found image ranges tree ≡ items
-    → FindsFile (inode_item (found image slice tree) ino) (Err e) → IsAmong (file_refusals ranges items ino (inode_item items ino)) e
+    → FindsFile (find_inode_item (found image slice tree) ino) (Err e) → IsAmong (file_refusals ranges items ino (find_inode_item items ino)) e
 inode_refused image ranges slice tree items ino e same is finds =
     let all : List TreeItem = found image ranges tree in
-    subst (λ (z : List TreeItem). IsAmong (file_refusals ranges z ino (inode_item z ino)) e) is
-    (inode_off ranges all ino (inode_item all ino) e (subst (λ (r : List MapRange). FindsFile (inode_item (found image r tree) ino) (Err e)) same finds))
+    subst (λ (z : List TreeItem). IsAmong (file_refusals ranges z ino (find_inode_item z ino)) e) is
+    (inode_off ranges all ino (find_inode_item all ino) e (subst (λ (r : List MapRange). FindsFile (find_inode_item (found image r tree) ino) (Err e)) same finds))
 
 -- a root item that is off its grammar
-pub root_item_refused : (s : Super) (number : ℕ) (next : Pointer → List BtrRefusal) (root : Option TreeItem) (e : BtrAnswer) → FindsTree s number root (Err e) → IsAmong (after_root next root) e
+pub root_item_refused : (s : Super) (number : ℕ) (next : NodePointer → List BtrRefusal) (root : Option TreeItem) (e : BtrAnswer) → FindsTree s number root (Err e) → IsAmong (after_root next root) e
 root_item_refused s number next root (Refused r) (i, is, none, off) =
     subst (λ (z : List BtrRefusal). IsAmong z (Refused r)) (sym (ap (after_root next) is ∙ ap (after_pointer next i.leaf) none))
     (subst (λ (x : BtrRefusal). IsAmong (BadBtrfs i.leaf Body ∷ []) (Refused x)) (sym off) (0, omega arith, refl))
@@ -70,7 +43,7 @@ root_item_refused s number next root Fault finds = tt
 root_item_refused s number next root Memory finds = tt
 
 -- a regular file: its refusals are those of its extents
-refusals_of_file : (ranges : List MapRange) (items : List TreeItem) (ino : ℕ) (i : TreeItem) (own : Inode) → inode_of i.body ≡ Some own → is_file own.mode ≡ true
+refusals_of_file : (ranges : List MapRange) (items : List TreeItem) (ino : ℕ) (i : TreeItem) (own : Inode) → inode_of i.body ≡ Some own → is_file_mode own.mode ≡ true
     → file_refusals ranges items ino (Some i) ≡ extents_refusals ranges 0 0 (extents_of items ino)
 refusals_of_file ranges items ino i own read regular =
     let extents : List TreeItem = extents_of items ino in
@@ -82,20 +55,20 @@ among_file ranges items ino None own e finds bad = absurd finds
 among_file ranges items ino (Some i) own e finds bad = subst (λ (z : List BtrRefusal). IsAmong z e) (sym (refusals_of_file ranges items ino i own finds.0 finds.1)) bad
 
 pub file_refused : (image : Image) (ranges slice : List MapRange) (tree : Tree) (items : List TreeItem) (ino : ℕ) (own : Inode) (e : BtrAnswer) → slice ≡ ranges → found image ranges tree ≡ items
-    → wrong image ranges tree ≡ [] → FindsFile (inode_item (found image slice tree) ino) (Ok (Some own))
-    → IsAmong (wrong image slice tree ++ extents_refusals slice 0 0 (extents_of (found image slice tree) ino)) e → IsAmong (file_refusals ranges items ino (inode_item items ino)) e
+    → wrong image ranges tree ≡ [] → FindsFile (find_inode_item (found image slice tree) ino) (Ok (Some own))
+    → IsAmong (wrong image slice tree ++ extents_refusals slice 0 0 (extents_of (found image slice tree) ino)) e → IsAmong (file_refusals ranges items ino (find_inode_item items ino)) e
 file_refused image ranges slice tree items ino own e same is sound finds bad =
     let all : List TreeItem = found image ranges tree in
-    let there : FindsFile (inode_item all ino) (Ok (Some own)) = subst (λ (r : List MapRange). FindsFile (inode_item (found image r tree) ino) (Ok (Some own))) same finds in
+    let there : FindsFile (find_inode_item all ino) (Ok (Some own)) = subst (λ (r : List MapRange). FindsFile (find_inode_item (found image r tree) ino) (Ok (Some own))) same finds in
     let here : IsAmong (wrong image ranges tree ++ extents_refusals ranges 0 0 (extents_of all ino)) e =
     subst (λ (r : List MapRange). IsAmong (wrong image r tree ++ extents_refusals r 0 0 (extents_of (found image r tree) ino)) e) same bad in
-    subst (λ (z : List TreeItem). IsAmong (file_refusals ranges z ino (inode_item z ino)) e) is
-    (among_file ranges all ino (inode_item all ino) own e there
+    subst (λ (z : List TreeItem). IsAmong (file_refusals ranges z ino (find_inode_item z ino)) e) is
+    (among_file ranges all ino (find_inode_item all ino) own e there
     (subst (λ (z : List BtrRefusal). IsAmong (z ++ extents_refusals ranges 0 0 (extents_of all ino)) e) sound here))
 
 -- a map of a file is one of what its inode item gives
 file_maps : (ranges : List MapRange) (items : List TreeItem) (ino : ℕ) (item : Option TreeItem) (own : Inode) (map : Option ImageMap) → FindsFile item (Ok (Some own))
-    → (is_file own.mode ≡ true → MapsImage ranges map (file_if_image (extents_of items ino) (Some own))) → extents_refusals ranges 0 0 (extents_of items ino) ≡ []
+    → (is_file_mode own.mode ≡ true → MapsImage ranges map (file_if_image (extents_of items ino) (Some own))) → extents_refusals ranges 0 0 (extents_of items ino) ≡ []
     → MapsImage ranges map (image_at items ino item) × (file_refusals ranges items ino item ≡ [])
 file_maps ranges items ino None own map finds maps none = absurd finds
 file_maps ranges items ino (Some i) own map finds maps none = (
@@ -104,24 +77,24 @@ file_maps ranges items ino (Some i) own map finds maps none = (
 )
 
 pub file_read : (image : Image) (ranges slice : List MapRange) (tree : Tree) (items : List TreeItem) (ino : ℕ) (own : Inode) (g : Gathered) (map : Option ImageMap) → slice ≡ ranges
-    → found image ranges tree ≡ items → FindsFile (inode_item (found image slice tree) ino) (Ok (Some own)) → Gathers slice (extents_of (found image slice tree) ino) g
-    → ((extents : List TreeItem) → is_file own.mode ≡ true → Gathers slice extents g → MapsImage slice map (file_if_image extents (Some own)))
-    → MapsImage ranges map (image_at items ino (inode_item items ino)) × (file_refusals ranges items ino (inode_item items ino) ≡ [])
+    → found image ranges tree ≡ items → FindsFile (find_inode_item (found image slice tree) ino) (Ok (Some own)) → GathersExtents slice (extents_of (found image slice tree) ino) g
+    → ((extents : List TreeItem) → is_file_mode own.mode ≡ true → GathersExtents slice extents g → MapsImage slice map (file_if_image extents (Some own)))
+    → MapsImage ranges map (image_at items ino (find_inode_item items ino)) × (file_refusals ranges items ino (find_inode_item items ino) ≡ [])
 file_read image ranges slice tree items ino own g map same is finds gathers maps =
     let all : List TreeItem = found image ranges tree in
-    let there : FindsFile (inode_item all ino) (Ok (Some own)) = subst (λ (r : List MapRange). FindsFile (inode_item (found image r tree) ino) (Ok (Some own))) same finds in
-    let gathered : Gathers ranges (extents_of all ino) g = subst (λ (r : List MapRange). Gathers r (extents_of (found image r tree) ino) g) same gathers in
-    let mapped : Gathers ranges (extents_of all ino) g → is_file own.mode ≡ true → MapsImage ranges map (file_if_image (extents_of all ino) (Some own)) =
-    subst (λ (r : List MapRange). Gathers r (extents_of all ino) g → is_file own.mode ≡ true → MapsImage r map (file_if_image (extents_of all ino) (Some own))) same
+    let there : FindsFile (find_inode_item all ino) (Ok (Some own)) = subst (λ (r : List MapRange). FindsFile (find_inode_item (found image r tree) ino) (Ok (Some own))) same finds in
+    let gathered : GathersExtents ranges (extents_of all ino) g = subst (λ (r : List MapRange). GathersExtents r (extents_of (found image r tree) ino) g) same gathers in
+    let mapped : GathersExtents ranges (extents_of all ino) g → is_file_mode own.mode ≡ true → MapsImage ranges map (file_if_image (extents_of all ino) (Some own)) =
+    subst (λ (r : List MapRange). GathersExtents r (extents_of all ino) g → is_file_mode own.mode ≡ true → MapsImage r map (file_if_image (extents_of all ino) (Some own))) same
     (λ k regular. maps (extents_of all ino) regular k) in
-    subst (λ (z : List TreeItem). MapsImage ranges map (image_at z ino (inode_item z ino)) × (file_refusals ranges z ino (inode_item z ino) ≡ [])) is
-    (file_maps ranges all ino (inode_item all ino) own map there (mapped gathered) gathered.sound)
+    subst (λ (z : List TreeItem). MapsImage ranges map (image_at z ino (find_inode_item z ino)) × (file_refusals ranges z ino (find_inode_item z ino) ≡ [])) is
+    (file_maps ranges all ino (find_inode_item all ino) own map there (mapped gathered) gathered.sound)
 
 -- a tree that is there
-after_there : (next : Pointer → List BtrRefusal) (root : Option TreeItem) (i : TreeItem) (p : Pointer) → root ≡ Some i → pointer_of i.body ≡ Some p → after_root next root ≡ next p
+after_there : (next : NodePointer → List BtrRefusal) (root : Option TreeItem) (i : TreeItem) (p : NodePointer) → root ≡ Some i → pointer_of i.body ≡ Some p → after_root next root ≡ next p
 after_there next root i p is read = ap (after_root next) is ∙ ap (after_pointer next i.leaf) read
 
-image_there : (next : Pointer → Option ImageFile) (root : Option TreeItem) (i : TreeItem) (p : Pointer) → root ≡ Some i → pointer_of i.body ≡ Some p → option_and_then next (pointer_in root) ≡ next p
+image_there : (next : NodePointer → Option ImageFile) (root : Option TreeItem) (i : TreeItem) (p : NodePointer) → root ≡ Some i → pointer_of i.body ≡ Some p → option_and_then next (pointer_in root) ≡ next p
 image_there next root i p is read = ap (λ (o : Option TreeItem). option_and_then next (pointer_in o)) is ∙ ap (option_and_then next) read
 
 none_first : (xs ys : List BtrRefusal) → xs ++ ys ≡ [] → xs ≡ []
@@ -130,21 +103,21 @@ none_first (x ∷ xs) ys h = absurd (cc h)
 
 -- the image in a tree
 pub saved_read : (image : Image) (ranges slice : List MapRange) (tree : Tree) (key : Option Key) (name : List ℕ) (ino : ℕ) (result : Result (Option ImageMap) BtrAnswer) → slice ≡ ranges → name ≡ codes "image"
-    → key ≡ entry_named (is_called name) (namings (found image slice tree)) → entry_refusals image slice tree ≡ [] → option_and_then inode_number key ≡ Some ino
+    → key ≡ entry_named (is_called name) (dir_indexes (found image slice tree)) → entry_refusals image slice tree ≡ [] → option_and_then inode_number key ≡ Some ino
     → ((items : List TreeItem) → found image ranges tree ≡ items → wrong image ranges tree ≡ []
-    → ReadsImage ranges (image_at items ino (inode_item items ino)) (file_refusals ranges items ino (inode_item items ino)) result)
+    → ReadsImage ranges (image_at items ino (find_inode_item items ino)) (file_refusals ranges items ino (find_inode_item items ino)) result)
     → ReadsImage ranges (image_in (found image ranges tree)) (saved_refusals image ranges tree) result
 saved_read image ranges slice tree key name ino result same name_is key_is none number_is reads =
     let items : List TreeItem = found image ranges tree in
     let right : entry_refusals image ranges tree ≡ [] = subst (λ (r : List MapRange). entry_refusals image r tree ≡ []) same none in
     let key_at : key ≡ image_entry items =
     key_is
-    ∙ (ap (λ (n : List ℕ). entry_named (is_called n) (namings (found image slice tree))) name_is
+    ∙ (ap (λ (n : List ℕ). entry_named (is_called n) (dir_indexes (found image slice tree))) name_is
     ∙ ap (λ (r : List MapRange). image_entry (found image r tree)) same) in
     let named : option_and_then inode_number (image_entry items) ≡ Some ino = ap (option_and_then inode_number) (sym key_at) ∙ number_is in
-    reads_as ranges (image_at items ino (inode_item items ino)) (image_in items) (file_refusals ranges items ino (inode_item items ino)) (saved_refusals image ranges tree) result
-    (sym (ap (option_and_then (λ n. image_at items n (inode_item items n))) named))
-    (sym (ap (λ (z : List BtrRefusal). or_later z (image_refusals_in ranges items)) right ∙ ap (if_there (λ n. file_refusals ranges items n (inode_item items n))) named))
+    reads_as ranges (image_at items ino (find_inode_item items ino)) (image_in items) (file_refusals ranges items ino (find_inode_item items ino)) (saved_refusals image ranges tree) result
+    (sym (ap (option_and_then (λ n. image_at items n (find_inode_item items n))) named))
+    (sym (ap (λ (z : List BtrRefusal). or_later z (image_refusals_in ranges items)) right ∙ ap (if_there (λ n. file_refusals ranges items n (find_inode_item items n))) named))
     (reads items refl (none_first (wrong image ranges tree) _ right))
 
 -- the same, of what is wrong with its entries
@@ -164,18 +137,18 @@ module _ (image : Image) (s : Super) (ranges : List MapRange) where
   image_of number = image_below image s ranges number (root_item number roots)
 
   abbrev number_in : List TreeItem → Option ℕ
-  number_in items = option_and_then tree_number (saved_entry items)
+  number_in items = option_and_then tree_number (saved_location items)
 
   -- what comes after the pointer to a tree: the file tree, and the tree of the saved image
-  abbrev after_file : Pointer → List BtrRefusal
-  after_file p = or_later (entry_refusals image ranges (tree_of s 5 p)) (if_there below (number_in (items_at image s ranges 5 p)))
+  abbrev after_file : NodePointer → List BtrRefusal
+  after_file p = or_later (entry_refusals image ranges (tree_of s FS_TREE p)) (if_there below (number_in (items_at image s ranges FS_TREE p)))
 
-  abbrev after_saved : ℕ → Pointer → List BtrRefusal
+  abbrev after_saved : ℕ → NodePointer → List BtrRefusal
   after_saved number p = saved_refusals image ranges (tree_of s number p)
 
   -- the root item of the file tree is off its grammar
-  pub file_tree_refused : (e : BtrAnswer) → FindsTree s 5 (root_item 5 roots) (Err e) → IsAmong (image_refusals image s ranges) e
-  file_tree_refused e finds = root_item_refused s 5 after_file (root_item 5 roots) e finds
+  pub file_tree_refused : (e : BtrAnswer) → FindsTree s FS_TREE (root_item FS_TREE roots) (Err e) → IsAmong (image_refusals image s ranges) e
+  file_tree_refused e finds = root_item_refused s FS_TREE after_file (root_item FS_TREE roots) e finds
 
   number_refused : (o : Option ℕ) (e : BtrAnswer) → FindsNumbered s roots o (Err e) → IsAmong (if_there below o) e
   number_refused None e finds = absurd (cc finds)
@@ -193,11 +166,11 @@ module _ (image : Image) (s : Super) (ranges : List MapRange) where
       (ap (λ (t : Tree). image_in (found image ranges t)) tree_is ∙ sym (image_there (λ q. image_in (items_at image s ranges number q)) (root_item number roots) i p is read))
       (ap (λ (t : Tree). saved_refusals image ranges t) tree_is ∙ sym (after_there (after_saved number) (root_item number roots) i p is read)) reads
 
-  module _ (file : Tree) (there : FindsTree s 5 (root_item 5 roots) (Ok (Some file))) where
+  module _ (file : Tree) (there : FindsTree s FS_TREE (root_item FS_TREE roots) (Ok (Some file))) where
     -- what is wrong with the file tree or behind it
     in_way : (e : BtrAnswer) → IsAmong (or_later (entry_refusals image ranges file) (if_there below (number_in (found image ranges file)))) e → IsAmong (image_refusals image s ranges) e
     in_way e among =
-        subst (λ (z : List BtrRefusal). IsAmong z e) (sym (after_there after_file (root_item 5 roots) there.0 there.1 there.2 there.3))
+        subst (λ (z : List BtrRefusal). IsAmong z e) (sym (after_there after_file (root_item FS_TREE roots) there.0 there.1 there.2 there.3))
         (subst (λ (t : Tree). IsAmong (or_later (entry_refusals image ranges t) (if_there below (number_in (found image ranges t)))) e) there.4 among)
 
     pub saved_refused : (e : BtrAnswer) → FindsSaved s roots (entry_refusals image ranges file) (found image ranges file) (Err e) → IsAmong (image_refusals image s ranges) e
@@ -218,9 +191,9 @@ module _ (image : Image) (s : Super) (ranges : List MapRange) where
         let later : List BtrRefusal = if_there below (number_in (found image ranges file)) in
         reads_as ranges (option_and_then image_of (number_in (found image ranges file))) (saved_image image s ranges) later (image_refusals image s ranges) result
         (ap (λ (t : Tree). option_and_then image_of (number_in (found image ranges t))) there.4
-        ∙ sym (image_there (λ q. option_and_then image_of (number_in (items_at image s ranges 5 q))) (root_item 5 roots) there.0 there.1 there.2 there.3))
+        ∙ sym (image_there (λ q. option_and_then image_of (number_in (items_at image s ranges FS_TREE q))) (root_item FS_TREE roots) there.0 there.1 there.2 there.3))
         (sym (ap (λ (z : List BtrRefusal). or_later z later) clear)
-        ∙ (ap (λ (t : Tree). or_later (entry_refusals image ranges t) (if_there below (number_in (found image ranges t)))) there.4 ∙ sym (after_there after_file (root_item 5 roots) there.0 there.1 there.2 there.3))) reads
+        ∙ (ap (λ (t : Tree). or_later (entry_refusals image ranges t) (if_there below (number_in (found image ranges t)))) there.4 ∙ sym (after_there after_file (root_item FS_TREE roots) there.0 there.1 there.2 there.3))) reads
 
     -- the tree of the saved image is not there
     pub none_saved : FindsSaved s roots (entry_refusals image ranges file) (found image ranges file) (Ok None) → ReadsImage ranges (saved_image image s ranges) (image_refusals image s ranges) (Ok None)
@@ -240,7 +213,7 @@ later_none [] ys h = h
 later_none (x ∷ xs) ys h = absurd (cc h)
 
 -- nothing is wrong with the root tree of a volume that was opened
-pub root_right : (image : Image) (s : Super) (ranges : List MapRange) → IsOpened image s ranges → wrong image ranges (root_tree s) ≡ []
+pub root_right : (image : Image) (s : Super) (ranges : List MapRange) → IsBtrfsOpened image s ranges → wrong image ranges (root_tree s) ≡ []
 root_right image s ranges k =
     let boot : List ChunkAt = boot_list (boot_chunks s) in
     let trees : trees_refusals image s boot ≡ [] =

@@ -1,31 +1,19 @@
 -- What is known of a superblock that is read.
-use Rattle.std.proofs.Common.{◌≡◌, ℕ, ◌*◌, ◌≤◌, eqb, nat_lt, nat_le, Bool, true, false, ◌&&◌, List, [], ◌∷◌, Result, Ok, Err, IfOk, codes, is_some, IsSome, refl, sym, ap, subst, arith}
-use Rattle.std.proofs.lemmas.Bool.Decides.{nat_tests}
-use Rattle.std.proofs.lemmas.List.{drop-drop}
-use Rattle.btr_reader_walk.specs.refusals.declared.refusal.BtrRefusal.{BtrRefusal}
-use Rattle.btr_reader_walk.specs.refusals.declared.refusal.BtrRefusal.TheVariants.{BadBtrfs, Unsupported}
-use Rattle.btr_reader_walk.specs.refusals.declared.rule.BtrRule.TheVariants.{SuperCsum, SuperField}
-use Rattle.btr_reader_walk.specs.refusals.declared.rule.Feature.TheVariants.{Incompat, ChecksumType, SectorSize, NodeSize, DeviceCount}
-use Rattle.btr_reader_walk.specs.vol_block.Format.{has_bytes_at}
-use Rattle.btr_reader_walk.specs.vol_block.Volume.{field}
-use Rattle.btr_super.specs.declared.superblock.Super.{Super}
+use Rattle.btr_reader.proofs.Imports.{◌≡◌, ℕ, ◌*◌, ◌≤◌, eqb, nat_lt, nat_le, Bool, true, false, ◌&&◌, List, [], ◌∷◌, Result, Ok, Err, IfOk, codes, is_some, IsSome, refl, sym, ap, subst, arith, nat_tests, drop-drop, SUPER_BLOCK, SUPER_INFO_OFFSET, SUPER_MAGIC_OFFSET, BtrRefusal, BadBtrfs, Unsupported, SuperCsum, SuperField, Incompat, ChecksumType, SectorSize, NodeSize, DeviceCount, has_bytes_at, field, Super, super_in, super_layout, bad_field, is_super, has_fields, unread_bits, is_node_size, field_rules, feature_rules, failing, unless_refused, super_refusals, super_of, IsSuperInBounds}
 use Rattle.btr_super.specs.Sums.{known_kind, csum_type_of, has_sum}
-use Rattle.btr_super.specs.Super.{super_in, super_layout}
-use Rattle.btr_super.specs.Rules.{bad_field, is_super, has_fields, unread_bits, is_node_size, field_rules, feature_rules, failing, unless_refused, super_refusals, super_of}
 use Rattle.btr_reader_walk.proofs.btr_node.Rows.{both}
 use Rattle.btr_reader_walk.proofs.Stacks.{sized}
-use Rattle.btr_reader.specs.Opening.{IsInBounds}
 
 -- a device that has no block 16 has no superblock
-pub no_super : (block : List ℕ) (device : ℕ) → device ≤ 16 → super_of block 16 device ≡ Err (BadBtrfs 65536 SuperField)
+pub no_super : (block : List ℕ) (device : ℕ) → device ≤ 16 → super_of block SUPER_BLOCK device ≡ Err (BadBtrfs SUPER_INFO_OFFSET SuperField)
 unfolding super_of
 no_super block device few =
     let off : nat_lt 16 device ≡ false = grind (arith, nat_tests, few) in
     ap (λ t. unless_refused
-    (failing ((t && has_bytes_at block 64 (codes "_BHRfS_M"), bad_field)
+    (failing ((t && has_bytes_at block SUPER_MAGIC_OFFSET (codes "_BHRfS_M"), bad_field)
     ∷ (is_some (known_kind (csum_type_of block)), Unsupported ChecksumType (csum_type_of block))
-    ∷ (has_sum (known_kind (csum_type_of block)) block, BadBtrfs 65536 SuperCsum)
-    ∷ field_rules (super_in block) 16 device))
+    ∷ (has_sum (known_kind (csum_type_of block)) block, BadBtrfs SUPER_INFO_OFFSET SuperCsum)
+    ∷ field_rules (super_in block) SUPER_BLOCK device))
     (super_in block)) off
 
 rule_holds : (t : Bool) (r : BtrRefusal) (rules : List (Bool × BtrRefusal)) → failing ((t, r) ∷ rules) ≡ [] → (t ≡ true) × (failing rules ≡ [])
@@ -54,9 +42,9 @@ size_rules s = (is_node_size s.nodesize, Unsupported NodeSize s.nodesize) ∷ de
 abbrev sector_rules : Super → List (Bool × BtrRefusal)
 sector_rules s = (eqb s.sectorsize 4096, Unsupported SectorSize s.sectorsize) ∷ size_rules s
 
-bounds : (s : Super) (device : ℕ) → IsSome (known_kind s.csum_type) → failing (field_rules s 16 device) ≡ [] → IsInBounds s
+bounds : (s : Super) (device : ℕ) → IsSome (known_kind s.csum_type) → failing (field_rules s SUPER_BLOCK device) ≡ [] → IsSuperInBounds s
 bounds s device kind h =
-    let first = rule_holds (has_fields s 16 device) bad_field (feature_rules s) h in
+    let first = rule_holds (has_fields s SUPER_BLOCK device) bad_field (feature_rules s) h in
     let bits = rule_holds (eqb (unread_bits s.incompat) 0) (Unsupported Incompat (unread_bits s.incompat)) (sector_rules s) first.1 in
     let sector = rule_holds (eqb s.sectorsize 4096) (Unsupported SectorSize s.sectorsize) (size_rules s) bits.1 in
     let size = rule_holds (is_node_size s.nodesize) (Unsupported NodeSize s.nodesize) (device_rules s) sector.1 in
@@ -74,7 +62,7 @@ bounds s device kind h =
     }
 
 abbrev sum_rules : List ℕ → ℕ → List (Bool × BtrRefusal)
-sum_rules block device = (has_sum (known_kind (csum_type_of block)) block, BadBtrfs 65536 SuperCsum) ∷ field_rules (super_in block) 16 device
+sum_rules block device = (has_sum (known_kind (csum_type_of block)) block, BadBtrfs SUPER_INFO_OFFSET SuperCsum) ∷ field_rules (super_in block) SUPER_BLOCK device
 
 abbrev kind_rules : List ℕ → ℕ → List (Bool × BtrRefusal)
 kind_rules block device = (is_some (known_kind (csum_type_of block)), Unsupported ChecksumType (csum_type_of block)) ∷ sum_rules block device
@@ -84,15 +72,15 @@ type_in : (block : List ℕ) → csum_type_of block ≡ (super_in block).csum_ty
 unfolding super_layout
 type_in block = ap (λ (bytes : List ℕ). field 2 bytes 0) (sym (drop-drop 164 32 block))
 
-pub in_bounds : (block : List ℕ) (device : ℕ) (s : Super) → super_of block 16 device ≡ Ok s → IsInBounds s
+pub in_bounds : (block : List ℕ) (device : ℕ) (s : Super) → super_of block SUPER_BLOCK device ≡ Ok s → IsSuperInBounds s
 unfolding super_of
 in_bounds block device s h =
-    let read = none_refused (super_refusals block 16 device) (super_in block) s h in
-    let magic = rule_holds (is_super block 16 device) bad_field (kind_rules block device) read.0 in
+    let read = none_refused (super_refusals block SUPER_BLOCK device) (super_in block) s h in
+    let magic = rule_holds (is_super block SUPER_BLOCK device) bad_field (kind_rules block device) read.0 in
     let kind = rule_holds (is_some (known_kind (csum_type_of block))) (Unsupported ChecksumType (csum_type_of block)) (sum_rules block device) magic.1 in
-    let sum = rule_holds (has_sum (known_kind (csum_type_of block)) block) (BadBtrfs 65536 SuperCsum) (field_rules (super_in block) 16 device) kind.1 in
-    subst IsInBounds read.1 (bounds (super_in block) device (subst (λ (n : ℕ). IsSome (known_kind n)) (type_in block) kind.0) sum.1)
+    let sum = rule_holds (has_sum (known_kind (csum_type_of block)) block) (BadBtrfs SUPER_INFO_OFFSET SuperCsum) (field_rules (super_in block) SUPER_BLOCK device) kind.1 in
+    subst IsSuperInBounds read.1 (bounds (super_in block) device (subst (λ (n : ℕ). IsSome (known_kind n)) (type_in block) kind.0) sum.1)
 
-pub read_bounds : (block : List ℕ) (device : ℕ) (result : Result Super BtrRefusal) → result ≡ super_of block 16 device → IfOk result IsInBounds
+pub read_bounds : (block : List ℕ) (device : ℕ) (result : Result Super BtrRefusal) → result ≡ super_of block SUPER_BLOCK device → IfOk result IsSuperInBounds
 read_bounds block device (Ok s) is = in_bounds block device s (sym is)
 read_bounds block device (Err r) is = tt

@@ -1,11 +1,11 @@
 -- The order of the pieces of a file.
 use Rattle.std.specs.Prelude.{◌+◌, ◌≤◌, List, AllPairs}
-use Rattle.btr_reader.specs.declared.piece.Piece.{Piece}
+use Rattle.btr_reader.specs.declared.mapped_extent.MappedExtent.{MappedExtent}
 
 -- one piece ends where another begins, or before
-abbrev pub IsBefore : Piece → Piece → Type 0
-IsBefore p q = p.first + p.count ≤ q.first
+abbrev pub IsExtentBefore : MappedExtent → MappedExtent → Type 0
+IsExtentBefore p q = p.first + p.count ≤ q.first
 
 -- the pieces ascend, and none overlaps another
-abbrev pub AreApart : List Piece → Type 0
-AreApart pieces = AllPairs IsBefore pieces
+abbrev pub AscendApart : List MappedExtent → Type 0
+AscendApart pieces = AllPairs IsExtentBefore pieces

@@ -7,7 +7,7 @@ use Rattle.fs_rows.specs.Rows.{WholeRow}
 use Rattle.btr_reader.specs.Image.{ImageFile, image_place, saved_image}
 use Rattle.btr_reader.specs.Opening.{super_on}
 use Rattle.btr_reader.specs.Parts.{AreRowsOfBtrfs, IsBtrfsRefusal, Part, log_tree, own_map, own_super}
-use Rattle.btr_reader.specs.Apart.{IsReservedFree, IsSameOutside, IsVolumeApart, differs, is_spare_in}
+use Rattle.btr_reader.specs.Apart.{IsSpareFree, IsSameOutside, IsVolumeApart, differs, is_spare_in}
 
 -- The other disk holds the same volume: with the same superblock and map of addresses, the same refusals of each part, the same rows,
 -- and the same saved image.
@@ -37,4 +37,4 @@ SamePartsDecide = (image other : Image) → length other ≡ length image → Is
 
 -- The reserved blocks but that of the superblock decide nothing of a volume of which no part lies in one of them.
 abbrev pub ReservedBlocksAreSpare : Type 0
-ReservedBlocksAreSpare = (image other : Image) → IsReservedFree image → IsSameOutside (is_spare_in image) image other → IsSameBtrfs image other × IsReservedFree other
+ReservedBlocksAreSpare = (image other : Image) → IsSpareFree image → IsSameOutside (is_spare_in image) image other → IsSameBtrfs image other × IsSpareFree other

@@ -1,5 +1,7 @@
 -- What is read of a volume as it is opened: the superblock, the chunks and the root tree.
 use Rattle.std.specs.Prelude.{◌≡◌, ℕ, ◌≤◌, List, [], ◌∷◌, ◌++◌, length, take, map, Option, Some, None, IsSome, unwrap_or, Result, Ok, Err}
+use Rattle.btrfs_format.specs.declared.block.TheConstants.{SUPER_BLOCK, SUPER_INFO_OFFSET}
+use Rattle.btrfs_format.specs.declared.object.TheConstants.{CHUNK_TREE, ROOT_TREE}
 use Rattle.btr_reader_walk.specs.outside.History.{Image, block_at}
 use Rattle.btr_reader_walk.specs.refusals.declared.answer.BtrAnswer.{BtrAnswer}
 use Rattle.btr_reader_walk.specs.refusals.declared.answer.BtrAnswer.TheVariants.{Refused, Fault, Memory}
@@ -10,10 +12,11 @@ use Rattle.btr_reader_walk.specs.csum_kinds.declared.kind.SumKind.TheVariants.{C
 use Rattle.btr_reader_walk.specs.btr_node.NodeSize.{IsNodeSize}
 use Rattle.btr_super.specs.declared.superblock.Super.{Super}
 use Rattle.btr_super.specs.Rules.{super_of, NamesNoLog}
+use Rattle.btr_super.specs.Super.{node_fsid}
 use Rattle.btr_super.specs.Sums.{known_kind}
 use Rattle.btr_reader_walk.specs.declared.map.MapRange.{MapRange}
 use Rattle.btr_reader_walk.specs.declared.tree.Form.{Form}
-use Rattle.btr_reader_walk.specs.declared.tree.Pointer.{Pointer}
+use Rattle.btr_reader_walk.specs.declared.tree.NodePointer.{NodePointer}
 use Rattle.btr_reader_walk.specs.declared.tree.Tree.{Tree}
 use Rattle.btr_reader_walk.specs.Walks.{wrong, found}
 pub use Rattle.btr_reader_walk.specs.Walks.{IsAmong}
@@ -22,21 +25,21 @@ use Rattle.btr_reader.specs.Chunks.{range_of, array_chunks, chunks_refusals, wit
 
 -- the superblock of a disk, which is block 16
 abbrev pub super_on : Image → Result Super BtrRefusal
-super_on image = super_of (block_at image 16) 16 (length image)
+super_on image = super_of (block_at image SUPER_BLOCK) SUPER_BLOCK (length image)
 
 -- what the nodes of the volume share
 abbrev pub form_of : Super → Form
-form_of s = record { fsid = s.fsid; nodesize = s.nodesize; sums = unwrap_or (known_kind s.csum_type) Crc32c }
+form_of s = record { fsid = node_fsid s; nodesize = s.nodesize; sums = unwrap_or (known_kind s.csum_type) Crc32c }
 
-abbrev pub tree_of : Super → ℕ → Pointer → Tree
+abbrev pub tree_of : Super → ℕ → NodePointer → Tree
 tree_of s owner root = record { form = form_of s; root = root; owner = owner }
 
 -- the chunk tree has the number 3, and the root tree the number 1
 abbrev pub chunk_tree : Super → Tree
-chunk_tree s = tree_of s 3 (record { address = s.chunk_root; level = s.chunk_root_level; generation = s.chunk_root_generation })
+chunk_tree s = tree_of s CHUNK_TREE (record { address = s.chunk_root; level = s.chunk_root_level; generation = s.chunk_root_generation })
 
 abbrev pub root_tree : Super → Tree
-root_tree s = tree_of s 1 (record { address = s.root; level = s.root_level; generation = s.generation })
+root_tree s = tree_of s ROOT_TREE (record { address = s.root; level = s.root_level; generation = s.generation })
 
 -- the chunks of the bootstrap array, if it is a list of chunks
 abbrev pub boot_chunks : Super → Option (List ChunkAt)
@@ -65,7 +68,7 @@ boot_list (Some chunks) = chunks
 -- what is wrong with the array
 
 abbrev pub boot_refusals : ℕ → Option (List ChunkAt) → List BtrRefusal
-boot_refusals device None = BadBtrfs 65536 ChunkForm ∷ []
+boot_refusals device None = BadBtrfs SUPER_INFO_OFFSET ChunkForm ∷ []
 boot_refusals device (Some chunks) = chunks_refusals device [] chunks
 
 abbrev pub refusals_after : Image → Result Super BtrRefusal → List BtrRefusal
@@ -82,7 +85,7 @@ abbrev pub chunk_map : Image → Super → List MapRange
 chunk_map image s = map_from image s (boot_list (boot_chunks s))
 
 -- a volume was opened: this is its superblock, and this its map
-pub record IsOpened (image : Image) (s : Super) (ranges : List MapRange) : Type 0 where
+pub record IsBtrfsOpened (image : Image) (s : Super) (ranges : List MapRange) : Type 0 where
   pub sound : opening_refusals image ≡ []
   pub super : super_on image ≡ Ok s
   pub map_is : ranges ≡ chunk_map image s
@@ -95,12 +98,12 @@ NamesNoLogTree Memory = Unit {0}
 
 -- the array is no list of chunks, or there was no memory
 abbrev pub IsBadArray : Option (List ChunkAt) → BtrAnswer → Type 0
-IsBadArray chunks (Refused r) = (r ≡ BadBtrfs 65536 ChunkForm) × (chunks ≡ None)
+IsBadArray chunks (Refused r) = (r ≡ BadBtrfs SUPER_INFO_OFFSET ChunkForm) × (chunks ≡ None)
 IsBadArray chunks Fault = ⊥
 IsBadArray chunks Memory = Unit {0}
 
 -- bounds of a superblock that is read; its kind of checksum is known
-pub record IsInBounds (s : Super) : Type 0 where
+pub record IsSuperInBounds (s : Super) : Type 0 where
   pub kind : IsSome (known_kind s.csum_type)
   pub nodesize : IsNodeSize s.nodesize
   pub root : s.root_level ≤ 7

@@ -1,5 +1,6 @@
 -- The parts of a Btrfs volume that are read, and what each is refused by.
 use Rattle.std.specs.Prelude.{◌≡◌, ◌⊎◌, ◌==◌, ℕ, List, [], Contains, map, Option, Some, None, if◌then◌else◌, Result, Ok, Err}
+use Rattle.btrfs_format.specs.declared.block.TheConstants.{SUPER_BLOCK}
 use Rattle.btr_reader_walk.specs.outside.History.{Image, block_at}
 use Rattle.btr_reader_walk.specs.refusals.declared.answer.BtrAnswer.{BtrAnswer}
 use Rattle.btr_reader_walk.specs.refusals.declared.answer.BtrAnswer.TheVariants.{Refused, Fault, Memory}
@@ -12,7 +13,7 @@ use Rattle.fs_rows.specs.Rows.{WholeRow, row_of}
 use Rattle.fs_rows.specs.declared.row.Row.{Row}
 use Rattle.btr_reader.specs.Image.{image_refusals}
 use Rattle.btr_reader.specs.Opening.{super_on, chunk_map, opening_refusals}
-use Rattle.btr_reader.specs.Rows.{AreBtrfsRows, IsTreeRefusal}
+use Rattle.btr_reader.specs.Rows.{AreBtrfsRows, IsFileTreeRefusal}
 
 -- The superblock alone; with the chunks and the root tree; these with the file tree, or with what lies on the way to the saved image.
 pub data Part : Type 0 where
@@ -23,7 +24,7 @@ pub data Part : Type 0 where
 
 -- the fields of the superblock, which is block 16, and the map of addresses by them
 abbrev pub own_super : Image → Super
-own_super image = super_in (block_at image 16)
+own_super image = super_in (block_at image SUPER_BLOCK)
 
 abbrev pub own_map : Image → List MapRange
 own_map image = chunk_map image (own_super image)
@@ -40,7 +41,7 @@ AfterOpening image later r = Contains (opening_refusals image) r ⊎ ((opening_r
 abbrev pub IsBtrfsRefusal : Image → Part → BtrRefusal → Type 0
 IsBtrfsRefusal image Superblock r = super_on image ≡ Err r
 IsBtrfsRefusal image Opening r = Contains (opening_refusals image) r
-IsBtrfsRefusal image Tree r = AfterOpening image (IsTreeRefusal image (own_super image) (own_map image)) r
+IsBtrfsRefusal image Tree r = AfterOpening image (IsFileTreeRefusal image (own_super image) (own_map image)) r
 IsBtrfsRefusal image SavedImage r = AfterOpening image (Contains (way_refusals image)) r
 
 -- A part is readable where it has no refusal.

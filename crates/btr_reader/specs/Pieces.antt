@@ -7,19 +7,19 @@ use Rattle.btr_reader_walk.specs.btr_keys.declared.file_extent.DiskRange.{DiskRa
 use Rattle.btr_reader_walk.specs.declared.map.MapRange.{MapRange}
 use Rattle.btr_reader_walk.specs.Map.{place}
 use Rattle.btr_reader_walk.specs.Events.{TreeItem}
-use Rattle.btr_reader.specs.declared.piece.Piece.{Piece}
+use Rattle.btr_reader.specs.declared.mapped_extent.MappedExtent.{MappedExtent}
 use Rattle.btr_reader.specs.declared.image_map.ImageMap.{ImageMap}
-use Rattle.btr_reader.specs.Ascending.{AreApart}
+use Rattle.btr_reader.specs.Ascending.{AscendApart}
 use Rattle.btr_reader.specs.declared.gathered.Gathered.{Gathered}
 use Rattle.btr_reader_contents.specs.Extents.{is_hole, extents_end, extents_covered, extents_refusals}
 use Rattle.btr_reader.specs.Image.{ImageFile, is_inline, file_block, image_place}
 
 -- block b of the file is in the piece
-abbrev pub holds_block : Piece → ℕ → Bool
+abbrev pub holds_block : MappedExtent → ℕ → Bool
 holds_block p b = nat_le p.first b && nat_lt (b - p.first) p.count
 
 -- the block of the device that has it
-abbrev pub block_in : List MapRange → Piece → ℕ → Option ℕ
+abbrev pub block_in : List MapRange → MappedExtent → ℕ → Option ℕ
 block_in ranges p b = if holds_block p b then option_map (λ a. a / 4096) (place ranges (p.disk + p.offset + 4096 * (b - p.first))) else None
 
 -- the first one of two
@@ -27,18 +27,18 @@ abbrev pub or_else : Option ℕ → Option ℕ → Option ℕ
 or_else None second = second
 or_else (Some n) second = Some n
 
-abbrev pub pieces_place : List MapRange → List Piece → ℕ → Option ℕ
+abbrev pub pieces_place : List MapRange → List MappedExtent → ℕ → Option ℕ
 pieces_place ranges [] b = None
 pieces_place ranges (p ∷ ps) b = or_else (block_in ranges p b) (pieces_place ranges ps b)
 
 -- the pieces that an extent from byte `offset` of the file on adds: one, unless it is a hole
-abbrev pub range_piece : ℕ → DiskRange → Piece
+abbrev pub range_piece : ℕ → DiskRange → MappedExtent
 range_piece offset r = record { first = offset / 4096; count = r.num_bytes / 4096; disk = r.disk_bytenr; offset = r.offset }
 
-abbrev pub range_pieces : ℕ → DiskRange → List Piece
+abbrev pub range_pieces : ℕ → DiskRange → List MappedExtent
 range_pieces offset r = if is_hole r then [] else range_piece offset r ∷ []
 
-abbrev pub pieces_of : ℕ → ContentValue → List Piece
+abbrev pub pieces_of : ℕ → ContentValue → List MappedExtent
 pieces_of offset (Inline bytes) = []
 pieces_of offset (Regular r) = range_pieces offset r
 pieces_of offset (Prealloc r) = []
@@ -48,12 +48,12 @@ abbrev pub any_inline : List TreeItem → Bool
 any_inline extents = list_any (λ e. is_inline (file_extent_of e.body)) extents
 
 -- what is gathered is in order: the pieces ascend, and each ends at the end of what was reached, or before
-pub record IsInOrder (g : Gathered) : Type 0 where
-  pub apart : AreApart g.pieces.items
+pub record AreGatheredInOrder (g : Gathered) : Type 0 where
+  pub apart : AscendApart g.pieces.items
   pub reached : All (λ p. 4096 * (p.first + p.count) ≤ g.reach.end) g.pieces.items
 
 -- what was gathered of these extents
-pub record Gathers (ranges : List MapRange) (extents : List TreeItem) (g : Gathered) : Type 0 where
+pub record GathersExtents (ranges : List MapRange) (extents : List TreeItem) (g : Gathered) : Type 0 where
   pub sound : extents_refusals ranges 0 0 extents ≡ []
   pub end : g.reach.end ≡ extents_end 0 extents
   pub covered : g.reach.covered ≡ extents_covered 0 extents

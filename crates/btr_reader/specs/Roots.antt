@@ -5,7 +5,7 @@ use Rattle.indexmap.specs.IndexMap.{get}
 use Rattle.indexmap.specs.IndexSet.{contains}
 use Rattle.btr_space_items.specs.RootItem.{root_item_of}
 use Rattle.btr_space_items.specs.declared.root_item.RootItem.{RootItem}
-use Rattle.btr_reader_walk.specs.declared.tree.Pointer.{Pointer}
+use Rattle.btr_reader_walk.specs.declared.tree.NodePointer.{NodePointer}
 use Rattle.btr_reader_walk.specs.Events.{TreeItem}
 use Rattle.btr_reader_names.specs.Roots.{is_root_of, has_root}
 use Rattle.btr_reader.specs.declared.roots.RootFound.{RootFound}
@@ -22,10 +22,10 @@ root_item number [] = None
 root_item number (i ∷ items) = last_or (root_item number items) (if is_root_of number i then Some i else None)
 
 -- the pointer to a tree's root that a body gives; no tree has more than seven levels above its leaves
-abbrev pub root_pointer : RootItem → Option Pointer
+abbrev pub root_pointer : RootItem → Option NodePointer
 root_pointer r = if nat_lt 7 r.level then None else Some (record { address = r.bytenr; level = r.level; generation = r.generation })
 
-abbrev pub pointer_of : List ℕ → Option Pointer
+abbrev pub pointer_of : List ℕ → Option NodePointer
 pointer_of body = option_and_then root_pointer (root_item_of body)
 
 -- a root item that was found, by its leaf and its pointer

@@ -2,6 +2,7 @@
 use Rattle.std.specs.Prelude.{◌≡◌, ◌⊎◌, ℕ, ◌/◌, ◌%◌, ◌^◌, ◌==◌, pos, Bool, true, false, not, ◌&&◌, if◌then◌else◌, List, [], Contains, Some, None}
 use Rattle.std.specs.Int.{bit_at}
 use Rattle.std.specs.Ordering.{is_le}
+use Rattle.btrfs_format.specs.declared.object.TheConstants.{FIRST_FREE_OBJECTID, FS_TREE}
 use Rattle.btr_reader_walk.specs.outside.History.{Image}
 use Rattle.btr_reader_walk.specs.refusals.declared.refusal.BtrRefusal.{BtrRefusal}
 use Rattle.btr_reader_walk.specs.refusals.declared.refusal.BtrRefusal.TheVariants.{BadBtrfs}
@@ -10,7 +11,7 @@ use Rattle.btr_reader_walk.specs.btr_keys.declared.inode.Inode.{Inode}
 use Rattle.btr_reader_walk.specs.btr_keys.declared.stamp.Stamp.{Stamp}
 use Rattle.btr_super.specs.declared.superblock.Super.{Super}
 use Rattle.btr_reader_walk.specs.declared.map.MapRange.{MapRange}
-use Rattle.btr_reader_walk.specs.declared.tree.Pointer.{Pointer}
+use Rattle.btr_reader_walk.specs.declared.tree.NodePointer.{NodePointer}
 use Rattle.btr_reader_walk.specs.Events.{TreeItem}
 use Rattle.btr_reader_walk.specs.Walks.{found, wrong}
 use Rattle.fs_rows.specs.Rows.{NameList, WholeRow, AscendsByPath, path_cmp, name_count}
@@ -20,10 +21,10 @@ use Rattle.btr_reader.specs.Opening.{tree_of, root_tree}
 use Rattle.btr_reader.specs.Roots.{root_item, pointer_of}
 use Rattle.btr_reader_names.specs.Inodes.{inode_on, kind_of_mode, HasKind}
 use Rattle.fs_rows.specs.Kinds.{is_device, has_bytes, is_symlink, is_directory}
-use Rattle.btr_reader_names.specs.Links.{IsNamed, Target, inode, tree, Leads}
+use Rattle.btr_reader_names.specs.Links.{IsNamedInode, Target, inode, tree, LeadsToTarget}
 use Rattle.btr_reader_names.specs.Roots.{has_root}
 use Rattle.btr_reader_names.specs.Rules.{BreaksNames}
-use Rattle.btr_reader_contents.specs.Extents.{extents_of, file_bytes, extents_refusals}
+use Rattle.btr_reader_contents.specs.Extents.{extents_of, bytes_of_inode, extents_refusals}
 
 abbrev pub time_of : Stamp → Time
 time_of s = record { sec = s.sec; nsec = s.nsec }
@@ -51,22 +52,22 @@ pub record HasInode (i : Inode) (row : WholeRow) : Type 0 where
 
 -- the number of the root directory's inode
 abbrev pub top : Target
-top = inode 256
+top = inode FIRST_FREE_OBJECTID
 
 -- a path of the inode, and no path of it is below
 pub record IsLeastPath (items : List TreeItem) (ino : ℕ) (path : NameList) : Type 0 where
-  pub leads : Leads items top path (inode ino)
-  pub least : (other : NameList) → Leads items top other (inode ino) → is_le (path_cmp path other) ≡ true
+  pub leads : LeadsToTarget items top path (inode ino)
+  pub least : (other : NameList) → LeadsToTarget items top other (inode ino) → is_le (path_cmp path other) ≡ true
 
 -- the row of a path that leads to an inode
 pub record IsInodeRow (image : Image) (ranges : List MapRange) (items : List TreeItem) (rows : List WholeRow) (ino : ℕ) (row : WholeRow) : Type 0 where
-  pub leads : Leads items top row.path (inode ino)
+  pub leads : LeadsToTarget items top row.path (inode ino)
   pub own : Inode
   pub has : inode_on items ino ≡ Some own
   pub fields : HasInode own row
   pub least : IsLeastPath items ino row.least
   pub names : row.names ≡ (if is_directory row.kind then 0 else name_count rows row.least)
-  pub bytes : row.bytes ≡ (if has_bytes row.kind then file_bytes image ranges items ino own.size else [])
+  pub bytes : row.bytes ≡ (if has_bytes row.kind then bytes_of_inode image ranges items ino own.size else [])
 
 -- a row that is this kind at this path, and nothing else
 abbrev pub subvolume_row : NameList → WholeRow
@@ -94,7 +95,7 @@ subvolume_row path =
 
 -- the row of a path that leads to another tree
 pub record IsTreeRow (items : List TreeItem) (number : ℕ) (row : WholeRow) : Type 0 where
-  pub leads : Leads items top row.path (tree number)
+  pub leads : LeadsToTarget items top row.path (tree number)
   pub is : row ≡ subvolume_row row.path
 
 abbrev pub IsRowOf : Image → List MapRange → List TreeItem → List WholeRow → Target → WholeRow → Type 0
@@ -105,12 +106,12 @@ IsRowOf image ranges items rows (tree number) row = IsTreeRow items number row
 pub record AreRows (image : Image) (ranges : List MapRange) (items : List TreeItem) (rows : List WholeRow) : Type 0 where
   pub ascends : AscendsByPath rows
   pub each : (row : WholeRow) → Contains rows row → (to : Target) × IsRowOf image ranges items rows to row
-  pub whole : (path : NameList) (to : Target) → Leads items top path to → (row : WholeRow) × Contains rows row × (row.path ≡ path)
+  pub whole : (path : NameList) (to : Target) → LeadsToTarget items top path to → (row : WholeRow) × Contains rows row × (row.path ≡ path)
 
 -- a named file or symlink whose extents break a rule
 pub record BreaksExtents (ranges : List MapRange) (items : List TreeItem) (r : BtrRefusal) : Type 0 where
   pub ino : ℕ
-  pub named : IsNamed items ino
+  pub named : IsNamedInode items ino
   pub kind : HasKind items ino File ⊎ HasKind items ino Symlink
   pub among : Contains (extents_refusals ranges 0 0 (extents_of items ino)) r
 
@@ -118,22 +119,22 @@ pub record BreaksExtents (ranges : List MapRange) (items : List TreeItem) (r : B
 abbrev pub roots_on : Image → Super → List MapRange → List TreeItem
 roots_on image s ranges = found image ranges (root_tree s)
 
-pub data IsTreeRefusal (image : Image) (s : Super) (ranges : List MapRange) (r : BtrRefusal) : Type 0 where
-  no_root_item : root_item 5 (roots_on image s ranges) ≡ None → r ≡ BadBtrfs s.root NoInode → IsTreeRefusal image s ranges r
-  bad_root_item : (i : TreeItem) → root_item 5 (roots_on image s ranges) ≡ Some i → pointer_of i.body ≡ None → r ≡ BadBtrfs i.leaf Body → IsTreeRefusal image s ranges r
-  bad_tree : (i : TreeItem) (p : Pointer) → root_item 5 (roots_on image s ranges) ≡ Some i → pointer_of i.body ≡ Some p → Contains (wrong image ranges (tree_of s 5 p)) r → IsTreeRefusal image s ranges r
-  bad_names : (i : TreeItem) (p : Pointer) → root_item 5 (roots_on image s ranges) ≡ Some i → pointer_of i.body ≡ Some p → BreaksNames (has_root (roots_on image s ranges)) (found image ranges (tree_of s 5 p)) p.address r → IsTreeRefusal image s ranges r
-  bad_extents : (i : TreeItem) (p : Pointer) → root_item 5 (roots_on image s ranges) ≡ Some i → pointer_of i.body ≡ Some p → BreaksExtents ranges (found image ranges (tree_of s 5 p)) r → IsTreeRefusal image s ranges r
+pub data IsFileTreeRefusal (image : Image) (s : Super) (ranges : List MapRange) (r : BtrRefusal) : Type 0 where
+  no_root_item : root_item FS_TREE (roots_on image s ranges) ≡ None → r ≡ BadBtrfs s.root NoInode → IsFileTreeRefusal image s ranges r
+  bad_root_item : (i : TreeItem) → root_item FS_TREE (roots_on image s ranges) ≡ Some i → pointer_of i.body ≡ None → r ≡ BadBtrfs i.leaf Body → IsFileTreeRefusal image s ranges r
+  bad_tree : (i : TreeItem) (p : NodePointer) → root_item FS_TREE (roots_on image s ranges) ≡ Some i → pointer_of i.body ≡ Some p → Contains (wrong image ranges (tree_of s FS_TREE p)) r → IsFileTreeRefusal image s ranges r
+  bad_names : (i : TreeItem) (p : NodePointer) → root_item FS_TREE (roots_on image s ranges) ≡ Some i → pointer_of i.body ≡ Some p → BreaksNames (has_root (roots_on image s ranges)) (found image ranges (tree_of s FS_TREE p)) p.address r → IsFileTreeRefusal image s ranges r
+  bad_extents : (i : TreeItem) (p : NodePointer) → root_item FS_TREE (roots_on image s ranges) ≡ Some i → pointer_of i.body ≡ Some p → BreaksExtents ranges (found image ranges (tree_of s FS_TREE p)) r → IsFileTreeRefusal image s ranges r
 
 -- Nothing is wrong with the file tree, so that its rows can be read.
 abbrev pub CanBeRead : Image → Super → List MapRange → Type 0
-CanBeRead image s ranges = (r : BtrRefusal) → ¬ IsTreeRefusal image s ranges r
+CanBeRead image s ranges = (r : BtrRefusal) → ¬ IsFileTreeRefusal image s ranges r
 
 -- The rows of a volume that can be opened, and whose file tree has no refusal.
 pub record AreBtrfsRows (image : Image) (s : Super) (ranges : List MapRange) (rows : List WholeRow) : Type 0 where
-  pub readable : (r : BtrRefusal) → ¬ IsTreeRefusal image s ranges r
+  pub readable : (r : BtrRefusal) → ¬ IsFileTreeRefusal image s ranges r
   pub item : TreeItem
-  pub has_item : root_item 5 (roots_on image s ranges) ≡ Some item
-  pub at : Pointer
+  pub has_item : root_item FS_TREE (roots_on image s ranges) ≡ Some item
+  pub at : NodePointer
   pub has_root : pointer_of item.body ≡ Some at
-  pub rows_are : AreRows image ranges (found image ranges (tree_of s 5 at)) rows
+  pub rows_are : AreRows image ranges (found image ranges (tree_of s FS_TREE at)) rows

@@ -5,22 +5,16 @@ ghost use Rattle.btr_reader.specs.Opening.{IsBadArray, NamesNoLogTree};
 use crate::chunk::{ChunkAt, is_chunk_key};
 use crate::refusal::refused;
 use btr_reader_walk::{BtrAnswer, BtrRule, Key, Memory, u16_at};
-use btr_space_items::Chunk;
+use btrfs_format::block::SUPER_INFO_OFFSET;
+use btrfs_format::size::{CHUNK_HEAD_SIZE, KEY_SIZE, STRIPE_SIZE};
 use std::alloc::Global;
-
-/// The bytes of a chunk's key, of its body without stripes, and of a stripe.
-const KEY_SIZE: usize = 17;
-
-const BODY_SIZE: usize = 48;
-
-const STRIPE_SIZE: usize = 32;
 
 /// How many bytes the entry takes that a bootstrap array begins with.
 fn entry_size(bytes: &[u8]) -> usize
     requires { 97 ≤ length bytes.now }
     ensures { result ≡ entry_size bytes.now }
 {
-    KEY_SIZE + (BODY_SIZE + STRIPE_SIZE * u16_at(bytes, 61) as usize)
+    KEY_SIZE + (CHUNK_HEAD_SIZE + STRIPE_SIZE * u16_at(bytes, 61) as usize)
 }
 
 /// What stands behind the entry that a bootstrap array begins with.
@@ -38,7 +32,7 @@ fn front_chunk(bytes: &[u8]) -> Option<ChunkAt>
     ensures whole { IfSome result (λ _. entry_size bytes.now ≤ length bytes.now) }
     ensures long { IfSome result (λ _. 97 ≤ length bytes.now) }
 {
-    if bytes.len() < KEY_SIZE + BODY_SIZE + STRIPE_SIZE {
+    if bytes.len() < KEY_SIZE + CHUNK_HEAD_SIZE + STRIPE_SIZE {
         return None;
     }
     let key = Key::at(bytes, 0);
@@ -46,11 +40,7 @@ fn front_chunk(bytes: &[u8]) -> Option<ChunkAt>
     if !is_chunk_key(&key) || size > bytes.len() {
         return None;
     }
-    let chunk = Chunk::read(&bytes[KEY_SIZE..size])?;
-    Some(ChunkAt {
-        logical: key.offset,
-        chunk,
-    })
+    ChunkAt::read(key.offset, &bytes[KEY_SIZE..size])
 }
 
 /// The chunks of a bootstrap array.
@@ -63,7 +53,7 @@ pub fn array_chunks(alloc: Global, array: &[u8]) -> Result<Vec<ChunkAt>, BtrAnsw
     let mut rest = array;
     while !rest.is_empty() {
         let Some(c) = front_chunk(rest) else {
-            return Err(refused(65536, BtrRule::ChunkForm));
+            return Err(refused(SUPER_INFO_OFFSET, BtrRule::ChunkForm));
         };
         push_chunk(&mut chunks, c)?;
         rest = behind_entry(rest);

@@ -1,6 +1,26 @@
 ghost use Rattle.std.specs.Prelude.{◌≡◌, ◌++◌, ◌∷◌, [], map, true, OnOk, OnErr, IfErr, IfOk, Contains};
 ghost use Rattle.std.specs.List.{list_any};
-ghost use Rattle.btr_reader.specs.Chunks.{range_of, is_read_kind, lies_on, overlap, same_stripe, same_body, same_chunk, beside_refusals, chunks_refusals, is_chunk_key};
+ghost use Rattle.btr_reader.specs.Chunks.{
+  placed_chunk,
+  second_stripe,
+  range_of,
+  offset_of,
+  is_single_kind,
+  is_dup_kind,
+  is_read_kind,
+  stripes_of,
+  stripe_lies_on,
+  mirror_lies_on,
+  lies_on,
+  overlap,
+  same_stripe,
+  same_body,
+  same_mirror,
+  same_chunk,
+  beside_refusals,
+  chunks_refusals,
+  is_chunk_key,
+};
 ghost use Rattle.btr_reader_names.specs.Refuses.{IsNoFault};
 ghost use Rattle.btr_reader.specs.Opening.{IsAmong, NamesNoLogTree};
 ghost use Rattle.btr_super.specs.Rules.{NamesNoLog};
@@ -8,32 +28,54 @@ ghost use Rattle.btr_reader_walk.specs.Walks.{LieOn};
 
 use btr_reader_walk::{BtrAnswer, BtrRefusal, BtrRule, Feature, Key, MapRange, Memory};
 use btr_space_items::{Chunk, Stripe};
+use btrfs_format::flag::{
+    BLOCK_GROUP_DATA, BLOCK_GROUP_DUP, BLOCK_GROUP_METADATA, BLOCK_GROUP_SYSTEM,
+};
+use btrfs_format::key::CHUNK_ITEM;
+use btrfs_format::object::FIRST_CHUNK_TREE_OBJECTID;
 use std::alloc::Global;
-
-/// The object and the kind in the key of a chunk; the offset is its logical address in bytes.
-const CHUNK_OBJECT: u64 = 256;
-
-const CHUNK_KIND: u8 = 228;
-
-/// The kinds of chunks that are read.
-const DATA: u64 = 1;
-
-const SYSTEM: u64 = 2;
-
-const METADATA: u64 = 4;
 
 /// A chunk, and its logical address in bytes.
 #[derive(Clone, Copy, Debug, PartialEq, Eq)]
 pub struct ChunkAt {
     pub logical: u64,
     pub chunk: Chunk,
+    /// The second stripe of a chunk that has two.
+    pub mirror: Option<Stripe>,
+}
+
+impl ChunkAt {
+    /// The chunk at an address whose body this is. None exactly where it is no body of a chunk.
+    pub fn read(logical: u64, body: &[u8]) -> Option<ChunkAt>
+        ensures { result ≡ placed_chunk logical body.now }
+    {
+        match Chunk::read(body) {
+            Some(chunk) => Some(ChunkAt {
+                logical,
+                chunk,
+                mirror: second_stripe(body),
+            }),
+            None => None,
+        }
+    }
+}
+
+/// The second stripe in the body of a chunk with two.
+fn second_stripe(body: &[u8]) -> Option<Stripe>
+    ensures { result ≡ second_stripe body.now }
+{
+    if body.len() == Chunk::SIZE + Stripe::SIZE {
+        Some(Stripe::at(body, Chunk::SIZE))
+    } else {
+        None
+    }
 }
 
 /// Whether a key is that of a chunk.
 pub fn is_chunk_key(key: &Key) -> bool
     ensures { result ≡ is_chunk_key key.now }
 {
-    key.objectid == CHUNK_OBJECT && key.kind == CHUNK_KIND
+    key.objectid == FIRST_CHUNK_TREE_OBJECTID && key.kind == CHUNK_ITEM
 }
 
 /// The range of addresses that a chunk maps.
@@ -44,18 +86,48 @@ pub fn range_of(c: &ChunkAt) -> MapRange
         logical: c.logical,
         length: c.chunk.length,
         physical: c.chunk.stripe.offset,
+        mirror: offset_of(&c.mirror),
     }
 }
 
-/// Whether the address, the length and the place of a chunk are whole blocks, and it ends within a device of `device`
-/// blocks.
+/// Where a stripe begins, if there is one.
+fn offset_of(stripe: &Option<Stripe>) -> Option<u64>
+    ensures { result ≡ offset_of stripe.now }
+{
+    match stripe {
+        Some(stripe) => Some(stripe.offset),
+        None => None,
+    }
+}
+
+/// Whether a stripe begins with a block, and so many bytes from there on end within a device of `device` blocks.
+fn stripe_lies_on(device: u64, length: u64, stripe: &Stripe) -> bool
+    ensures { result ≡ stripe_lies_on device length stripe.now }
+{
+    stripe.offset % 4096 == 0 && stripe.offset as u128 + length as u128 <= 4096 * device as u128
+}
+
+/// The same of the second stripe of a chunk, which is on the device of the first one.
+fn mirror_lies_on(device: u64, chunk: &Chunk, mirror: &Option<Stripe>) -> bool
+    ensures { result ≡ mirror_lies_on device chunk.now mirror.now }
+{
+    match mirror {
+        Some(stripe) => {
+            stripe.devid == chunk.stripe.devid && stripe_lies_on(device, chunk.length, stripe)
+        }
+        None => true,
+    }
+}
+
+/// Whether the address, the length and the places of a chunk are whole blocks, and each of its stripes ends within a
+/// device of `device` blocks.
 fn lies_on(device: u64, c: &ChunkAt) -> bool
     ensures { result ≡ lies_on device c.now }
 {
     c.logical % 4096 == 0
         && c.chunk.length % 4096 == 0
-        && c.chunk.stripe.offset % 4096 == 0
-        && c.chunk.stripe.offset as u128 + c.chunk.length as u128 <= 4096 * device as u128
+        && stripe_lies_on(device, c.chunk.length, &c.chunk.stripe)
+        && mirror_lies_on(device, &c.chunk, &c.mirror)
 }
 
 /// Whether there is an address in both ranges.
@@ -103,11 +175,24 @@ fn same_body(a: &Chunk, b: &Chunk) -> bool
         && same_stripe(&a.stripe, &b.stripe)
 }
 
-/// The same with their addresses.
+/// Whether the second stripes of two chunks are the same, or both have none.
+fn same_mirror(a: &Option<Stripe>, b: &Option<Stripe>) -> bool
+    ensures { result ≡ same_mirror a.now b.now }
+{
+    match a {
+        Some(a) => match b {
+            Some(b) => same_stripe(a, b),
+            None => false,
+        },
+        None => b.is_none(),
+    }
+}
+
+/// Whether all fields of two chunks are the same, with their addresses and second stripes.
 fn same_chunk(a: &ChunkAt, b: &ChunkAt) -> bool
     ensures { result ≡ same_chunk a.now b.now }
 {
-    a.logical == b.logical && same_body(&a.chunk, &b.chunk)
+    a.logical == b.logical && same_body(&a.chunk, &b.chunk) && same_mirror(&a.mirror, &b.mirror)
 }
 
 /// Whether a chunk is one of these.
@@ -122,11 +207,34 @@ pub fn is_among(c: &ChunkAt, others: &[ChunkAt]) -> bool
     false
 }
 
-/// Whether a chunk's kind is data, system or metadata alone, in one piece.
+/// Whether a chunk's kind is data, system or metadata alone, in one copy.
+fn is_single_kind(kind: u64) -> bool
+    ensures { result ≡ is_single_kind kind }
+{
+    kind == BLOCK_GROUP_DATA || kind == BLOCK_GROUP_SYSTEM || kind == BLOCK_GROUP_METADATA
+}
+
+/// The same in two copies on one device.
+fn is_dup_kind(kind: u64) -> bool
+    ensures { result ≡ is_dup_kind kind }
+{
+    kind == BLOCK_GROUP_DATA | BLOCK_GROUP_DUP
+        || kind == BLOCK_GROUP_SYSTEM | BLOCK_GROUP_DUP
+        || kind == BLOCK_GROUP_METADATA | BLOCK_GROUP_DUP
+}
+
+/// Whether chunks of this kind are read.
 fn is_read_kind(kind: u64) -> bool
     ensures { result ≡ is_read_kind kind }
 {
-    kind == DATA || kind == SYSTEM || kind == METADATA
+    is_single_kind(kind) || is_dup_kind(kind)
+}
+
+/// How many stripes a chunk of a kind that is read has.
+fn stripes_of(kind: u64) -> u16
+    ensures { result ≡ stripes_of kind }
+{
+    if is_dup_kind(kind) { 2 } else { 1 }
 }
 
 /// What is wrong with a chunk beside others, on a device of `device` blocks.
@@ -142,7 +250,7 @@ fn check_chunk(device: u64, others: &[MapRange], c: &ChunkAt) -> Result<(), BtrR
             value: c.chunk.kind,
         });
     }
-    if c.chunk.num_stripes != 1 {
+    if c.chunk.num_stripes != stripes_of(c.chunk.kind) {
         return Err(BtrRefusal::Unsupported {
             feature: Feature::ChunkType,
             value: c.chunk.num_stripes as u64,

@@ -10,7 +10,6 @@ ghost use Rattle.btr_reader.specs.Opening.{IsAmong, NamesNoLogTree};
 use crate::chunk::{ChunkAt, add_chunk, copy_of, is_among, is_chunk_key};
 use crate::refusal::refused;
 use btr_reader_walk::{BlockSource, BtrAnswer, BtrRule, Key, MapRange, Tree, TreeWalker};
-use btr_space_items::Chunk;
 use std::alloc::Global;
 
 /// Adds what an item of the chunk tree adds to the map, where `boot` are the chunks of the bootstrap array.
@@ -32,13 +31,9 @@ fn add_item(
     if !is_chunk_key(key) {
         return Ok(());
     }
-    let chunk = match Chunk::read(body) {
-        Some(chunk) => chunk,
+    let c = match ChunkAt::read(key.offset, body) {
+        Some(c) => c,
         None => return Err(refused(key.offset, BtrRule::ChunkForm)),
-    };
-    let c = ChunkAt {
-        logical: key.offset,
-        chunk,
     };
     if is_among(&c, boot) {
         return Ok(());

@@ -5,22 +5,21 @@ ghost use Rattle.btr_reader_walk.specs.btr_node.NodeSize.{IsNodeSize};
 ghost use Rattle.btr_reader_walk.specs.Events.{TreeItem};
 ghost use Rattle.btr_reader_walk.specs.Walks.{LieOn, found};
 ghost use Rattle.btr_reader.specs.Image.{first_key, entry_named, is_called, own_index_refusals, naming_refusals, is_root_directory, twice_refusals, entry_refusals};
-ghost use Rattle.btr_reader_names.specs.declared.naming.Naming.{Naming as NamingOf};
-ghost use Rattle.btr_reader_names.specs.Links.{own_naming, namings};
+ghost use Rattle.btr_reader_names.specs.declared.dir_index.DirIndex.{DirIndex as DirIndexOf};
+ghost use Rattle.btr_reader_names.specs.Links.{own_naming, dir_indexes};
 ghost use Rattle.btr_reader_names.specs.Passes.{HasSeen};
 ghost use Rattle.btr_reader_names.specs.Refuses.{IsNoFault};
 ghost use Rattle.btr_reader.specs.Opening.{IsAmong, NamesNoLogTree};
 
 use crate::refusal::refused;
 use btr_reader_names::{
-    NameIn, Naming, ROOT, index_entry, is_name, names_inode, names_tree, naming_of, see_name,
+    DirIndex, NameIn, index_entry, is_name, names_inode, names_tree, naming_of, see_name,
 };
 use btr_reader_walk::{BlockSource, BtrAnswer, BtrRule, DirEntry, Key, MapRange, Tree, TreeWalker};
+use btrfs_format::key::DIR_INDEX;
+use btrfs_format::object::FIRST_FREE_OBJECTID;
 use indexmap::IndexSet;
 use std::alloc::Global;
-
-/// The kind in the key of a directory index.
-const INDEX_KIND: u8 = 96;
 
 /// The location of an entry that is called so, unless one came before.
 fn first_called(first: Option<Key>, name: &[u8], entry: &DirEntry<'_>) -> Option<Key>
@@ -39,11 +38,11 @@ fn first_called(first: Option<Key>, name: &[u8], entry: &DirEntry<'_>) -> Option
 }
 
 /// Adds an entry of the root directory to those that were seen, if it keeps the rules of names.
-fn see_entry(seen: &mut IndexSet<NameIn>, alloc: Global, naming: &Naming) -> Result<(), BtrAnswer>
-    ensures seen { (before : List NamingOf) → is_root_directory naming.now.dir ≡ true → HasSeen is_root_directory seen.old before
+fn see_entry(seen: &mut IndexSet<NameIn>, alloc: Global, naming: &DirIndex) -> Result<(), BtrAnswer>
+    ensures seen { (before : List DirIndexOf) → is_root_directory naming.now.dir ≡ true → HasSeen is_root_directory seen.old before
         → OnOk result (HasSeen is_root_directory seen.new (before ++ naming.now ∷ [])) }
     ensures ok { OnOk result (naming_refusals naming.now ≡ []) }
-    ensures err { (before : List NamingOf) → is_root_directory naming.now.dir ≡ true → HasSeen is_root_directory seen.old before
+    ensures err { (before : List DirIndexOf) → is_root_directory naming.now.dir ≡ true → HasSeen is_root_directory seen.old before
         → IfErr result (IsAmong (naming_refusals naming.now ++ twice_refusals (before ++ naming.now ∷ []))) }
     ensures known { IfErr result NamesNoLogTree }
     ensures cause { IfErr result IsNoFault }
@@ -69,15 +68,15 @@ fn seek_entry(
     leaf: u64,
 ) -> Result<Option<Key>, BtrAnswer>
     ensures found { (i : TreeItem) → i.key ≡ key.now → i.body ≡ body.now → IfOk result (λ o. o ≡ first_key first (entry_named (is_called name.now) (own_naming i))) }
-    ensures seen { (i : TreeItem) (given : List TreeItem) → i.key ≡ key.now → i.body ≡ body.now → i.leaf ≡ leaf → HasSeen is_root_directory seen.old (namings given)
-        → OnOk result (HasSeen is_root_directory seen.new (namings (given ++ i ∷ []))) }
+    ensures seen { (i : TreeItem) (given : List TreeItem) → i.key ≡ key.now → i.body ≡ body.now → i.leaf ≡ leaf → HasSeen is_root_directory seen.old (dir_indexes given)
+        → OnOk result (HasSeen is_root_directory seen.new (dir_indexes (given ++ i ∷ []))) }
     ensures ok { (i : TreeItem) → i.key ≡ key.now → i.body ≡ body.now → i.leaf ≡ leaf → OnOk result (own_index_refusals i ≡ []) }
-    ensures err { (i : TreeItem) (given : List TreeItem) → i.key ≡ key.now → i.body ≡ body.now → i.leaf ≡ leaf → HasSeen is_root_directory seen.old (namings given)
-        → IfErr result (IsAmong (own_index_refusals i ++ twice_refusals (namings (given ++ i ∷ [])))) }
+    ensures err { (i : TreeItem) (given : List TreeItem) → i.key ≡ key.now → i.body ≡ body.now → i.leaf ≡ leaf → HasSeen is_root_directory seen.old (dir_indexes given)
+        → IfErr result (IsAmong (own_index_refusals i ++ twice_refusals (dir_indexes (given ++ i ∷ [])))) }
     ensures known { IfErr result NamesNoLogTree }
     ensures cause { IfErr result IsNoFault }
 {
-    if key.kind != INDEX_KIND || key.objectid != ROOT {
+    if key.kind != DIR_INDEX || key.objectid != FIRST_FREE_OBJECTID {
         return Ok(first);
     }
     let entry = match index_entry(body) {
@@ -104,7 +103,7 @@ pub fn find_entry<S: BlockSource>(
     ensures kept { S.kept src.old src.new }
     ensures cause { HasCauseOf BtrAnswer.Fault (S.faults src.old) (S.faults src.new) result }
     ensures known { IfErr result NamesNoLogTree }
-    ensures entry { OverTold S.tells (S.blocks src.old) (λ image. IfOk result (λ o. o ≡ entry_named (is_called name.now) (namings (found image ranges.now tree)))) }
+    ensures entry { OverTold S.tells (S.blocks src.old) (λ image. IfOk result (λ o. o ≡ entry_named (is_called name.now) (dir_indexes (found image ranges.now tree)))) }
     ensures ok { OverTold S.tells (S.blocks src.old) (λ image. OnOk result (entry_refusals image ranges.now tree ≡ [])) }
     ensures err { OverTold S.tells (S.blocks src.old) (λ image. IfErr result (IsAmong (entry_refusals image ranges.now tree))) }
 {

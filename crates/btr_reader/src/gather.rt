@@ -10,26 +10,24 @@ ghost use Rattle.btr_reader_contents.specs.Extents.{extent_length, covered_by, i
 ghost use Rattle.btr_reader.specs.Image.{content_is_inline};
 ghost use Rattle.btr_reader_names.specs.Refuses.{IsNoFault};
 ghost use Rattle.btr_reader.specs.Opening.{IsAmong, NamesNoLogTree};
-ghost use Rattle.btr_reader.specs.Pieces.{range_pieces, pieces_of, Gathers, IsInOrder};
+ghost use Rattle.btr_reader.specs.Pieces.{range_pieces, pieces_of, GathersExtents, AreGatheredInOrder};
 
 use crate::gathered::Gathered;
-use crate::piece::Piece;
+use crate::mapped_extent::MappedExtent;
 use crate::refusal::refused;
 use btr_reader_contents::{Reach, check_extent, covered_by, extent_length, is_hole};
 use btr_reader_walk::{
     BlockSource, BtrAnswer, BtrRule, DiskRange, ExtentContent, FileExtent, Key, MapRange, Memory,
     Tree, TreeWalker,
 };
+use btrfs_format::key::EXTENT_DATA;
 use std::alloc::Global;
-
-/// The kind in the key of a file extent.
-const EXTENT_KIND: u8 = 108;
 
 /// Whether a key is that of an extent of this inode.
 fn is_extent_key(inode: u64, key: &Key) -> bool
     ensures { result ≡ is_extent_key inode key.now }
 {
-    key.objectid == inode && key.kind == EXTENT_KIND
+    key.objectid == inode && key.kind == EXTENT_DATA
 }
 
 fn is_inline(content: &ExtentContent<'_>) -> bool
@@ -43,13 +41,13 @@ fn is_inline(content: &ExtentContent<'_>) -> bool
 }
 
 /// Adds the piece of a regular extent at byte `offset` of the file, unless it is a hole.
-fn push_range(pieces: &mut Vec<Piece>, offset: u64, range: &DiskRange) -> Result<(), Memory>
+fn push_range(pieces: &mut Vec<MappedExtent>, offset: u64, range: &DiskRange) -> Result<(), Memory>
     ensures { OnOk result (pieces.new.items ≡ pieces.old.items ++ range_pieces offset range.now) }
 {
     if is_hole(range) {
         return Ok(());
     }
-    pieces.push(Piece {
+    pieces.push(MappedExtent {
         first: offset / 4096,
         count: range.num_bytes / 4096,
         disk: range.disk_bytenr,
@@ -59,7 +57,7 @@ fn push_range(pieces: &mut Vec<Piece>, offset: u64, range: &DiskRange) -> Result
 }
 
 fn push_content(
-    pieces: &mut Vec<Piece>,
+    pieces: &mut Vec<MappedExtent>,
     offset: u64,
     content: &ExtentContent<'_>,
 ) -> Result<(), Memory>
@@ -77,8 +75,8 @@ fn add_extent(g: &mut Gathered, offset: u64, content: &ExtentContent<'_>) -> Res
     requires few { g.old.reach.covered < 2 ^ 59 }
     requires behind { g.old.reach.end ≤ offset }
     requires aligned { is_aligned offset (content_value content.now) ≡ true }
-    requires order { IsInOrder g.old }
-    ensures order { OnOk result (IsInOrder g.new) }
+    requires order { AreGatheredInOrder g.old }
+    ensures order { OnOk result (AreGatheredInOrder g.new) }
     ensures end { OnOk result (g.new.reach.end ≡ offset + extent_length (content_value content.now)) }
     ensures covered { OnOk result (g.new.reach.covered ≡ g.old.reach.covered + covered_by (content_value content.now)) }
     ensures inline { OnOk result (g.new.inline ≡ (g.old.inline || content_is_inline (content_value content.now))) }
@@ -103,12 +101,12 @@ fn gather_item(
     leaf: u64,
 ) -> Result<(), BtrAnswer>
     requires few { g.old.reach.covered < 2 ^ 59 }
-    requires order { IsInOrder g.old }
-    ensures order { OnOk result (IsInOrder g.new) }
+    requires order { AreGatheredInOrder g.old }
+    ensures order { OnOk result (AreGatheredInOrder g.new) }
     ensures few { OnOk result (g.new.reach.covered < 2 ^ 59) }
-    ensures ok { (i : TreeItem) (given : List TreeItem) → i.key ≡ key.now → i.body ≡ body.now → i.leaf ≡ leaf → Gathers ranges.now (extents_of given inode) g.old
-        → OnOk result (Gathers ranges.now (extents_of (given ++ i ∷ []) inode) g.new) }
-    ensures err { (i : TreeItem) (given : List TreeItem) → i.key ≡ key.now → i.body ≡ body.now → i.leaf ≡ leaf → Gathers ranges.now (extents_of given inode) g.old
+    ensures ok { (i : TreeItem) (given : List TreeItem) → i.key ≡ key.now → i.body ≡ body.now → i.leaf ≡ leaf → GathersExtents ranges.now (extents_of given inode) g.old
+        → OnOk result (GathersExtents ranges.now (extents_of (given ++ i ∷ []) inode) g.new) }
+    ensures err { (i : TreeItem) (given : List TreeItem) → i.key ≡ key.now → i.body ≡ body.now → i.leaf ≡ leaf → GathersExtents ranges.now (extents_of given inode) g.old
         → IfErr result (IsAmong (extents_refusals ranges.now 0 0 (extents_of (given ++ i ∷ []) inode))) }
     ensures known { IfErr result NamesNoLogTree }
     ensures cause { IfErr result IsNoFault }
@@ -126,9 +124,9 @@ fn gather_item(
 }
 
 fn nothing(alloc: Global) -> Gathered
-    ensures gathers { (ranges : List RangeOf) → Gathers ranges [] result }
+    ensures gathers { (ranges : List RangeOf) → GathersExtents ranges [] result }
     ensures none { result.reach.covered ≡ 0 }
-    ensures order { IsInOrder result }
+    ensures order { AreGatheredInOrder result }
 {
     Gathered {
         reach: Reach { end: 0, covered: 0 },
@@ -151,8 +149,8 @@ pub fn gather_extents<S: BlockSource>(
     ensures kept { S.kept src.old src.new }
     ensures cause { HasCauseOf BtrAnswer.Fault (S.faults src.old) (S.faults src.new) result }
     ensures known { IfErr result NamesNoLogTree }
-    ensures order { IfOk result IsInOrder }
-    ensures gathered { OverTold S.tells (S.blocks src.old) (λ image. IfOk result (Gathers ranges.now (extents_of (found image ranges.now tree) inode))) }
+    ensures order { IfOk result AreGatheredInOrder }
+    ensures gathered { OverTold S.tells (S.blocks src.old) (λ image. IfOk result (GathersExtents ranges.now (extents_of (found image ranges.now tree) inode))) }
     ensures err { OverTold S.tells (S.blocks src.old) (λ image. IfErr result (IsAmong (wrong image ranges.now tree ++ extents_refusals ranges.now 0 0 (extents_of (found image ranges.now tree) inode)))) }
 {
     let mut g = nothing(alloc);

@@ -1,4 +1,4 @@
-use crate::piece::Piece;
+use crate::mapped_extent::MappedExtent;
 use btr_reader_contents::Reach;
 
 /// What is gathered of the extents of a file, one after the other.
@@ -7,5 +7,5 @@ pub struct Gathered {
     pub reach: Reach,
     /// Whether one of them is inline.
     pub inline: bool,
-    pub pieces: Vec<Piece>,
+    pub pieces: Vec<MappedExtent>,
 }

@@ -6,11 +6,11 @@ ghost use Rattle.btr_reader_walk.specs.refusals.declared.refusal.BtrRefusal.TheV
 ghost use Rattle.btr_reader_walk.specs.refusals.declared.rule.BtrRule.TheVariants.{SuperField};
 ghost use Rattle.btr_reader_walk.specs.Events.{TreeItem};
 ghost use Rattle.btr_reader_walk.specs.Walks.{LieOn, found, wrong};
-ghost use Rattle.btr_reader.specs.Image.{is_file, inode_number, file_if_image, image_at, image_in, saved_image, file_refusals, saved_refusals, image_refusals};
-ghost use Rattle.btr_reader_names.specs.Inodes.{inode_item, TellsInode};
+ghost use Rattle.btr_reader.specs.Image.{is_file_mode, inode_number, file_if_image, image_at, image_in, saved_image, file_refusals, saved_refusals, image_refusals};
+ghost use Rattle.btr_reader_names.specs.Inodes.{find_inode_item, TellsInode};
 ghost use Rattle.btr_reader_names.specs.Refuses.{IsNoFault};
 ghost use Rattle.btr_reader.specs.Opening.{NamesNoLogTree};
-ghost use Rattle.btr_reader.specs.Pieces.{Gathers, IsInOrder, MapsImage};
+ghost use Rattle.btr_reader.specs.Pieces.{GathersExtents, AreGatheredInOrder, MapsImage};
 ghost use Rattle.btr_reader.specs.Reading.{IsWalkable, FindsFile, ReadsImage};
 ghost use Rattle.btr_reader.specs.Roots.{HasRoots};
 ghost use Rattle.btr_reader.specs.Volume.{IsVolumeOn};
@@ -23,14 +23,13 @@ use crate::gathered::Gathered;
 use crate::image_map::ImageMap;
 use crate::inodes::find_inode;
 use crate::refusal::refused;
-use crate::trees::FILE_TREE;
 use crate::volume::Btrfs;
 use btr_reader_names::InodeFound;
 use btr_reader_walk::{BlockSource, BtrAnswer, BtrRule, Inode, Key, MapRange, Memory, Tree};
+use btrfs_format::block::SUPER_INFO_OFFSET;
+use btrfs_format::key::INODE_ITEM;
+use btrfs_format::object::FS_TREE;
 use std::alloc::Global;
-
-/// The kind in the key of an inode item.
-const INODE_KIND: u8 = 1;
 
 /// The inode of an inode item that was looked for, if it is that of a regular file.
 fn file_in(item: Option<InodeFound>) -> Result<Option<Inode>, BtrAnswer>
@@ -58,7 +57,7 @@ fn inode_number(key: Option<Key>) -> Option<u64>
 {
     match key {
         Some(key) => {
-            if key.kind == INODE_KIND {
+            if key.kind == INODE_ITEM {
                 Some(key.objectid)
             } else {
                 None
@@ -77,8 +76,8 @@ fn map_of(
     device: u64,
 ) -> Result<Option<ImageMap>, Memory>
     requires inside { LieOn device ranges.now }
-    requires order { IsInOrder gathered }
-    ensures map { (extents : List TreeItem) → is_file own.now.mode ≡ true → Gathers ranges.now extents gathered
+    requires order { AreGatheredInOrder gathered }
+    ensures map { (extents : List TreeItem) → is_file_mode own.now.mode ≡ true → GathersExtents ranges.now extents gathered
         → IfOk result (λ o. MapsImage ranges.now o (file_if_image extents (Some own.now))) }
     ensures device { IfOk result (λ o. IfSome o (λ m. m.device ≡ device)) }
 {
@@ -109,7 +108,7 @@ impl Btrfs {
         ensures known { IfErr result NamesNoLogTree }
         ensures device { IfOk result (λ o. IfSome o (λ m. m.device ≡ self.now.device)) }
         ensures reads { OverTold S.tells (S.blocks src.old) (λ image. (items : List TreeItem) → found image self.now.ranges.items tree ≡ items → wrong image self.now.ranges.items tree ≡ [] →
-            ReadsImage self.now.ranges.items (image_at items inode (inode_item items inode)) (file_refusals self.now.ranges.items items inode (inode_item items inode)) result) }
+            ReadsImage self.now.ranges.items (image_at items inode (find_inode_item items inode)) (file_refusals self.now.ranges.items items inode (find_inode_item items inode)) result) }
     {
         let ranges = self.ranges.as_slice();
         let item = find_inode(alloc, src, tree, ranges, inode)?;
@@ -158,7 +157,7 @@ impl Btrfs {
         ensures reads { OverTold S.tells (S.blocks src.old) (λ image. HasRoots self.now.roots (roots_on image self.now.sup self.now.ranges.items) →
             ReadsImage self.now.ranges.items (saved_image image self.now.sup self.now.ranges.items) (image_refusals image self.now.sup self.now.ranges.items) result) }
     {
-        let file = match self.find_tree(FILE_TREE)? {
+        let file = match self.find_tree(FS_TREE)? {
             Some(file) => file,
             None => return Ok(None),
         };
@@ -188,12 +187,12 @@ impl Btrfs {
         ensures known { IfErr result NamesNoLogTree }
         ensures device { IfOk result (λ o. IfSome o (λ m. m.device ≡ S.size src.old)) }
         // A source with another number of blocks is no source of this volume.
-        ensures resized { S.size src.old ≢ self.now.device → result ≡ Err (BtrAnswer.Refused (BadBtrfs 65536 SuperField)) }
+        ensures resized { S.size src.old ≢ self.now.device → result ≡ Err (BtrAnswer.Refused (BadBtrfs SUPER_INFO_OFFSET SuperField)) }
         ensures reads { OverTold S.tells (S.blocks src.old) (λ image. IsVolumeOn image self.now →
             ReadsImage self.now.ranges.items (saved_image image self.now.sup self.now.ranges.items) (image_refusals image self.now.sup self.now.ranges.items) result) }
     {
         if src.len() != self.device {
-            return Err(refused(65536, BtrRule::SuperField));
+            return Err(refused(SUPER_INFO_OFFSET, BtrRule::SuperField));
         }
         self.read_image(alloc, src)
     }

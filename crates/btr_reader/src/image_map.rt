@@ -1,7 +1,7 @@
 ghost use Rattle.btr_reader_walk.specs.Walks.{LieOn};
-ghost use Rattle.btr_reader.specs.Ascending.{AreApart};
+ghost use Rattle.btr_reader.specs.Ascending.{AscendApart};
 
-use crate::piece::Piece;
+use crate::mapped_extent::MappedExtent;
 use btr_reader_walk::MapRange;
 
 /// Where the blocks of a saved image lie on the device.
@@ -14,8 +14,8 @@ pub struct ImageMap {
     pub blocks: u64,
     /// How many blocks the device has.
     pub device: u64,
-    pub pieces: Vec<Piece>,
+    pub pieces: Vec<MappedExtent>,
     pub ranges: Vec<MapRange>,
     ghost inside: { LieOn device ranges.items },
-    ghost apart: { AreApart pieces.items },
+    ghost apart: { AscendApart pieces.items },
 }

@@ -1,14 +1,14 @@
 ghost use Rattle.std.specs.Prelude.{◌≡◌, ◌<◌, ◌≤◌, true, false, leb, length, IfSome};
 ghost use Rattle.std.specs.List.Sorted.{IsPartitionPoint};
 ghost use Rattle.btr_reader_walk.specs.Walks.{LieOn};
-ghost use Rattle.btr_reader.specs.Ascending.{AreApart};
+ghost use Rattle.btr_reader.specs.Ascending.{AscendApart};
 ghost use Rattle.btr_reader.specs.Pieces.{holds_block, block_in, pieces_place, map_place};
 
 use crate::image_map::ImageMap;
-use crate::piece::Piece;
+use crate::mapped_extent::MappedExtent;
 use btr_reader_walk::{BlockNo, MapRange, place};
 
-impl Piece {
+impl MappedExtent {
     /// Whether block `b` of the file is in the piece.
     fn holds(&self, b: u64) -> bool
         ensures { result ≡ holds_block self.now b }
@@ -35,8 +35,8 @@ impl Piece {
 }
 
 /// How many of the pieces begin at block `b` of the file or before.
-fn begun(pieces: &[Piece], b: u64) -> usize
-    requires { AreApart pieces.now }
+fn begun(pieces: &[MappedExtent], b: u64) -> usize
+    requires { AscendApart pieces.now }
     ensures within { result ≤ length pieces.now }
     ensures parts { IsPartitionPoint (λ p. leb p.first b ≡ true) (λ p. leb p.first b ≡ false) pieces.now result }
 {
@@ -45,9 +45,14 @@ fn begun(pieces: &[Piece], b: u64) -> usize
 
 /// The block of the device that holds block `b` of a file with these pieces. Only the last one that begins there or before
 /// can hold it.
-fn pieces_place(ranges: &[MapRange], pieces: &[Piece], device: u64, b: u64) -> Option<BlockNo>
+fn pieces_place(
+    ranges: &[MapRange],
+    pieces: &[MappedExtent],
+    device: u64,
+    b: u64,
+) -> Option<BlockNo>
     requires inside { LieOn device ranges.now }
-    requires apart { AreApart pieces.now }
+    requires apart { AscendApart pieces.now }
     ensures place { result ≡ pieces_place ranges.now pieces.now b }
     ensures inside { IfSome result (λ n. n < device) }
 {

@@ -4,17 +4,15 @@ ghost use Rattle.btr_reader_walk.specs.outside.History.{OverTold};
 ghost use Rattle.btr_reader_walk.specs.btr_node.NodeSize.{IsNodeSize};
 ghost use Rattle.btr_reader_walk.specs.Events.{TreeItem};
 ghost use Rattle.btr_reader_walk.specs.Walks.{LieOn, found, wrong};
-ghost use Rattle.btr_reader_names.specs.Inodes.{is_inode_of, inode_item, first_item, TellsInode};
+ghost use Rattle.btr_reader_names.specs.Inodes.{is_inode_of, find_inode_item, first_item, TellsInode};
 ghost use Rattle.btr_reader.specs.Opening.{IsAmong, NamesNoLogTree};
 
 use btr_reader_names::InodeFound;
 use btr_reader_walk::{
     BlockSource, BtrAnswer, Inode, Key, MapRange, Memory, Notes, Tree, note_items,
 };
+use btrfs_format::key::INODE_ITEM;
 use std::alloc::Global;
-
-/// The kind in the key of an inode item.
-const INODE_KIND: u8 = 1;
 
 /// The first item of an inode, as the items of a file tree go by.
 #[derive(Drop)]
@@ -25,9 +23,9 @@ struct SoughtInode {
 
 impl Notes for SoughtInode {
     ghost use Rattle.std.specs.Prelude.{◌≡◌};
-    ghost use Rattle.btr_reader_names.specs.Inodes.{inode_item, TellsInode};
+    ghost use Rattle.btr_reader_names.specs.Inodes.{find_inode_item, TellsInode};
 
-    ghost holds = { λ begun sought items. (sought.number ≡ begun.number) × TellsInode sought.first (inode_item items begun.number) };
+    ghost holds = { λ begun sought items. (sought.number ≡ begun.number) × TellsInode sought.first (find_inode_item items begun.number) };
 
     fn note(&mut self, _: Global, key: &Key, body: &[u8], leaf: u64) -> Result<(), Memory> {
         self.first = seek_inode(self.first, self.number, key, body, leaf);
@@ -49,7 +47,7 @@ fn seek_inode(
     if first.is_some() {
         return first;
     }
-    if key.objectid == number && key.kind == INODE_KIND && key.offset == 0 {
+    if key.objectid == number && key.kind == INODE_ITEM && key.offset == 0 {
         return Some(InodeFound {
             leaf,
             inode: Inode::read(body),
@@ -72,7 +70,7 @@ pub fn find_inode<S: BlockSource>(
     ensures kept { S.kept src.old src.new }
     ensures cause { HasCauseOf BtrAnswer.Fault (S.faults src.old) (S.faults src.new) result }
     ensures known { IfErr result NamesNoLogTree }
-    ensures inode { OverTold S.tells (S.blocks src.old) (λ image. IfOk result (λ o. TellsInode o (inode_item (found image ranges.now tree) number))) }
+    ensures inode { OverTold S.tells (S.blocks src.old) (λ image. IfOk result (λ o. TellsInode o (find_inode_item (found image ranges.now tree) number))) }
     ensures ok { OverTold S.tells (S.blocks src.old) (λ image. OnOk result (wrong image ranges.now tree ≡ [])) }
     ensures err { OverTold S.tells (S.blocks src.old) (λ image. IfErr result (IsAmong (wrong image ranges.now tree))) }
 {

@@ -14,9 +14,9 @@ mod image_place;
 mod inodes;
 mod laws;
 mod listing;
+mod mapped_extent;
 mod metadata_laws;
 mod open;
-mod piece;
 mod placed;
 mod refusal;
 mod roots;
@@ -33,9 +33,8 @@ pub use laws::{
     arrays_read_back, btrfs_rows_are_one, items_decide_btrfs_rows, opened_maps_are_apart,
     opened_maps_are_in_blocks,
 };
+pub use mapped_extent::MappedExtent;
 pub use metadata_laws::{metadata_decides, reserved_blocks_are_spare, same_parts_decide};
-pub use piece::Piece;
 pub use refusal::refused;
 pub use roots::{RootFound, RootItems};
-pub use trees::FILE_TREE;
 pub use volume::Btrfs;

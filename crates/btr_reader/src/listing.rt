@@ -7,6 +7,7 @@ ghost use Rattle.btr_reader.specs.Parts.{ListsBtrfs, RefusesBtrfsRows};
 use crate::open::super_by;
 use crate::volume::Btrfs;
 use btr_reader_walk::{Block, BlockSource, BtrAnswer, BtrRefusal};
+use btrfs_format::block::SUPER_BLOCK;
 use fs_rows::Rows;
 use std::alloc::Global;
 
@@ -22,7 +23,7 @@ impl Btrfs {
     ) -> Result<Rows, BtrAnswer>
         ensures kept { S.kept src.old src.new }
         ensures cause { HasCauseOf BtrAnswer.Fault (S.faults src.old) (S.faults src.new) result }
-        ensures rows { OverTold S.tells (S.blocks src.old) (λ image. block.now.bytes ≡ block_at image 16 → MatchResult result (ListsBtrfs image) (RefusesBtrfsRows image)) }
+        ensures rows { OverTold S.tells (S.blocks src.old) (λ image. block.now.bytes ≡ block_at image SUPER_BLOCK → MatchResult result (ListsBtrfs image) (RefusesBtrfsRows image)) }
     {
         let sup = super_by(block, src.len())?;
         if sup.log_root != 0 {

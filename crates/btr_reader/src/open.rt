@@ -5,7 +5,7 @@ ghost use Rattle.btr_super.specs.Rules.{super_of, NamesNoLog};
 ghost use Rattle.btr_reader_walk.specs.Walks.{LieOn};
 ghost use Rattle.btr_reader.specs.Chunks.{range_of};
 ghost use Rattle.btr_reader_names.specs.Refuses.{IsNoFault};
-ghost use Rattle.btr_reader.specs.Opening.{super_on, boot_chunks, opening_refusals, boot_refusals, IsAmong, IsInBounds, IsSuperAnswer, NamesNoLogTree};
+ghost use Rattle.btr_reader.specs.Opening.{super_on, boot_chunks, opening_refusals, boot_refusals, IsAmong, IsSuperInBounds, IsSuperAnswer, NamesNoLogTree};
 ghost use Rattle.btr_reader.specs.Volume.{IsVolumeOn};
 
 use crate::bootstrap::array_chunks;
@@ -15,12 +15,10 @@ use crate::refusal::refused;
 use crate::roots::read_roots;
 use crate::trees::{chunk_tree, root_tree};
 use crate::volume::Btrfs;
-use btr_reader_walk::{Block, BlockNo, BlockSource, BtrAnswer, BtrRefusal, BtrRule, MapRange};
+use btr_reader_walk::{Block, BlockSource, BtrAnswer, BtrRefusal, BtrRule, MapRange};
 use btr_super::Super;
+use btrfs_format::block::{SUPER_BLOCK, SUPER_INFO_OFFSET};
 use std::alloc::Global;
-
-/// The place of the first superblock.
-const SUPER_PLACE: BlockNo = 16;
 
 /// The chunks of the bootstrap array, and the map of addresses that they make.
 #[derive(Drop)]
@@ -31,11 +29,11 @@ struct Boot {
 
 /// The superblock that a block is, read at its place.
 fn super_in(block: &Block, device: u64) -> Result<Super, BtrRefusal>
-    ensures value { result ≡ super_of block.now.bytes 16 device }
-    ensures bounds { IfOk result IsInBounds }
+    ensures value { result ≡ super_of block.now.bytes SUPER_BLOCK device }
+    ensures bounds { IfOk result IsSuperInBounds }
     ensures known { IfErr result NamesNoLog }
 {
-    Super::read(block, SUPER_PLACE, device)
+    Super::read(block, SUPER_BLOCK, device)
 }
 
 /// Reads the superblock of a device of `device` blocks.
@@ -43,24 +41,24 @@ fn read_super<S: BlockSource>(src: &mut S, device: u64) -> Result<Super, BtrAnsw
     requires { device ≡ S.size src.old }
     ensures kept { S.kept src.old src.new }
     ensures cause { HasCauseOf BtrAnswer.Fault (S.faults src.old) (S.faults src.new) result }
-    ensures bounds { IfOk result IsInBounds }
+    ensures bounds { IfOk result IsSuperInBounds }
     ensures known { IfErr result NamesNoLogTree }
     ensures ok { OverTold S.tells (S.blocks src.old) (λ image. IfOk result (λ s. super_on image ≡ Ok s)) }
     ensures err { OverTold S.tells (S.blocks src.old) (λ image. IfErr result (IsSuperAnswer (super_on image))) }
 {
-    if device <= SUPER_PLACE {
-        return Err(refused(65536, BtrRule::SuperField));
+    if device <= SUPER_BLOCK {
+        return Err(refused(SUPER_INFO_OFFSET, BtrRule::SuperField));
     }
     let mut block = Block::zero();
-    src.read(SUPER_PLACE, &mut block)?;
+    src.read(SUPER_BLOCK, &mut block)?;
     super_by(&block, device)
 }
 
 /// The superblock of a device of `device` blocks whose block 16 was read.
 pub fn super_by(block: &Block, device: u64) -> Result<Super, BtrAnswer>
-    ensures bounds { IfOk result IsInBounds }
-    ensures ok { IfOk result (λ s. super_of block.now.bytes 16 device ≡ Ok s) }
-    ensures err { IfErr result (IsSuperAnswer (super_of block.now.bytes 16 device)) }
+    ensures bounds { IfOk result IsSuperInBounds }
+    ensures ok { IfOk result (λ s. super_of block.now.bytes SUPER_BLOCK device ≡ Ok s) }
+    ensures err { IfErr result (IsSuperAnswer (super_of block.now.bytes SUPER_BLOCK device)) }
     ensures known { IfErr result NamesNoLogTree }
     ensures cause { IfErr result IsNoFault }
 {
@@ -69,7 +67,7 @@ pub fn super_by(block: &Block, device: u64) -> Result<Super, BtrAnswer>
 
 /// The chunks of the bootstrap array, on a device of `device` blocks.
 fn read_boot(alloc: Global, sup: &Super, device: u64) -> Result<Boot, BtrAnswer>
-    requires { IsInBounds sup.now }
+    requires { IsSuperInBounds sup.now }
     ensures inside { IfOk result (λ b. LieOn device b.ranges.items) }
     ensures ok { OnOk result (boot_refusals device (boot_chunks sup.now) ≡ []) }
     ensures chunks { IfOk result (λ b. boot_chunks sup.now ≡ Some b.chunks.items) }
@@ -115,8 +113,8 @@ impl Btrfs {
         ensures cause { HasCauseOf BtrAnswer.Fault (S.faults src.old) (S.faults src.new) result }
         ensures known { IfErr result NamesNoLogTree }
         ensures device { IfOk result (λ b. b.device ≡ S.size src.old) }
-        ensures opened { OverTold S.tells (S.blocks src.old) (λ image. block.now.bytes ≡ block_at image 16 → IfOk result (IsVolumeOn image)) }
-        ensures refused { OverTold S.tells (S.blocks src.old) (λ image. block.now.bytes ≡ block_at image 16 → IfErr result (IsAmong (opening_refusals image))) }
+        ensures opened { OverTold S.tells (S.blocks src.old) (λ image. block.now.bytes ≡ block_at image SUPER_BLOCK → IfOk result (IsVolumeOn image)) }
+        ensures refused { OverTold S.tells (S.blocks src.old) (λ image. block.now.bytes ≡ block_at image SUPER_BLOCK → IfErr result (IsAmong (opening_refusals image))) }
     {
         let sup = super_by(block, src.len())?;
         Btrfs::open_with(alloc, src, sup)
@@ -128,7 +126,7 @@ impl Btrfs {
         src: &mut S,
         sup: Super,
     ) -> Result<Btrfs, BtrAnswer>
-        requires bounds { IsInBounds sup }
+        requires bounds { IsSuperInBounds sup }
         ensures kept { S.kept src.old src.new }
         ensures cause { HasCauseOf BtrAnswer.Fault (S.faults src.old) (S.faults src.new) result }
         ensures known { IfErr result NamesNoLogTree }

@@ -5,7 +5,7 @@ ghost use Rattle.fs_rows.specs.Rows.{row_of};
 ghost use Rattle.fs_rows.specs.declared.row.Kind.{Kind as KindOf};
 ghost use Rattle.fs_rows.specs.declared.row.Kind.TheVariants.{Symlink};
 ghost use Rattle.fs_rows.specs.declared.row.Row.{Row as RowOf};
-ghost use Rattle.fs_paths.specs.declared.link.PathTo.{PathTo as PathOf};
+ghost use Rattle.fs_paths.specs.declared.node_link.PathTo.{PathTo as PathOf};
 ghost use Rattle.fs_paths.specs.declared.node.NodeId.{NodeId as NodeOf};
 ghost use Rattle.fs_paths.specs.Paths.{ArePaths};
 ghost use Rattle.btr_reader_walk.specs.Events.{TreeItem};
@@ -21,23 +21,24 @@ ghost use Rattle.btr_reader_names.specs.Refuses.{IsNoFault};
 use crate::refusal::refused;
 use crate::row::{inode_row, tree_row};
 use btr_reader_contents::{Contents, wanted_inode};
-use btr_reader_names::{Names, ROOT, kind_of_mode};
+use btr_reader_names::{NameTable, kind_of_mode};
 use btr_reader_walk::{BtrAnswer, BtrRule, Inode, Memory};
+use btrfs_format::object::FIRST_FREE_OBJECTID;
 use fs_paths::PathTo;
-use fs_rows::{Content, Row, Rows, Spot, no_content};
+use fs_rows::{Content, Row, RowPlace, Rows, no_content};
 use std::alloc::Global;
 
 /// The row at a path, behind those of the paths before it.
 pub fn row_at(
     alloc: Global,
-    names: &Names,
+    names: &NameTable,
     contents: &Contents,
     path: &PathTo,
     rows: &Rows,
 ) -> Result<Row, BtrAnswer>
     ensures cause { IfErr result IsNoFault }
     ensures row { (named : NodeOf → Bool) (image : Image) (ranges : List RangeOf) (items : List TreeItem) (root : ℕ) (has_root : ℕ → Bool) → IsReadTree names.now named (known_content contents.now) image ranges items root has_root →
-        (list : List PathOf) → ArePaths (links_of names.now named) (inode_node 256) list → (i : ℕ) → slice_get list i ≡ Some path.now → rows.now ≡ map (λ p. row_of (made_row image ranges items list p)) (take i list) →
+        (list : List PathOf) → ArePaths (links_of names.now named) (inode_node FIRST_FREE_OBJECTID) list → (i : ℕ) → slice_get list i ≡ Some path.now → rows.now ≡ map (λ p. row_of (made_row image ranges items list p)) (take i list) →
         MatchResult result (λ row. row ≡ row_of (made_row image ranges items list path.now)) IsMemory }
 {
     if path.target.space != 0 {
@@ -46,10 +47,10 @@ pub fn row_at(
     }
     let ino = path.target.number;
     let Some(own) = names.inode(ino) else {
-        return Err(refused(ROOT, BtrRule::NoInode));
+        return Err(refused(FIRST_FREE_OBJECTID, BtrRule::NoInode));
     };
     let Some(kind) = kind_of_mode(own.mode) else {
-        return Err(refused(ROOT, BtrRule::Body));
+        return Err(refused(FIRST_FREE_OBJECTID, BtrRule::Body));
     };
     let content = content(alloc, contents, ino, &own)?;
     let spot = spot(path, rows)?;
@@ -68,7 +69,7 @@ fn content(alloc: Global, contents: &Contents, ino: u64, own: &Inode) -> Result<
 }
 
 /// Where a row stands, behind those of the paths before it.
-fn spot(path: &PathTo, rows: &Rows) -> Result<Spot, Memory>
+fn spot(path: &PathTo, rows: &Rows) -> Result<RowPlace, Memory>
     ensures path { IfOk result (λ spot. spot.path ≡ path.now.path) }
     ensures names { IfOk result (λ spot. spot.names ≡ path.now.names) }
     ensures earlier { path.now.least < length rows.now → IfOk result (λ spot. (row : RowOf) → slice_get rows.now path.now.least ≡ Some row → spot.least ≡ row.path) }
@@ -79,7 +80,7 @@ fn spot(path: &PathTo, rows: &Rows) -> Result<Spot, Memory>
     } else {
         path.path.clone()?
     };
-    Ok(Spot {
+    Ok(RowPlace {
         path: path.path.clone()?,
         least,
         names: path.names,

@@ -9,31 +9,29 @@ ghost use Rattle.btr_reader.specs.Opening.{IsAmong, NamesNoLogTree};
 ghost use Rattle.btr_reader.specs.Roots.{pointer_of, root_pointer, HasRoots, found_root};
 
 use btr_reader_walk::{
-    BlockSource, BtrAnswer, Key, MapRange, Memory, Notes, Pointer, Tree, note_items,
+    BlockSource, BtrAnswer, Key, MapRange, Memory, NodePointer, Notes, Tree, note_items,
 };
 use btr_space_items::RootItem;
+use btrfs_format::key::ROOT_ITEM;
 use indexmap::{IndexMap, IndexSet};
 use std::alloc::Global;
-
-/// The kind in the key of a root item.
-pub const ROOT_KIND: u8 = 132;
 
 /// A root item: the leaf that it stands in, and the pointer to the root of its tree; None where its body is off the
 /// grammar.
 #[derive(Clone, Copy, Debug)]
 pub struct RootFound {
     pub leaf: u64,
-    pub pointer: Option<Pointer>,
+    pub pointer: Option<NodePointer>,
 }
 
 /// The pointer to a tree's root; None where its level is above 7.
-fn root_pointer(root: &RootItem) -> Option<Pointer>
+fn root_pointer(root: &RootItem) -> Option<NodePointer>
     ensures { result ≡ root_pointer root.now }
 {
     if root.level > 7 {
         return None;
     }
-    Some(Pointer {
+    Some(NodePointer {
         address: root.bytenr,
         level: root.level,
         generation: root.generation,
@@ -41,7 +39,7 @@ fn root_pointer(root: &RootItem) -> Option<Pointer>
 }
 
 /// The pointer that the body of a root item gives.
-fn pointer_of(body: &[u8]) -> Option<Pointer>
+fn pointer_of(body: &[u8]) -> Option<NodePointer>
     ensures { result ≡ pointer_of body.now }
 {
     match RootItem::read(body) {
@@ -84,7 +82,7 @@ impl Notes for RootItems {
 
     /// Notes one more item of the root tree. Items of other kinds are passed over.
     fn note(&mut self, _: Global, key: &Key, body: &[u8], leaf: u64) -> Result<(), Memory> {
-        if key.kind != ROOT_KIND {
+        if key.kind != ROOT_ITEM {
             return Ok(());
         }
         let root = RootFound {

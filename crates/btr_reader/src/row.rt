@@ -6,11 +6,11 @@ ghost use Rattle.fs_rows.specs.Content.{IsContent};
 ghost use Rattle.btr_reader.specs.Rows.{has_flag, time_of, subvolume_row};
 
 use btr_reader_walk::{Inode, Memory, Stamp};
-use fs_rows::{Content, Kind, Name, Path, Row, Spot, Time};
+use fs_rows::{Content, Kind, Name, Path, Row, RowPlace, Time};
 use std::alloc::Global;
 
 /// The row of an inode.
-pub fn inode_row(spot: Spot, own: &Inode, kind: Kind, content: Content) -> Row
+pub fn inode_row(spot: RowPlace, own: &Inode, kind: Kind, content: Content) -> Row
     ensures { (bytes : List ℕ) → IsContent kind bytes content.length content.mark content.target → result ≡ row_of (row_by own.now kind spot.path spot.least spot.names bytes) }
 {
     Row {

@@ -5,7 +5,7 @@ ghost use Rattle.btr_reader_walk.specs.outside.History.{Image, OverTold};
 ghost use Rattle.btr_reader_walk.specs.refusals.declared.refusal.BtrRefusal.TheVariants.{BadBtrfs, LogPending};
 ghost use Rattle.btr_reader_walk.specs.refusals.declared.rule.BtrRule.TheVariants.{SuperField};
 ghost use Rattle.btr_reader_walk.specs.declared.map.MapRange.{MapRange as RangeOf};
-ghost use Rattle.btr_reader_walk.specs.declared.tree.Pointer.{Pointer as PointerOf};
+ghost use Rattle.btr_reader_walk.specs.declared.tree.NodePointer.{NodePointer as NodePointerOf};
 ghost use Rattle.btr_reader_walk.specs.Events.{TreeItem};
 ghost use Rattle.btr_reader_walk.specs.Walks.{LieOn};
 ghost use Rattle.fs_rows.specs.Rows.{WholeRow, row_of};
@@ -14,7 +14,7 @@ ghost use Rattle.fs_paths.specs.Links.{same_node};
 ghost use Rattle.btr_reader_contents.specs.Blocks.{AreInBlocks};
 ghost use Rattle.btr_reader_contents.specs.Contents.{known_content};
 ghost use Rattle.btr_reader_names.specs.Roots.{has_root};
-ghost use Rattle.btr_reader_names.specs.Table.{HasNoted};
+ghost use Rattle.btr_reader_names.specs.Table.{HasNotedNames};
 ghost use Rattle.btr_reader.specs.Made.{IsChecked, IsMemory, IsReadTree, RefusesChecked, RefusesRows, RefusesTree};
 ghost use Rattle.btr_reader_names.specs.Refuses.{IsNoFault};
 ghost use Rattle.btr_reader.specs.Opening.{tree_of};
@@ -25,11 +25,12 @@ ghost use Rattle.btr_reader.specs.Rows.{AreBtrfsRows, AreRows, roots_on};
 
 use crate::placed::row_at;
 use crate::refusal::refused;
-use crate::trees::FILE_TREE;
 use crate::volume::Btrfs;
 use btr_reader_contents::Contents;
-use btr_reader_names::{Names, ROOT, inode_node};
+use btr_reader_names::{NameTable, inode_node};
 use btr_reader_walk::{BlockSource, BtrAnswer, BtrRefusal, BtrRule, Tree};
+use btrfs_format::block::SUPER_INFO_OFFSET;
+use btrfs_format::object::{FIRST_FREE_OBJECTID, FS_TREE};
 use fs_paths::{NodeId, paths};
 use fs_rows::Rows;
 use indexmap::IndexSet;
@@ -47,7 +48,7 @@ impl Btrfs {
         ensures cause { HasCauseOf BtrAnswer.Fault (S.faults src.old) (S.faults src.new) result }
         // Over any source: a log tree first, and then another number of blocks.
         ensures logged { self.now.sup.log_root ≢ 0 → result ≡ Err (BtrAnswer.Refused (LogPending self.now.sup.log_root)) }
-        ensures resized { self.now.sup.log_root ≡ 0 → S.size src.old ≢ self.now.device → result ≡ Err (BtrAnswer.Refused (BadBtrfs 65536 SuperField)) }
+        ensures resized { self.now.sup.log_root ≡ 0 → S.size src.old ≢ self.now.device → result ≡ Err (BtrAnswer.Refused (BadBtrfs SUPER_INFO_OFFSET SuperField)) }
         ensures rows { OverTold S.tells (S.blocks src.old) (λ image. IsVolumeOn image self.now →
             MatchResult result (λ rows. (self.now.sup.log_root ≡ 0) × ((whole : List WholeRow) × AreBtrfsRows image self.now.sup self.now.ranges.items whole × (rows ≡ map row_of whole)))
             (RefusesRows image self.now.sup self.now.ranges.items)) }
@@ -58,7 +59,7 @@ impl Btrfs {
             }));
         }
         if src.len() != self.device {
-            return Err(refused(65536, BtrRule::SuperField));
+            return Err(refused(SUPER_INFO_OFFSET, BtrRule::SuperField));
         }
         let tree = self.file_tree()?;
         self.read_rows(alloc, src, tree)
@@ -69,10 +70,10 @@ impl Btrfs {
         ensures walkable { IfOk result IsWalkable }
         ensures cause { IfErr result IsNoFault }
         ensures finds { (image : Image) → HasRoots self.now.roots (roots_on image self.now.sup self.now.ranges.items) →
-            MatchResult result (λ t. (i : TreeItem) × (p : PointerOf) × (root_item 5 (roots_on image self.now.sup self.now.ranges.items) ≡ Some i) × (pointer_of i.body ≡ Some p) × (t ≡ tree_of self.now.sup 5 p))
+            MatchResult result (λ t. (i : TreeItem) × (p : NodePointerOf) × (root_item FS_TREE (roots_on image self.now.sup self.now.ranges.items) ≡ Some i) × (pointer_of i.body ≡ Some p) × (t ≡ tree_of self.now.sup FS_TREE p))
             (RefusesTree image self.now.sup self.now.ranges.items) }
     {
-        match self.find_tree(FILE_TREE)? {
+        match self.find_tree(FS_TREE)? {
             Some(tree) => Ok(tree),
             None => Err(refused(self.sup.root, BtrRule::NoInode)),
         }
@@ -83,12 +84,12 @@ impl Btrfs {
     pub(crate) fn named(
         &self,
         alloc: Global,
-        names: &Names,
+        names: &NameTable,
         root: u64,
     ) -> Result<IndexSet<NodeId>, BtrAnswer>
         ensures cause { IfErr result IsNoFault }
         ensures named { (image : Image) → HasRoots self.now.roots (roots_on image self.now.sup self.now.ranges.items) →
-            (items : List TreeItem) → HasNoted names.now items →
+            (items : List TreeItem) → HasNotedNames names.now items →
             MatchResult result (λ named. IsChecked names.now (contains same_node named) items root (has_root (roots_on image self.now.sup self.now.ranges.items))) (RefusesChecked (has_root (roots_on image self.now.sup self.now.ranges.items)) items root) }
     {
         names.check(alloc, root, &self.roots.numbers)
@@ -106,11 +107,11 @@ impl Btrfs {
         ensures kept { S.kept src.old src.new }
         ensures cause { HasCauseOf BtrAnswer.Fault (S.faults src.old) (S.faults src.new) result }
         ensures rows { OverTold S.tells (S.blocks src.old) (λ image. AreInBlocks self.now.ranges.items → HasRoots self.now.roots (roots_on image self.now.sup self.now.ranges.items) →
-            (i : TreeItem) (p : PointerOf) → root_item 5 (roots_on image self.now.sup self.now.ranges.items) ≡ Some i → pointer_of i.body ≡ Some p → tree ≡ tree_of self.now.sup 5 p →
+            (i : TreeItem) (p : NodePointerOf) → root_item FS_TREE (roots_on image self.now.sup self.now.ranges.items) ≡ Some i → pointer_of i.body ≡ Some p → tree ≡ tree_of self.now.sup FS_TREE p →
             MatchResult result (λ rows. (whole : List WholeRow) × AreBtrfsRows image self.now.sup self.now.ranges.items whole × (rows ≡ map row_of whole)) (RefusesTree image self.now.sup self.now.ranges.items)) }
     {
         let ranges = self.ranges.as_slice();
-        let names = Names::read(alloc, src, tree, ranges)?;
+        let names = NameTable::read(alloc, src, tree, ranges)?;
         let named = self.named(alloc, &names, tree.root.address)?;
         let contents = Contents::read(alloc, src, tree, ranges, &names, &named)?;
         rows_of(alloc, &names, &named, &contents)
@@ -120,7 +121,7 @@ impl Btrfs {
 /// The rows of the paths of a tree whose names and contents are these.
 fn rows_of(
     alloc: Global,
-    names: &Names,
+    names: &NameTable,
     named: &IndexSet<NodeId>,
     contents: &Contents,
 ) -> Result<Rows, BtrAnswer>
@@ -129,7 +130,7 @@ fn rows_of(
         MatchResult result (λ rows. (whole : List WholeRow) × AreRows image ranges items whole × (rows ≡ map row_of whole)) IsMemory }
 {
     let links = names.links(alloc, named)?;
-    let paths = paths(alloc, links, inode_node(ROOT))?;
+    let paths = paths(alloc, links, inode_node(FIRST_FREE_OBJECTID))?;
     let mut rows = Rows::new(alloc);
     for i in 0..paths.len() {
         let row = row_at(alloc, names, contents, &paths[i], &rows)?;

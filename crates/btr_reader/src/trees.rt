@@ -14,20 +14,13 @@ ghost use Rattle.btr_reader.specs.Roots.{HasRoots, TellsRoot, root_item};
 
 use crate::entries::find_entry;
 use crate::refusal::refused;
-use crate::roots::{ROOT_KIND, RootFound};
+use crate::roots::RootFound;
 use crate::volume::Btrfs;
-use btr_reader_walk::{BlockSource, BtrAnswer, BtrRule, Form, Key, Pointer, Tree};
+use btr_reader_walk::{BlockSource, BtrAnswer, BtrRule, Form, Key, NodePointer, Tree};
 use btr_super::{Super, sum_kind};
+use btrfs_format::key::ROOT_ITEM;
+use btrfs_format::object::{CHUNK_TREE, ROOT_TREE};
 use std::alloc::Global;
-
-/// The number of the root tree.
-const ROOT_TREE: u64 = 1;
-
-/// The number of the chunk tree.
-const CHUNK_TREE: u64 = 3;
-
-/// The number of the file tree.
-pub const FILE_TREE: u64 = 5;
 
 /// What the nodes of a volume with this superblock share. The kind of checksum is known where the superblock was read.
 fn form_of(sup: &Super) -> Form
@@ -35,7 +28,7 @@ fn form_of(sup: &Super) -> Form
     ensures { result ≡ form_of sup.now }
 {
     Form {
-        fsid: sup.fsid,
+        fsid: sup.node_fsid(),
         nodesize: sup.nodesize,
         sums: sum_kind(sup.csum_type).unwrap(),
     }
@@ -48,7 +41,7 @@ pub fn chunk_tree(sup: &Super) -> Tree
 {
     Tree {
         form: form_of(sup),
-        root: Pointer {
+        root: NodePointer {
             address: sup.chunk_root,
             level: sup.chunk_root_level,
             generation: sup.chunk_root_generation,
@@ -64,7 +57,7 @@ pub fn root_tree(sup: &Super) -> Tree
 {
     Tree {
         form: form_of(sup),
-        root: Pointer {
+        root: NodePointer {
             address: sup.root,
             level: sup.root_level,
             generation: sup.generation,
@@ -79,7 +72,7 @@ fn tree_number(key: Option<Key>) -> Option<u64>
 {
     match key {
         Some(key) => {
-            if key.kind == ROOT_KIND {
+            if key.kind == ROOT_ITEM {
                 Some(key.objectid)
             } else {
                 None

@@ -1,14 +1,5 @@
 -- What a marker holds after one more extent.
-use Rattle.std.proofs.Common.{◌≡◌, ℕ, ◌+◌, ◌≤◌, true, List, [], ◌∷◌, ◌++◌, Some, Contains, refl, sym, ap, subst, ◌∙◌, arith}
-use Rattle.std.proofs.lemmas.List.Elements.{Contains-append_left, Contains-append_right}
-use Rattle.btr_reader_walk.specs.refusals.declared.refusal.BtrRefusal.{BtrRefusal}
-use Rattle.btr_reader_walk.specs.btr_keys.FileExtent.{FileExtentValue, file_extent_of}
-use Rattle.btr_reader_walk.specs.declared.map.MapRange.{MapRange}
-use Rattle.btr_reader_walk.specs.Events.{TreeItem}
-use Rattle.btr_reader_walk.proofs.Events.{none_both}
-use Rattle.btr_reader_contents.specs.declared.extents.Reach.{Reach}
-use Rattle.btr_reader_contents.specs.Extents.{extent_length, covered_by, end_after, covered_after, has_form, is_aligned, extent_refusals, refusals_at, extents_refusals, extents_end, extents_covered}
-use Rattle.btr_reader_contents.specs.States.{ReachSoFar}
+use Rattle.btr_reader_contents.proofs.Imports.{◌≡◌, ℕ, ◌+◌, ◌≤◌, true, List, [], ◌∷◌, ◌++◌, Some, Contains, refl, sym, ap, subst, ◌∙◌, arith, Contains-append_left, Contains-append_right, BtrRefusal, FileExtentValue, file_extent_of, MapRange, TreeItem, none_both, Reach, extent_length, covered_by, end_after, covered_after, has_form, is_aligned, extent_refusals, refusals_at, extents_refusals, extents_end, extents_covered, ReachSoFar}
 use Rattle.btr_reader_contents.proofs.ExtentLists.{extents_refusals-append, extents_end-append, extents_covered-append, form_of_sound, behind_end, aligned_of}
 
 -- what is wrong with an extent behind others is wrong with all

@@ -1,18 +1,5 @@
 -- What one more extent makes of the bytes of a file.
-use Rattle.std.proofs.Common.{◌≡◌, ℕ, ◌+◌, ◌-◌, ◌<◌, ◌≤◌, min, Bool, true, false, cond, ltb, if◌then◌else◌, List, [], ◌∷◌, ◌++◌, length, get_or, take, Option, Some, None, refl, sym, ap, ◌∙◌, arith, inl, inr}
-use Rattle.std.proofs.lemmas.Bool.{cases_lt}
-use Rattle.std.proofs.lemmas.Bool.Decides.{nat_tests}
-use Rattle.std.proofs.lemmas.List.{append-nil, length-take, get_or-take}
-use Rattle.btr_reader_walk.specs.outside.History.{Image}
-use Rattle.btr_reader_walk.specs.refusals.declared.refusal.BtrRefusal.{BtrRefusal}
-use Rattle.btr_reader_walk.specs.btr_keys.FileExtent.{ContentValue, FileExtentValue, file_extent_of}
-use Rattle.btr_reader_walk.specs.declared.map.MapRange.{MapRange}
-use Rattle.btr_reader_walk.specs.Events.{TreeItem}
-use Rattle.fs_rows.proofs.FileMarks.{below_size, past_size}
-use Rattle.fs_rows.specs.Pieces.{Overlays}
-use Rattle.btr_reader_contents.specs.Extents.{extent_length, content_byte, covers, byte_from, file_byte, end_after, covered_after, refusals_at, extents_refusals, extents_end}
-use Rattle.btr_reader_contents.specs.Bytes.{content}
-use Rattle.btr_reader_contents.specs.Parts.{Appends}
+use Rattle.btr_reader_contents.proofs.Imports.{◌≡◌, ℕ, ◌+◌, ◌-◌, ◌<◌, ◌≤◌, min, Bool, true, false, cond, ltb, if◌then◌else◌, List, [], ◌∷◌, ◌++◌, length, get_or, take, Option, Some, None, refl, sym, ap, ◌∙◌, arith, inl, inr, cases_lt, nat_tests, append-nil, length-take, get_or-take, Image, BtrRefusal, ContentValue, FileExtentValue, file_extent_of, MapRange, TreeItem, below_size, past_size, Overlays, extent_length, content_byte, covers, byte_from, file_byte, end_after, covered_after, refusals_at, extents_refusals, extents_end, content, Appends}
 use Rattle.btr_reader_contents.proofs.ExtentLists.{none_right, end_grows, covers_at, past_end, before_start}
 
 same_below : (x y n size : ℕ) → x ≡ y → cond (ltb n size) x 0 ≡ cond (ltb n size) y 0

@@ -1,16 +1,6 @@
 -- The extents of a file, one after the other.
-use Rattle.std.proofs.Common.{◌≡◌, ℕ, ◌+◌, ◌^◌, ◌≤◌, ◌<◌, eqb, nat_lt, nat_le, Bool, true, false, ◌&&◌, if◌then◌else◌, List, [], ◌∷◌, ◌++◌, Option, Some, None, refl, sym, ◌∙◌, ap, arith, append_assoc}
-use Rattle.std.proofs.lemmas.Bool.Decides.{nat_tests}
-use Rattle.std.proofs.lemmas.List.{append-nil}
-use Rattle.std.proofs.lemmas.List.Elements.{filter-append}
-use Rattle.btr_reader_walk.specs.refusals.declared.refusal.BtrRefusal.{BtrRefusal}
-use Rattle.btr_reader_walk.specs.refusals.declared.refusal.BtrRefusal.TheVariants.{BadBtrfs, Unsupported}
-use Rattle.btr_reader_walk.specs.refusals.declared.rule.BtrRule.TheVariants.{ExtentForm}
+use Rattle.btr_reader_contents.proofs.Imports.{◌≡◌, ℕ, ◌+◌, ◌^◌, ◌≤◌, ◌<◌, eqb, nat_lt, nat_le, Bool, true, false, ◌&&◌, if◌then◌else◌, List, [], ◌∷◌, ◌++◌, Option, Some, None, refl, sym, ◌∙◌, ap, arith, append_assoc, nat_tests, append-nil, filter-append, BtrRefusal, BadBtrfs, Unsupported, ExtentForm, ContentValue, FileExtentValue, file_extent_of, MapRange, TreeItem, refused_unless, is_extent_of, extents_of, covers, covered_by, is_aligned, has_form, place_refusals, end_after, covered_after, extent_refusals, refusals_at, extents_refusals, extents_end, extents_covered}
 use Rattle.btr_reader_walk.specs.refusals.declared.rule.Feature.TheVariants.{Compression, Encryption}
-use Rattle.btr_reader_walk.specs.btr_keys.FileExtent.{ContentValue, FileExtentValue, file_extent_of}
-use Rattle.btr_reader_walk.specs.declared.map.MapRange.{MapRange}
-use Rattle.btr_reader_walk.specs.Events.{TreeItem}
-use Rattle.btr_reader_contents.specs.Extents.{unless, is_extent_of, extents_of, covers, covered_by, is_aligned, has_form, place_refusals, end_after, covered_after, extent_refusals, refusals_at, extents_refusals, extents_end, extents_covered}
 
 -- parts of a list that is empty
 pub none_left : {A : Type 0} (xs ys : List A) → xs ++ ys ≡ [] → xs ≡ []
@@ -21,7 +11,7 @@ pub none_right : {A : Type 0} (xs ys : List A) → xs ++ ys ≡ [] → ys ≡ []
 none_right [] ys h = h
 none_right (x ∷ xs) ys h = absurd (cc h)
 
-pub holds_unless : (t : Bool) (r : BtrRefusal) → unless t r ≡ [] → t ≡ true
+pub holds_unless : (t : Bool) (r : BtrRefusal) → refused_unless t r ≡ [] → t ≡ true
 holds_unless true r h = refl
 holds_unless false r h = absurd (cc h)
 
@@ -55,9 +45,9 @@ extents_covered-append c (i ∷ xs) ys = extents_covered-append (covered_after c
 pub form_of_sound : (ranges : List MapRange) (e c offset leaf : ℕ) (x : FileExtentValue) → extent_refusals ranges e c offset leaf x ≡ [] → has_form e c offset x.content ≡ true
 form_of_sound ranges e c offset leaf x none =
     let form : Bool = has_form e c offset x.content in
-    let compressed : List BtrRefusal = unless (eqb x.compression 0) (Unsupported Compression x.compression) in
-    let encrypted : List BtrRefusal = unless (eqb x.encryption 0) (Unsupported Encryption x.encryption) in
-    let formed : List BtrRefusal = unless form (BadBtrfs leaf ExtentForm) in
+    let compressed : List BtrRefusal = refused_unless (eqb x.compression 0) (Unsupported Compression x.compression) in
+    let encrypted : List BtrRefusal = refused_unless (eqb x.encryption 0) (Unsupported Encryption x.encryption) in
+    let formed : List BtrRefusal = refused_unless form (BadBtrfs leaf ExtentForm) in
     let placed : List BtrRefusal = place_refusals ranges x.content in
     holds_unless form (BadBtrfs leaf ExtentForm) (none_left formed placed (none_right encrypted (formed ++ placed) (none_right compressed (encrypted ++ (formed ++ placed)) none)))
 

@@ -1,28 +1,9 @@
 -- What is gathered, with one more item.
-use Rattle.std.proofs.Common.{◌≡◌, inl, inr, ℕ, ◌≤◌, ◌<◌, ◌==◌, nat_eq, Bool, true, false, ◌&&◌, if◌then◌else◌, is_some, List, [], ◌∷◌, ◌++◌, length, replicate, map, Contains, Option, Some, None, refl, sym, ◌∙◌, ap, subst, arith}
-use Rattle.std.specs.List.{range_with_len}
-use Rattle.std.proofs.lemmas.Bool.{eqb-true}
-use Rattle.std.proofs.lemmas.Bool.Decides.{nat_tests}
-use Rattle.std.proofs.lemmas.List.Elements.{Contains-append_left, filter-append}
+use Rattle.btr_reader_contents.proofs.Imports.{◌≡◌, inl, inr, ℕ, ◌≤◌, ◌<◌, ◌==◌, nat_eq, Bool, true, false, ◌&&◌, if◌then◌else◌, is_some, List, [], ◌∷◌, ◌++◌, length, replicate, map, Contains, Option, Some, None, refl, sym, ◌∙◌, ap, subst, arith, range_with_len, eqb-true, nat_tests, Contains-append_left, filter-append, Image, Refused, Fault, Memory, BtrRefusal, mark_of_bytes, Key, MapRange, Tree, TreeItem, Blames, found, wrong, is_extent_of, extents_of, extents_refusals, file_byte, bytes_of_inode, MarksExtents, Content, Hand, Wanted, content_of, content_in, TellsContent, HasContents, RefusesExtents, RefusesContents, item_wanted, HoldsHand, AllBefore, HandAt, HasGathered}
 use Rattle.std.proofs.lemmas.List.FromFn.{length-map-range_with_len}
-use Rattle.btr_reader_walk.specs.outside.History.{Image}
+use Rattle.btrfs_format.specs.declared.key.TheConstants.{EXTENT_DATA}
 use Rattle.btr_reader_walk.specs.refusals.declared.answer.BtrAnswer.{BtrAnswer}
-use Rattle.btr_reader_walk.specs.refusals.declared.answer.BtrAnswer.TheVariants.{Refused, Fault, Memory}
-use Rattle.btr_reader_walk.specs.refusals.declared.refusal.BtrRefusal.{BtrRefusal}
-use Rattle.fs_rows.specs.Mark.{mark_of_bytes}
-use Rattle.btr_reader_walk.specs.btr_keys.declared.key.Key.{Key}
-use Rattle.btr_reader_walk.specs.declared.map.MapRange.{MapRange}
-use Rattle.btr_reader_walk.specs.declared.tree.Tree.{Tree}
-use Rattle.btr_reader_walk.specs.Events.{TreeItem}
-use Rattle.btr_reader_walk.specs.Walks.{Blames, found, wrong}
-use Rattle.btr_reader_contents.specs.Extents.{is_extent_of, extents_of, extents_refusals, file_byte, file_bytes}
-use Rattle.btr_reader_contents.specs.States.{MarksExtents}
 use Rattle.btr_reader_contents.proofs.ExtentLists.{extents_of-one, extents_of-other, extents_refusals-append}
-use Rattle.fs_rows.specs.declared.content.Content.{Content}
-use Rattle.btr_reader_contents.specs.declared.hand.Hand.{Hand}
-use Rattle.btr_reader_contents.specs.declared.wanted.Wanted.{Wanted}
-use Rattle.btr_reader_contents.specs.Contents.{content_of, content_in, TellsContent, HasContents, RefusesExtents, RefusesContents}
-use Rattle.btr_reader_contents.specs.Gathering.{item_wanted, HoldsHand, AllBefore, HandAt, HasGathered}
 
 -- a content by its parts
 abbrev made : ℕ → List ℕ → List ℕ → Content
@@ -33,7 +14,7 @@ pub content_made : (link : Bool) (bytes : List ℕ) (n : ℕ) (mark target : Lis
 content_made link bytes n mark target is_length is_mark is_target =
     ap (λ (z : ℕ). made z mark target) is_length ∙ (ap (λ (z : List ℕ). made (length bytes) z target) is_mark ∙ ap (λ (z : List ℕ). made (length bytes) (if link then replicate 32 0 else mark_of_bytes bytes) z) is_target)
 
-pub bytes_length : (image : Image) (ranges : List MapRange) (items : List TreeItem) (ino size : ℕ) → size ≡ length (file_bytes image ranges items ino size)
+pub bytes_length : (image : Image) (ranges : List MapRange) (items : List TreeItem) (ino size : ℕ) → size ≡ length (bytes_of_inode image ranges items ino size)
 bytes_length image ranges items ino size = sym (length-map-range_with_len (file_byte image ranges (extents_of items ino)) 0 size)
 
 -- what is wrong with the extent in hand
@@ -91,15 +72,15 @@ none_some o x none is = no_some (none ∙ is)
     no_some e = cc e
 
 pub no_number : (n : ℕ) (i : TreeItem) → (i.key.objectid == n) ≡ false → is_extent_of n i ≡ false
-no_number n i is = ap (λ (t : Bool). t && (i.key.kind == 108)) is
+no_number n i is = ap (λ (t : Bool). t && (i.key.kind == EXTENT_DATA)) is
 
 -- the extents of a wanted inode, with an item that is of none
 pub passed : (plan : ℕ → Option Wanted) (given : List TreeItem) (i : TreeItem) (n : ℕ) (w : Wanted) → None ≡ item_wanted plan i.key → plan n ≡ Some w → extents_of (given ++ i ∷ []) n ≡ extents_of given n
-passed plan given i n w none planned = extents_of-other given i n (by (i.key.kind == 108) (i.key.objectid == n) refl refl)
+passed plan given i n w none planned = extents_of-other given i n (by (i.key.kind == EXTENT_DATA) (i.key.objectid == n) refl refl)
   where
-    by : (k t : Bool) → (i.key.kind == 108) ≡ k → (i.key.objectid == n) ≡ t → is_extent_of n i ≡ false
+    by : (k t : Bool) → (i.key.kind == EXTENT_DATA) ≡ k → (i.key.objectid == n) ≡ t → is_extent_of n i ≡ false
     by k false kind number = no_number n i number
-    by false true kind number = ap (λ (t : Bool). t && (i.key.kind == 108)) number ∙ kind
+    by false true kind number = ap (λ (t : Bool). t && (i.key.kind == EXTENT_DATA)) number ∙ kind
     by true true kind number =
         absurd (none_some (plan n) w (none ∙ (ap (λ (t : Bool). if t then plan i.key.objectid else None) kind ∙ ap plan (eqb-true i.key.objectid n number))) planned)
 
@@ -201,18 +182,18 @@ module _ (plan : ℕ → Option Wanted) (image : Image) (ranges : List MapRange)
   last_finished given top told now h has finishes n w planned = tells_finished given h told now n w (h.ino == n) refl has.at.0 finishes planned (has.others n w planned)
 
 -- what an item that is wanted is
-pub wanted_extent : (plan : ℕ → Option Wanted) (key : Key) (w : Wanted) → Some w ≡ item_wanted plan key → (plan key.objectid ≡ Some w) × ((key.kind == 108) ≡ true)
-wanted_extent plan key w is = by (key.kind == 108) refl
+pub wanted_extent : (plan : ℕ → Option Wanted) (key : Key) (w : Wanted) → Some w ≡ item_wanted plan key → (plan key.objectid ≡ Some w) × ((key.kind == EXTENT_DATA) ≡ true)
+wanted_extent plan key w is = by (key.kind == EXTENT_DATA) refl
   where
     no : Some w ≡ None → ⊥
     no e = cc e
 
-    by : (t : Bool) → (key.kind == 108) ≡ t → (plan key.objectid ≡ Some w) × ((key.kind == 108) ≡ true)
+    by : (t : Bool) → (key.kind == EXTENT_DATA) ≡ t → (plan key.objectid ≡ Some w) × ((key.kind == EXTENT_DATA) ≡ true)
     by true kind = (sym (is ∙ ap (λ (t : Bool). if t then plan key.objectid else None) kind), kind)
     by false kind = absurd (no (is ∙ ap (λ (t : Bool). if t then plan key.objectid else None) kind))
 
-pub own_extent : (i : TreeItem) (ino : ℕ) → ino ≡ i.key.objectid → (i.key.kind == 108) ≡ true → is_extent_of ino i ≡ true
-own_extent i ino number kind = subst (λ (n : ℕ). is_extent_of n i ≡ true) (sym number) (ap (λ (t : Bool). t && (i.key.kind == 108)) (self i.key.objectid) ∙ kind)
+pub own_extent : (i : TreeItem) (ino : ℕ) → ino ≡ i.key.objectid → (i.key.kind == EXTENT_DATA) ≡ true → is_extent_of ino i ≡ true
+own_extent i ino number kind = subst (λ (n : ℕ). is_extent_of n i ≡ true) (sym number) (ap (λ (t : Bool). t && (i.key.kind == EXTENT_DATA)) (self i.key.objectid) ∙ kind)
   where
     self : (n : ℕ) → (n == n) ≡ true
     self n = grind (arith, nat_tests)

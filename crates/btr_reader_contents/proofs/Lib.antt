@@ -2,6 +2,7 @@ pub mod ExtentAdding
 pub mod ExtentContents
 pub mod ExtentLists
 pub mod Gathered
+pub mod Imports
 pub mod Marks
 pub mod Orders
 pub mod Places

@@ -1,19 +1,10 @@
 -- The numbers of inodes ascend over the items of a tree.
-use Rattle.std.proofs.Common.{◌≡◌, ℕ, ◌≤◌, nat_cmp, Bool, true, false, List, [], ◌∷◌, ◌++◌, Option, Some, None, Ordering, Less, Equal, Greater, is_lt, refl, sym, ◌∙◌, ap, arith}
+use Rattle.btr_reader_contents.proofs.Imports.{◌≡◌, ℕ, ◌≤◌, nat_cmp, Bool, true, false, List, [], ◌∷◌, ◌++◌, Option, Some, None, Ordering, Less, Equal, Greater, is_lt, refl, sym, ◌∙◌, ap, arith, option_map_or, nat_tests, Image, Key, MapRange, TreeItem, Walks, last_after, last_after-append, order_damages-append, last_inode}
 use Rattle.std.specs.Ordering.{ordering_then}
-use Rattle.std.specs.Option.{option_map_or}
-use Rattle.std.proofs.lemmas.Bool.Decides.{nat_tests}
-use Rattle.btr_reader_walk.specs.outside.History.{Image}
-use Rattle.btr_reader_walk.specs.btr_keys.declared.key.Key.{Key}
 use Rattle.btr_reader_walk.specs.btr_node.Order.{is_before}
-use Rattle.btr_reader_walk.specs.declared.map.MapRange.{MapRange}
 use Rattle.btr_reader_walk.specs.declared.walker.TreeWalker.{TreeWalker}
-use Rattle.btr_reader_walk.specs.Events.{TreeItem}
 use Rattle.btr_reader_walk.specs.Tree.{order_damages}
-use Rattle.btr_reader_walk.specs.Walks.{Walks, last_after}
-use Rattle.btr_reader_walk.proofs.Events.{last_after-append, order_damages-append}
 use Rattle.btr_reader_contents.proofs.ExtentLists.{none_right}
-use Rattle.btr_reader_contents.specs.Gathering.{last_inode}
 
 first_less : (a b : ℕ) (o r : Ordering) → nat_cmp a b ≡ o → is_lt (ordering_then o r) ≡ true → a ≤ b
 first_less a b Less r is h = grind (arith, nat_tests, is)

@@ -1,16 +1,6 @@
 -- The bytes of a block of addresses lie in one block of the device, where ranges begin and end with blocks.
-use Rattle.std.proofs.Common.{◌≡◌, ℕ, ◌+◌, ◌-◌, ◌/◌, ◌%◌, ◌<◌, ◌≤◌, Bool, true, false, if◌then◌else◌, List, [], ◌∷◌, get_or, Option, Some, None, refl, sym, ap, ◌∙◌, arith}
-use Rattle.std.proofs.lemmas.Bool.Decides.{nat_tests}
-use Rattle.std.proofs.lemmas.List.{get_or-replicate}
-use Rattle.std.proofs.lemmas.List.Elements.{All-head, All-tail}
-use Rattle.std.specs.Option.{option_map}
-use Rattle.btr_reader_walk.specs.outside.History.{Image, block_at}
+use Rattle.btr_reader_contents.proofs.Imports.{◌≡◌, ℕ, ◌+◌, ◌-◌, ◌/◌, ◌%◌, ◌<◌, ◌≤◌, Bool, true, false, if◌then◌else◌, List, [], ◌∷◌, get_or, Option, Some, None, refl, sym, ap, ◌∙◌, arith, nat_tests, get_or-replicate, All-head, All-tail, option_map, Image, block_at, MapRange, holds, place, holds_bounds, IsInBlocks, AreInBlocks, block_or_zeros, byte_of_place}
 use Rattle.btr_reader_walk.specs.vol_block.Volume.{zeros}
-use Rattle.btr_reader_walk.specs.declared.map.MapRange.{MapRange}
-use Rattle.btr_reader_walk.specs.Map.{holds, place}
-use Rattle.btr_reader_walk.proofs.Mapping.{holds_bounds}
-use Rattle.btr_reader_contents.specs.Blocks.{IsInBlocks, AreInBlocks, block_or_zeros}
-use Rattle.btr_reader_contents.specs.Extents.{byte_of_place}
 
 -- a range holds all bytes of a block or none
 holds_same : (r : MapRange) (a j : ℕ) (t : Bool) → IsInBlocks r → a % 4096 ≡ 0 → j < 4096 → holds r a ≡ t → holds r (a + j) ≡ t

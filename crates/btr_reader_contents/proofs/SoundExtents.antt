@@ -1,21 +1,7 @@
 -- The extents of a tree's inodes, with one more item.
-use Rattle.std.proofs.Common.{◌≡◌, ⊎_elim, ℕ, ◌≤◌, ◌<◌, ◌==◌, true, false, List, [], ◌∷◌, ◌++◌, Contains, Option, Some, None, refl, sym, ◌∙◌, ap, subst, arith}
-use Rattle.std.proofs.lemmas.Bool.{cases_lt}
-use Rattle.std.proofs.lemmas.Bool.Decides.{nat_tests}
-use Rattle.btr_reader_walk.specs.refusals.declared.answer.BtrAnswer.TheVariants.{Refused}
-use Rattle.btr_reader_walk.specs.refusals.declared.refusal.BtrRefusal.{BtrRefusal}
-use Rattle.btr_reader_walk.specs.btr_keys.FileExtent.{FileExtentValue, file_extent_of}
-use Rattle.btr_reader_walk.specs.declared.map.MapRange.{MapRange}
-use Rattle.btr_reader_walk.specs.Events.{TreeItem}
-use Rattle.btr_reader_contents.specs.Extents.{is_extent_of, extents_of, extents_refusals, refusals_at}
-use Rattle.btr_reader_contents.specs.States.{ReachSoFar}
-use Rattle.btr_reader_contents.specs.declared.extents.Reach.{Reach}
+use Rattle.btr_reader_contents.proofs.Imports.{◌≡◌, ⊎_elim, ℕ, ◌≤◌, ◌<◌, ◌==◌, true, false, List, [], ◌∷◌, ◌++◌, Contains, Option, Some, None, refl, sym, ◌∙◌, ap, subst, arith, cases_lt, nat_tests, Refused, BtrRefusal, FileExtentValue, file_extent_of, MapRange, TreeItem, is_extent_of, extents_of, extents_refusals, refusals_at, ReachSoFar, Reach, Wanted, AreSound, HasChecked, RefusesExtents, item_wanted}
 use Rattle.btr_reader_contents.proofs.ExtentAdding.{extent_refused}
 use Rattle.btr_reader_contents.proofs.ExtentLists.{extents_of-one, extents_of-other}
-use Rattle.btr_reader_contents.specs.declared.wanted.Wanted.{Wanted}
-use Rattle.btr_reader_contents.specs.Checked.{AreSound, HasChecked}
-use Rattle.btr_reader_contents.specs.Contents.{RefusesExtents}
-use Rattle.btr_reader_contents.specs.Gathering.{item_wanted}
 use Rattle.btr_reader_contents.proofs.Gathered.{hand_refuses, no_number, passed}
 
 module _ (plan : ℕ → Option Wanted) (ranges : List MapRange) where

@@ -1,18 +1,6 @@
 -- The blocks of a range go over into a file from the front.
-use Rattle.std.proofs.Common.{◌≡◌, ℕ, ◌+◌, ◌-◌, ◌*◌, ◌/◌, ◌%◌, ◌<◌, ◌≤◌, min, eqb, leb, true, false, ◌&&◌, ◌||◌, if◌then◌else◌, List, get_or, sym, ap, ◌∙◌, arith}
-use Rattle.std.proofs.lemmas.Bool.Decides.{nat_tests}
-use Rattle.std.specs.Int.{div_ceil}
-use Rattle.btr_reader_walk.specs.outside.History.{Image}
-use Rattle.btr_reader_walk.specs.btr_keys.FileExtent.{Regular}
+use Rattle.btr_reader_contents.proofs.Imports.{◌≡◌, ℕ, ◌+◌, ◌-◌, ◌*◌, ◌/◌, ◌%◌, ◌<◌, ◌≤◌, min, eqb, leb, true, false, ◌&&◌, ◌||◌, if◌then◌else◌, List, get_or, sym, ap, ◌∙◌, arith, nat_tests, div_ceil, Image, Regular, MapRange, place, ReplacesBlock, joined_at, joined_below, joined_end, joined_outside_below, joined_outside_above, AreInBlocks, block_or_zeros, is_hole, byte_of_place, content_byte, range_is_aligned, Appends}
 use Rattle.btr_reader_walk.specs.btr_keys.declared.file_extent.DiskRange.{DiskRange}
-use Rattle.btr_reader_walk.specs.declared.map.MapRange.{MapRange}
-use Rattle.btr_reader_walk.specs.Map.{place}
-use Rattle.fs_rows.specs.Pieces.{ReplacesBlock}
-use Rattle.fs_rows.proofs.Joined.{joined_at}
-use Rattle.btr_reader_contents.specs.Blocks.{AreInBlocks, block_or_zeros}
-use Rattle.btr_reader_contents.specs.Extents.{is_hole, byte_of_place, content_byte, range_is_aligned}
-use Rattle.btr_reader_contents.specs.Parts.{Appends}
-use Rattle.fs_rows.proofs.Joined.{joined_below, joined_end, joined_outside_below, joined_outside_above}
 use Rattle.btr_reader_contents.proofs.ExtentLists.{first, second}
 use Rattle.btr_reader_contents.proofs.Places.{byte_in_block}
 

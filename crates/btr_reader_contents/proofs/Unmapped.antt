@@ -1,11 +1,5 @@
 -- Blocks that lie in no chunk.
-use Rattle.std.proofs.Common.{◌≡◌, ℕ, suc, ◌+◌, ◌-◌, ◌*◌, ◌%◌, ◌^◌, ◌<◌, Bool, true, false, not, List, [], ◌∷◌, ◌++◌, Option, Some, None, is_some, Contains, refl, sym, ◌∙◌, ap, subst, arith}
-use Rattle.btr_reader_walk.specs.refusals.declared.refusal.BtrRefusal.{BtrRefusal}
-use Rattle.btr_reader_walk.specs.refusals.declared.refusal.BtrRefusal.TheVariants.{BadBtrfs}
-use Rattle.btr_reader_walk.specs.refusals.declared.rule.BtrRule.TheVariants.{Unmapped}
-use Rattle.btr_reader_walk.specs.declared.map.MapRange.{MapRange}
-use Rattle.btr_reader_walk.specs.Map.{place}
-use Rattle.btr_reader_contents.specs.Extents.{at_unmapped, unmapped_in}
+use Rattle.btr_reader_contents.proofs.Imports.{◌≡◌, ℕ, suc, ◌+◌, ◌-◌, ◌*◌, ◌%◌, ◌^◌, ◌<◌, Bool, true, false, not, List, [], ◌∷◌, ◌++◌, Option, Some, None, is_some, Contains, refl, sym, ◌∙◌, ap, subst, arith, BtrRefusal, BadBtrfs, Unmapped, MapRange, place, at_unmapped, unmapped_in}
 
 unmapped_more : (ranges : List MapRange) (n i a : ℕ) → i < n
     → unmapped_in ranges (n - i) (a + 4096 * i) ≡ at_unmapped (place ranges (a + 4096 * i)) (a + 4096 * i) ++ unmapped_in ranges (n - (i + 1)) (a + 4096 * (i + 1))

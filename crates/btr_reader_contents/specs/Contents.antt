@@ -10,7 +10,7 @@ use Rattle.btr_reader_walk.specs.declared.map.MapRange.{MapRange}
 use Rattle.btr_reader_walk.specs.declared.tree.Tree.{Tree}
 use Rattle.btr_reader_walk.specs.Events.{TreeItem}
 use Rattle.btr_reader_walk.specs.Walks.{found, wrong}
-use Rattle.btr_reader_contents.specs.Extents.{extents_of, file_bytes, extents_refusals}
+use Rattle.btr_reader_contents.specs.Extents.{extents_of, bytes_of_inode, extents_refusals}
 use Rattle.btr_reader_names.specs.Inodes.{kind_of_mode, inode_on}
 use Rattle.btr_reader_names.specs.Steps.{inode_node}
 use Rattle.fs_paths.specs.declared.node.NodeId.{NodeId}
@@ -50,7 +50,7 @@ content_of link bytes = record {
 
 -- the content of an inode whose extents are among these items
 abbrev pub content_in : Image → List MapRange → List TreeItem → ℕ → Wanted → Content
-content_in image ranges items ino w = content_of w.link (file_bytes image ranges items ino w.size)
+content_in image ranges items ino w = content_of w.link (bytes_of_inode image ranges items ino w.size)
 
 -- the content of an inode, with whose extents nothing is wrong
 pub record IsContentIn (image : Image) (ranges : List MapRange) (items : List TreeItem) (ino : ℕ) (w : Wanted) (c : Content) : Type 0 where
@@ -71,7 +71,7 @@ abbrev pub known_content : Contents → ℕ → Option Content
 known_content contents ino = get nat_eq contents.known ino
 
 -- something is wrong with the extents of a wanted inode
-pub record BreaksExtents (plan : ℕ → Option Wanted) (ranges : List MapRange) (items : List TreeItem) (r : BtrRefusal) : Type 0 where
+pub record BreaksWantedExtents (plan : ℕ → Option Wanted) (ranges : List MapRange) (items : List TreeItem) (r : BtrRefusal) : Type 0 where
   pub ino : ℕ
   pub wanted : Wanted
   pub planned : plan ino ≡ Some wanted
@@ -79,12 +79,12 @@ pub record BreaksExtents (plan : ℕ → Option Wanted) (ranges : List MapRange)
 
 -- the refusal is one of these, or a call failed
 abbrev pub RefusesExtents : (ℕ → Option Wanted) → List MapRange → List TreeItem → BtrAnswer → Type 0
-RefusesExtents plan ranges items (Refused r) = BreaksExtents plan ranges items r
+RefusesExtents plan ranges items (Refused r) = BreaksWantedExtents plan ranges items r
 RefusesExtents plan ranges items Fault = Unit {0}
 RefusesExtents plan ranges items Memory = Unit {0}
 
 -- the refusal is one of what is wrong with the tree or with these extents, or a call failed
 abbrev pub RefusesContents : (ℕ → Option Wanted) → Image → List MapRange → Tree → BtrAnswer → Type 0
-RefusesContents plan image ranges tree (Refused r) = Contains (wrong image ranges tree) r ⊎ BreaksExtents plan ranges (found image ranges tree) r
+RefusesContents plan image ranges tree (Refused r) = Contains (wrong image ranges tree) r ⊎ BreaksWantedExtents plan ranges (found image ranges tree) r
 RefusesContents plan image ranges tree Fault = Unit {0}
 RefusesContents plan image ranges tree Memory = Unit {0}

@@ -1,6 +1,7 @@
 -- The bytes of a file, by its extents.
 use Rattle.std.specs.Prelude.{ℕ, zero, suc, ◌+◌, ◌-◌, ◌/◌, ◌%◌, ◌^◌, ◌==◌, nat_lt, nat_le, Bool, true, ◌&&◌, ◌||◌, if◌then◌else◌, List, [], ◌∷◌, ◌++◌, length, map, filter, Option, Some, None, slice_index}
 use Rattle.std.specs.List.{range_with_len}
+use Rattle.btrfs_format.specs.declared.key.TheConstants.{EXTENT_DATA}
 use Rattle.btr_reader_walk.specs.outside.History.{Image, block_at}
 use Rattle.btr_reader_walk.specs.refusals.declared.refusal.BtrRefusal.{BtrRefusal}
 use Rattle.btr_reader_walk.specs.refusals.declared.refusal.BtrRefusal.TheVariants.{BadBtrfs, Unsupported}
@@ -15,7 +16,7 @@ use Rattle.btr_reader_walk.specs.Events.{TreeItem}
 
 -- the extents of a file, in the order of their places in it
 abbrev pub is_extent_key : ℕ → Key → Bool
-is_extent_key ino key = (key.objectid == ino) && (key.kind == 108)
+is_extent_key ino key = (key.objectid == ino) && (key.kind == EXTENT_DATA)
 
 abbrev pub is_extent_of : ℕ → TreeItem → Bool
 is_extent_of ino i = is_extent_key ino i.key
@@ -59,12 +60,12 @@ file_byte image ranges [] k = 0
 file_byte image ranges (i ∷ extents) k = byte_from image ranges i (file_extent_of i.body) k (file_byte image ranges extents k)
 
 -- the bytes of a file or a symlink of this size
-abbrev pub file_bytes : Image → List MapRange → List TreeItem → ℕ → ℕ → List ℕ
-file_bytes image ranges items ino size = map (file_byte image ranges (extents_of items ino)) (range_with_len 0 size)
+abbrev pub bytes_of_inode : Image → List MapRange → List TreeItem → ℕ → ℕ → List ℕ
+bytes_of_inode image ranges items ino size = map (file_byte image ranges (extents_of items ino)) (range_with_len 0 size)
 
 -- what is answered where a test fails
-abbrev pub unless : Bool → BtrRefusal → List BtrRefusal
-unless test refusal = if test then [] else refusal ∷ []
+abbrev pub refused_unless : Bool → BtrRefusal → List BtrRefusal
+refused_unless test refusal = if test then [] else refusal ∷ []
 
 -- from byte `offset` of the file on: whole blocks in the file and on the device, and within the disk extent
 abbrev pub range_is_aligned : ℕ → DiskRange → Bool
@@ -120,9 +121,9 @@ has_form end covered offset content = nat_le end offset && (is_aligned offset co
 
 abbrev pub extent_refusals : List MapRange → ℕ → ℕ → ℕ → ℕ → FileExtentValue → List BtrRefusal
 extent_refusals ranges end covered offset leaf e =
-    unless (e.compression == 0) (Unsupported Compression e.compression)
-    ++ (unless (e.encryption == 0) (Unsupported Encryption e.encryption)
-    ++ (unless (has_form end covered offset e.content) (BadBtrfs leaf ExtentForm)
+    refused_unless (e.compression == 0) (Unsupported Compression e.compression)
+    ++ (refused_unless (e.encryption == 0) (Unsupported Encryption e.encryption)
+    ++ (refused_unless (has_form end covered offset e.content) (BadBtrfs leaf ExtentForm)
     ++ place_refusals ranges e.content))
 
 abbrev pub refusals_at : List MapRange → ℕ → ℕ → TreeItem → Option FileExtentValue → List BtrRefusal

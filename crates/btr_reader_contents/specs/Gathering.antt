@@ -1,6 +1,7 @@
 -- What is gathered of a tree's contents, so far.
 use Rattle.std.specs.Prelude.{◌≡◌, ◌≤◌, ◌<◌, ℕ, ◌==◌, Bool, true, false, if◌then◌else◌, is_some, List, Option, Some, None}
 use Rattle.std.specs.Option.{option_map_or}
+use Rattle.btrfs_format.specs.declared.key.TheConstants.{EXTENT_DATA}
 use Rattle.btr_reader_walk.specs.outside.History.{Image}
 use Rattle.btr_reader_walk.specs.btr_keys.declared.key.Key.{Key}
 use Rattle.btr_reader_walk.specs.declared.map.MapRange.{MapRange}
@@ -15,7 +16,7 @@ use Rattle.btr_reader_contents.specs.Contents.{TellsContent}
 
 -- what an item is an extent of, if that is wanted
 abbrev pub item_wanted : (ℕ → Option Wanted) → Key → Option Wanted
-item_wanted plan key = if key.kind == 108 then plan key.objectid else None
+item_wanted plan key = if key.kind == EXTENT_DATA then plan key.objectid else None
 
 -- the number of the inode of the last item
 abbrev pub last_inode : List TreeItem → ℕ

@@ -2,7 +2,7 @@ ghost use Rattle.std.specs.Prelude.{◌≡◌, ◌≤◌, true, false, ℕ, List
 ghost use Rattle.btr_reader_walk.specs.outside.History.{Image};
 ghost use Rattle.btr_reader_walk.specs.declared.map.MapRange.{MapRange as RangeOf};
 ghost use Rattle.btr_reader_walk.specs.Events.{TreeItem};
-ghost use Rattle.btr_reader_contents.specs.Extents.{extents_of, file_bytes};
+ghost use Rattle.btr_reader_contents.specs.Extents.{extents_of, bytes_of_inode};
 ghost use Rattle.btr_reader_contents.specs.States.{MarksExtents};
 ghost use Rattle.btr_reader_contents.specs.Contents.{content_of};
 
@@ -14,7 +14,7 @@ use std::alloc::Global;
 /// The content of a file of `size` bytes, whose extents the marker was given.
 pub fn file_content(alloc: Global, marker: ExtentMarker, size: u64) -> Result<Content, Memory>
     ensures { (image : Image) (ranges : List RangeOf) (items : List TreeItem) (ino : ℕ) → marker.file.size ≡ size → MarksExtents marker image ranges (extents_of items ino) →
-        IfOk result (λ c. c ≡ content_of false (file_bytes image ranges items ino size)) }
+        IfOk result (λ c. c ≡ content_of false (bytes_of_inode image ranges items ino size)) }
 {
     Ok(Content {
         length: size,
@@ -27,7 +27,7 @@ pub fn file_content(alloc: Global, marker: ExtentMarker, size: u64) -> Result<Co
 pub fn link_content(alloc: Global, marker: &ExtentMarker, size: u64) -> Result<Content, Memory>
     requires { marker.now.file.size ≤ 4096 }
     ensures { (image : Image) (ranges : List RangeOf) (items : List TreeItem) (ino : ℕ) → marker.now.file.size ≡ size → MarksExtents marker.now image ranges (extents_of items ino) →
-        IfOk result (λ c. c ≡ content_of true (file_bytes image ranges items ino size)) }
+        IfOk result (λ c. c ≡ content_of true (bytes_of_inode image ranges items ino size)) }
 {
     Ok(Content {
         length: size,

@@ -9,7 +9,7 @@ ghost use Rattle.fs_rows.specs.Held.{HoldsBytes};
 ghost use Rattle.fs_rows.specs.Mark.{mark_of_bytes};
 ghost use Rattle.btr_reader_contents.specs.Blocks.{AreInBlocks};
 ghost use Rattle.btr_reader_contents.specs.Parts.{Appends};
-ghost use Rattle.btr_reader_contents.specs.Extents.{content_byte, covered_by, extents_of, extents_refusals, extent_refusals, extent_length, file_bytes, is_aligned, refusals_at};
+ghost use Rattle.btr_reader_contents.specs.Extents.{content_byte, covered_by, extents_of, extents_refusals, extent_refusals, extent_length, bytes_of_inode, is_aligned, refusals_at};
 ghost use Rattle.btr_reader_contents.specs.States.{MarksExtents, ReachSoFar};
 
 use crate::extents::{Reach, check_extent, covered_by, extent_length};
@@ -117,7 +117,7 @@ impl ExtentMarker {
     /// The mark of the file.
     pub fn finish(self) -> [u8; 32]
         ensures { (image : Image) (ranges : List RangeOf) (items : List TreeItem) (ino : ℕ) → MarksExtents self image ranges (extents_of items ino) →
-            result ≡ mark_of_bytes (file_bytes image ranges items ino self.file.size) }
+            result ≡ mark_of_bytes (bytes_of_inode image ranges items ino self.file.size) }
     {
         self.file.mark()
     }
@@ -126,7 +126,7 @@ impl ExtentMarker {
     pub fn target(&self) -> &[u8]
         requires { self.now.file.size ≤ 4096 }
         ensures { (image : Image) (ranges : List RangeOf) (items : List TreeItem) (ino : ℕ) → MarksExtents self.now image ranges (extents_of items ino) →
-            result.now ≡ file_bytes image ranges items ino self.now.file.size }
+            result.now ≡ bytes_of_inode image ranges items ino self.now.file.size }
     {
         self.file.short()
     }

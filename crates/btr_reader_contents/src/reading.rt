@@ -5,14 +5,14 @@ ghost use Rattle.btr_reader_walk.specs.outside.History.{OverTold};
 ghost use Rattle.btr_reader_walk.specs.btr_node.NodeSize.{IsNodeSize};
 ghost use Rattle.btr_reader_walk.specs.Walks.{LieOn, found, wrong};
 ghost use Rattle.btr_reader_contents.specs.Blocks.{AreInBlocks};
-ghost use Rattle.btr_reader_names.specs.Table.{HasNoted};
+ghost use Rattle.btr_reader_names.specs.Table.{HasNotedNames};
 ghost use Rattle.fs_paths.specs.Links.{same_node};
 ghost use Rattle.btr_reader_contents.specs.Contents.{wanted_at, HasContents, RefusesContents, known_content};
 
 use crate::Contents;
 use crate::gathering::Gathering;
 use crate::wanted::item_wanted;
-use btr_reader_names::Names;
+use btr_reader_names::NameTable;
 use btr_reader_walk::{BlockSource, BtrAnswer, MapRange, Tree, TreeWalker};
 use fs_paths::NodeId;
 use indexmap::IndexSet;
@@ -21,13 +21,13 @@ use std::alloc::Global;
 impl Contents {
     /// The contents of the files and symlinks among these inodes, `names` being those of the tree: one walk. It is refused
     /// exactly where something is wrong with the tree or with the extents of one of these, by one of the things that are;
-    /// long targets are left to [`Names::check`]. The blocks of each are read once, as far as they lie below its size.
+    /// long targets are left to [`NameTable::check`]. The blocks of each are read once, as far as they lie below its size.
     pub fn read<S: BlockSource>(
         alloc: Global,
         src: &mut S,
         tree: Tree,
         ranges: &[MapRange],
-        names: &Names,
+        names: &NameTable,
         named: &IndexSet<NodeId>,
     ) -> Result<Contents, BtrAnswer>
         requires size { IsNodeSize tree.form.nodesize }
@@ -35,9 +35,9 @@ impl Contents {
         requires inside { LieOn (S.size src.old) ranges.now }
         ensures kept { S.kept src.old src.new }
         ensures cause { HasCauseOf BtrAnswer.Fault (S.faults src.old) (S.faults src.new) result }
-        ensures contents { OverTold S.tells (S.blocks src.old) (λ image. AreInBlocks ranges.now → HasNoted names.now (found image ranges.now tree) →
+        ensures contents { OverTold S.tells (S.blocks src.old) (λ image. AreInBlocks ranges.now → HasNotedNames names.now (found image ranges.now tree) →
             IfOk result (λ contents. HasContents (wanted_at (contains same_node named.now) (found image ranges.now tree)) image ranges.now (found image ranges.now tree) (known_content contents))) }
-        ensures refused { OverTold S.tells (S.blocks src.old) (λ image. AreInBlocks ranges.now → HasNoted names.now (found image ranges.now tree) →
+        ensures refused { OverTold S.tells (S.blocks src.old) (λ image. AreInBlocks ranges.now → HasNotedNames names.now (found image ranges.now tree) →
             IfErr result (RefusesContents (wanted_at (contains same_node named.now) (found image ranges.now tree)) image ranges.now tree)) }
     {
         let mut gathering = Gathering::new(alloc);

@@ -4,14 +4,14 @@ ghost use Rattle.btr_reader_walk.specs.outside.Fault.{HasCauseOf};
 ghost use Rattle.btr_reader_walk.specs.outside.History.{OverTold};
 ghost use Rattle.btr_reader_walk.specs.btr_node.NodeSize.{IsNodeSize};
 ghost use Rattle.btr_reader_walk.specs.Walks.{LieOn, found};
-ghost use Rattle.btr_reader_names.specs.Table.{HasNoted};
+ghost use Rattle.btr_reader_names.specs.Table.{HasNotedNames};
 ghost use Rattle.fs_paths.specs.Links.{same_node};
 ghost use Rattle.btr_reader_contents.specs.Checked.{AreSound};
 ghost use Rattle.btr_reader_contents.specs.Contents.{wanted_at, RefusesContents};
 
 use crate::checked::Checked;
 use crate::wanted::item_wanted;
-use btr_reader_names::Names;
+use btr_reader_names::NameTable;
 use btr_reader_walk::{BlockSource, BtrAnswer, MapRange, Tree, TreeWalker};
 use fs_paths::NodeId;
 use indexmap::IndexSet;
@@ -25,7 +25,7 @@ pub fn check_contents<S: BlockSource>(
     src: &mut S,
     tree: Tree,
     ranges: &[MapRange],
-    names: &Names,
+    names: &NameTable,
     named: &IndexSet<NodeId>,
 ) -> Result<(), BtrAnswer>
     requires size { IsNodeSize tree.form.nodesize }
@@ -33,9 +33,9 @@ pub fn check_contents<S: BlockSource>(
     requires inside { LieOn (S.size src.old) ranges.now }
     ensures kept { S.kept src.old src.new }
     ensures cause { HasCauseOf BtrAnswer.Fault (S.faults src.old) (S.faults src.new) result }
-    ensures sound { OverTold S.tells (S.blocks src.old) (λ image. HasNoted names.now (found image ranges.now tree) →
+    ensures sound { OverTold S.tells (S.blocks src.old) (λ image. HasNotedNames names.now (found image ranges.now tree) →
         OnOk result (AreSound (wanted_at (contains same_node named.now) (found image ranges.now tree)) ranges.now (found image ranges.now tree))) }
-    ensures refused { OverTold S.tells (S.blocks src.old) (λ image. HasNoted names.now (found image ranges.now tree) →
+    ensures refused { OverTold S.tells (S.blocks src.old) (λ image. HasNotedNames names.now (found image ranges.now tree) →
         IfErr result (RefusesContents (wanted_at (contains same_node named.now) (found image ranges.now tree)) image ranges.now tree)) }
 {
     let mut checked = Checked::start(0);

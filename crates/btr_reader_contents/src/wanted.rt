@@ -2,19 +2,17 @@ ghost use Rattle.std.specs.Prelude.{◌≡◌, ◌≤◌, true, List, IfSome};
 ghost use Rattle.indexmap.specs.IndexSet.{contains};
 ghost use Rattle.btr_reader_walk.specs.Events.{TreeItem};
 ghost use Rattle.fs_rows.specs.declared.row.Kind.TheVariants.{Symlink};
-ghost use Rattle.btr_reader_names.specs.Table.{HasNoted};
+ghost use Rattle.btr_reader_names.specs.Table.{HasNotedNames};
 ghost use Rattle.fs_paths.specs.Links.{same_node};
 ghost use Rattle.btr_reader_contents.specs.Contents.{wanted_by, wanted_inode, wanted_at};
 ghost use Rattle.btr_reader_contents.specs.Gathering.{item_wanted};
 
-use btr_reader_names::{Names, inode_node, kind_of_mode};
+use btr_reader_names::{NameTable, inode_node, kind_of_mode};
 use btr_reader_walk::{Inode, Key};
+use btrfs_format::key::EXTENT_DATA;
 use fs_paths::NodeId;
 use fs_rows::Kind;
 use indexmap::IndexSet;
-
-/// The kind in the key of a file extent.
-const EXTENT_KIND: u8 = 108;
 
 /// The longest target of a symlink, in bytes.
 const LONGEST_TARGET: u64 = 4095;
@@ -68,8 +66,8 @@ pub fn wanted_inode(own: &Inode) -> Option<Wanted>
 }
 
 /// The same of an inode that is named.
-fn wanted_at(names: &Names, named: &IndexSet<NodeId>, ino: u64) -> Option<Wanted>
-    ensures wanted { (items : List TreeItem) → HasNoted names.now items → result ≡ wanted_at (contains same_node named.now) items ino }
+fn wanted_at(names: &NameTable, named: &IndexSet<NodeId>, ino: u64) -> Option<Wanted>
+    ensures wanted { (items : List TreeItem) → HasNotedNames names.now items → result ≡ wanted_at (contains same_node named.now) items ino }
     ensures short { IfSome result (λ w. w.link ≡ true → w.size ≤ 4095) }
 {
     if !named.contains(&inode_node(ino)) {
@@ -82,11 +80,11 @@ fn wanted_at(names: &Names, named: &IndexSet<NodeId>, ino: u64) -> Option<Wanted
 }
 
 /// The same of the inode that an item is an extent of.
-pub fn item_wanted(names: &Names, named: &IndexSet<NodeId>, key: &Key) -> Option<Wanted>
-    ensures wanted { (items : List TreeItem) → HasNoted names.now items → result ≡ item_wanted (wanted_at (contains same_node named.now) items) key.now }
+pub fn item_wanted(names: &NameTable, named: &IndexSet<NodeId>, key: &Key) -> Option<Wanted>
+    ensures wanted { (items : List TreeItem) → HasNotedNames names.now items → result ≡ item_wanted (wanted_at (contains same_node named.now) items) key.now }
     ensures short { IfSome result (λ w. w.link ≡ true → w.size ≤ 4095) }
 {
-    if key.kind == EXTENT_KIND {
+    if key.kind == EXTENT_DATA {
         wanted_at(names, named, key.objectid)
     } else {
         None

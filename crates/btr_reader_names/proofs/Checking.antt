@@ -1,22 +1,6 @@
 -- All looks together.
-use Rattle.std.proofs.Common.{◌≡◌, ℕ, Bool, true, List, Contains, AllPairs, ap, ◌∙◌}
-use Rattle.std.specs.List.{list_any}
-use Rattle.std.proofs.lemmas.List.Folds.{list_any_at}
+use Rattle.btr_reader_names.proofs.Imports.{◌≡◌, ℕ, Bool, true, List, Contains, AllPairs, ap, ◌∙◌, list_any, list_any_at, BtrAnswer, Refused, Fault, Memory, BtrRefusal, TreeItem, NodeId, same_node, same_node-true, same_node-self, DirIndex, NameTable, AreGood, BlamesOne, by_root, by_inode, by_form, by_entry, DifferInName, BlamesTwice, LeadApart, BlamesAgain, RefusesNames, IsNoFault, BreaksNames, KeepsNames, AreNamed, is_open, HasNotedNames}
 use Rattle.indexmap.proofs.CallerLemmas.{Contains-list_any}
-use Rattle.btr_reader_walk.specs.refusals.declared.answer.BtrAnswer.{BtrAnswer}
-use Rattle.btr_reader_walk.specs.refusals.declared.answer.BtrAnswer.TheVariants.{Refused, Fault, Memory}
-use Rattle.btr_reader_walk.specs.refusals.declared.refusal.BtrRefusal.{BtrRefusal}
-use Rattle.btr_reader_walk.specs.Events.{TreeItem}
-use Rattle.fs_paths.specs.declared.node.NodeId.{NodeId}
-use Rattle.fs_paths.specs.Links.{same_node}
-use Rattle.fs_paths.proofs.Nodes.{same_node-true, same_node-self}
-use Rattle.btr_reader_names.specs.declared.naming.Naming.{Naming}
-use Rattle.btr_reader_names.specs.declared.table.Names.{Names}
-use Rattle.btr_reader_names.specs.Passes.{AreGood, BlamesOne, by_root, by_inode, by_form, by_entry, DifferInName, BlamesTwice, LeadApart, BlamesAgain}
-use Rattle.btr_reader_names.specs.Refuses.{RefusesNames, IsNoFault}
-use Rattle.btr_reader_names.specs.Rules.{BreaksNames, KeepsNames}
-use Rattle.btr_reader_names.specs.Steps.{AreNamed, is_open}
-use Rattle.btr_reader_names.specs.Table.{HasNoted}
 use Rattle.btr_reader_names.proofs.Keeping.{keeps}
 use Rattle.btr_reader_names.proofs.Refusing.{item_refused, root_refused, form_refused, entry_refused, twice_refused, again_refused}
 
@@ -26,7 +10,7 @@ key_of keys node is = Contains-list_any same_node same_node-true keys node is
 key_in : (keys : List NodeId) (node : NodeId) → Contains keys node → list_any (same_node node) keys ≡ true
 key_in keys node (k, within, at) = list_any_at (same_node node) keys k node within (ap (same_node node) at ∙ same_node-self node)
 
-module _ (t : Names) (items : List TreeItem) (noted : HasNoted t items) (roots : ℕ → Bool) (root_at : ℕ) (keys : List NodeId) (named : AreNamed items (λ node. list_any (same_node node) keys)) where
+module _ (t : NameTable) (items : List TreeItem) (noted : HasNotedNames t items) (roots : ℕ → Bool) (root_at : ℕ) (keys : List NodeId) (named : AreNamed items (λ node. list_any (same_node node) keys)) where
   abbrev has : NodeId → Bool
   has node = list_any (same_node node) keys
 
@@ -52,12 +36,12 @@ module _ (t : Names) (items : List TreeItem) (noted : HasNoted t items) (roots :
       keeps t items noted roots root_at has named good.root_directory (λ node is. good.inodes node (key_of keys node is)) good.forms good.entries once apart
 
 -- what is found twice is no fault
-pub twice_no_fault : (opened : ℕ → Bool) (ns : List Naming) (e : BtrAnswer) → BlamesTwice opened ns e → IsNoFault e
+pub twice_no_fault : (opened : ℕ → Bool) (ns : List DirIndex) (e : BtrAnswer) → BlamesTwice opened ns e → IsNoFault e
 twice_no_fault opened ns (Refused r) h = tt
 twice_no_fault opened ns Fault h = h
 twice_no_fault opened ns Memory h = tt
 
-pub again_no_fault : (t : Names) (named : NodeId → Bool) (ns : List Naming) (e : BtrAnswer) → BlamesAgain t named ns e → IsNoFault e
+pub again_no_fault : (t : NameTable) (named : NodeId → Bool) (ns : List DirIndex) (e : BtrAnswer) → BlamesAgain t named ns e → IsNoFault e
 again_no_fault t named ns (Refused r) h = tt
 again_no_fault t named ns Fault h = h
 again_no_fault t named ns Memory h = tt

@@ -1,7 +1,5 @@
 -- The item of an inode, found as the items go by.
-use Rattle.std.proofs.Common.{◌≡◌, ℕ, Bool, true, false, List, [], ◌∷◌, ◌++◌, Option, Some, None, if◌then◌else◌, refl}
-use Rattle.btr_reader_walk.specs.Events.{TreeItem}
-use Rattle.btr_reader_names.specs.Inodes.{is_inode_of, inode_item, first_item}
+use Rattle.btr_reader_names.proofs.Imports.{◌≡◌, ℕ, Bool, true, false, List, [], ◌∷◌, ◌++◌, Option, Some, None, if◌then◌else◌, refl, TreeItem, is_inode_of, find_inode_item, first_item}
 
 abbrev own : ℕ → TreeItem → Option TreeItem
 own number i = if is_inode_of number i then Some i else None
@@ -12,6 +10,6 @@ either_way : (number : ℕ) (x : TreeItem) (later earlier : Option TreeItem) (i 
 either_way number x later earlier i true is = refl
 either_way number x later earlier i false is = is
 
-pub inode_item-push : (number : ℕ) (xs : List TreeItem) (i : TreeItem) → inode_item (xs ++ i ∷ []) number ≡ first_item (inode_item xs number) (own number i)
+pub inode_item-push : (number : ℕ) (xs : List TreeItem) (i : TreeItem) → find_inode_item (xs ++ i ∷ []) number ≡ first_item (find_inode_item xs number) (own number i)
 inode_item-push number [] i = refl
-inode_item-push number (x ∷ xs) i = either_way number x (inode_item (xs ++ i ∷ []) number) (inode_item xs number) i (is_inode_of number x) (inode_item-push number xs i)
+inode_item-push number (x ∷ xs) i = either_way number x (find_inode_item (xs ++ i ∷ []) number) (find_inode_item xs number) i (is_inode_of number x) (inode_item-push number xs i)

@@ -1,30 +1,5 @@
 -- Where no look blames anything, no rule is broken.
-use Rattle.std.proofs.Common.{◌≡◌, ℕ, ◌==◌, Bool, true, false, not, ◌&&◌, nat_lt, List, ◌∷◌, Contains, AllPairs, Option, Some, None, is_some, if◌then◌else◌, refl, sym, ap, subst, ◌∙◌, true≢false, arith}
-use Rattle.std.specs.Option.{option_and_then, option_map_or}
-use Rattle.std.proofs.lemmas.Bool.{and_from}
-use Rattle.std.proofs.lemmas.Bool.Decides.{nat_tests}
-use Rattle.std.proofs.lemmas.List.Elements.{Contains-append_left, Contains-append_right}
-use Rattle.std.proofs.lemmas.List.Kept.{AllPairs-filter}
-use Rattle.btr_reader_walk.specs.refusals.declared.rule.BtrRule.{BtrRule}
-use Rattle.btr_reader_walk.specs.refusals.declared.rule.BtrRule.TheVariants.{Body, NoInode, NameForm, DirTwice}
-use Rattle.btr_reader_walk.specs.btr_keys.Inode.{inode_of}
-use Rattle.btr_reader_walk.specs.btr_keys.declared.inode.Inode.{Inode}
-use Rattle.btr_reader_walk.specs.Events.{TreeItem}
-use Rattle.fs_rows.specs.declared.row.Kind.{Kind}
-use Rattle.fs_rows.specs.declared.row.Kind.TheVariants.{Directory}
-use Rattle.fs_paths.specs.declared.node.NodeId.{NodeId}
-use Rattle.fs_paths.proofs.Lists.{at_head}
-use Rattle.btr_reader_names.specs.declared.inodes.InodeFound.{InodeFound}
-use Rattle.btr_reader_names.specs.declared.naming.Naming.{Naming}
-use Rattle.btr_reader_names.specs.declared.naming.OffForm.{OffForm}
-use Rattle.btr_reader_names.specs.declared.table.Names.{Names}
-use Rattle.btr_reader_names.specs.Inodes.{inode_item, kind_of_mode}
-use Rattle.fs_rows.specs.Kinds.{is_directory}
-use Rattle.btr_reader_names.specs.Links.{namings, followed, is_followed, is_name, names_inode, names_tree, IsNamed}
-use Rattle.btr_reader_names.specs.Passes.{fits_size, is_good, IsGoodNode, inode_rule, tree_rule, target_rule, entry_rule, IsGoodEntry, DifferInName, leads_down, LeadApart}
-use Rattle.btr_reader_names.specs.Rules.{AreIn, IsOpen, KeepsNames, no_root_directory, root_is_none, bad_inode, bad_mode, long_target, bad_index, bad_name, twice, bad_location, no_inode, no_tree, directory_twice, root_named}
-use Rattle.btr_reader_names.specs.Steps.{inode_node, AreNamed, is_open, is_link}
-use Rattle.btr_reader_names.specs.Table.{kind_found, has_item, is_dir, HasNoted}
+use Rattle.btr_reader_names.proofs.Imports.{◌≡◌, ℕ, ◌==◌, Bool, true, false, not, ◌&&◌, nat_lt, List, ◌∷◌, Contains, AllPairs, Option, Some, None, is_some, if◌then◌else◌, refl, sym, ap, subst, ◌∙◌, true≢false, arith, option_and_then, option_map_or, and_from, nat_tests, Contains-append_left, Contains-append_right, AllPairs-filter, FIRST_FREE_OBJECTID, BtrRule, Body, NoInode, NameForm, DirTwice, inode_of, Inode, TreeItem, Kind, Directory, NodeId, at_head, InodeFound, DirIndex, OffForm, NameTable, find_inode_item, kind_of_mode, is_directory, dir_indexes, followed, is_followed, is_name, names_inode, names_tree, IsNamedInode, fits_size, is_good, IsGoodNode, inode_rule, tree_rule, target_rule, entry_rule, IsGoodEntry, DifferInName, leads_down, LeadApart, AreIn, IsOpen, KeepsNames, no_root_directory, root_is_none, bad_inode, bad_mode, long_target, bad_index, bad_name, twice, bad_location, no_inode, no_tree, directory_twice, root_named, inode_node, AreNamed, is_open, is_link, kind_found, has_item, is_dir, HasNotedNames}
 use Rattle.btr_reader_names.proofs.Members.{pair_of}
 use Rattle.btr_reader_names.proofs.Told.{dir_from, dir_to, absent_to, item_to, same_some}
 use Rattle.btr_reader_names.proofs.Refusing.{to_off_forms}
@@ -53,32 +28,32 @@ tree_there : (b : Bool) → (if b then None else Some NoInode) ≡ None → b �
 tree_there true h = refl
 tree_there false h = absurd (some_none NoInode h)
 
-module _ (t : Names) (items : List TreeItem) (noted : HasNoted t items) (roots : ℕ → Bool) (root_at : ℕ) (has : NodeId → Bool) (named : AreNamed items has)
-    (root_dir : is_dir t 256 ≡ true) (inodes : (node : NodeId) → has node ≡ true → IsGoodNode t node) (forms : (o : OffForm) → Contains t.off_form.items o → is_open t has o.dir ≡ false)
-    (entries : (n : Naming) → Contains t.namings.items n → IsGoodEntry t (is_open t has) roots n) (once : AllPairs (DifferInName (is_open t has)) t.namings.items)
+module _ (t : NameTable) (items : List TreeItem) (noted : HasNotedNames t items) (roots : ℕ → Bool) (root_at : ℕ) (has : NodeId → Bool) (named : AreNamed items has)
+    (root_dir : is_dir t FIRST_FREE_OBJECTID ≡ true) (inodes : (node : NodeId) → has node ≡ true → IsGoodNode t node) (forms : (o : OffForm) → Contains t.off_form.items o → is_open t has o.dir ≡ false)
+    (entries : (n : DirIndex) → Contains t.namings.items n → IsGoodEntry t (is_open t has) roots n) (once : AllPairs (DifferInName (is_open t has)) t.namings.items)
     (apart : AllPairs (LeadApart t has) t.namings.items) where
   -- a named inode that is there is good
-  good : (ino : ℕ) (i : TreeItem) → IsNamed items ino → inode_item items ino ≡ Some i → option_map_or is_good (inode_of i.body) false ≡ true
+  good : (ino : ℕ) (i : TreeItem) → IsNamedInode items ino → find_inode_item items ino ≡ Some i → option_map_or is_good (inode_of i.body) false ≡ true
   good ino i is there =
       let at = item_to t items noted ino i there in
       ap (λ (o : Option Inode). option_map_or is_good o false) (sym at.3) ∙ inodes (inode_node ino) (named.whole ino is) at.0 at.1
 
-  entry_good : (n : Naming) → Contains (namings items) n → IsOpen items n.dir → entry_rule t roots n ≡ None
+  entry_good : (n : DirIndex) → Contains (dir_indexes items) n → IsOpen items n.dir → entry_rule t roots n ≡ None
   entry_good n among opened = entries n (naming_to t items noted n among) (open_to t items noted has named n.dir opened)
 
-  target_good : (n : Naming) → Contains (followed items) n → IsOpen items n.dir → target_rule t roots n ≡ None
+  target_good : (n : DirIndex) → Contains (followed items) n → IsOpen items n.dir → target_rule t roots n ≡ None
   target_good n among opened =
       let r = followed_to t items noted n among in
       let whole = named_well (is_name n.name) (if is_followed n then target_rule t roots n else None) (entries n r.0 (open_to t items noted has named n.dir opened)) in
       sym (ap (λ (b : Bool). if b then target_rule t roots n else None) r.1) ∙ whole.1
 
-  inode_good : (n : Naming) → Contains (followed items) n → IsOpen items n.dir → names_inode n ≡ true → (has_item t n.location.objectid ≡ true) × ((n.location.objectid == 256) ≡ false)
+  inode_good : (n : DirIndex) → Contains (followed items) n → IsOpen items n.dir → names_inode n ≡ true → (has_item t n.location.objectid ≡ true) × ((n.location.objectid == FIRST_FREE_OBJECTID) ≡ false)
   inode_good n among opened names =
-      inode_there (has_item t n.location.objectid) (n.location.objectid == 256)
+      inode_there (has_item t n.location.objectid) (n.location.objectid == FIRST_FREE_OBJECTID)
       (sym (ap (λ (b : Bool). if b then inode_rule t n.location.objectid else (if names_tree n then tree_rule roots n.location.objectid else Some Body)) names) ∙ target_good n among opened)
 
   -- an entry of the tree by its location: no inode's key is a root's
-  tree_good : (n : Naming) → Contains (followed items) n → IsOpen items n.dir → names_inode n ≡ false → (b : Bool) → names_tree n ≡ b → (b ≡ true) × (roots n.location.objectid ≡ true)
+  tree_good : (n : DirIndex) → Contains (followed items) n → IsOpen items n.dir → names_inode n ≡ false → (b : Bool) → names_tree n ≡ b → (b ≡ true) × (roots n.location.objectid ≡ true)
   tree_good n among opened other true names = (
     refl,
     tree_there (roots n.location.objectid)
@@ -92,10 +67,10 @@ module _ (t : Names) (items : List TreeItem) (noted : HasNoted t items) (roots :
       ∙ ap (λ (b : Bool). if b then inode_rule t n.location.objectid else Some Body) other)
       ∙ target_good n among opened))
 
-  not_both : (n : Naming) → names_tree n ≡ true → names_inode n ≡ false
+  not_both : (n : DirIndex) → names_tree n ≡ true → names_inode n ≡ false
   not_both n tree = grind (arith, nat_tests, tree)
 
-  down : (n : Naming) → Contains (followed items) n → IsOpen items n.dir → names_inode n ≡ true → is_dir t n.location.objectid ≡ true → leads_down t has n ≡ true
+  down : (n : DirIndex) → Contains (followed items) n → IsOpen items n.dir → names_inode n ≡ true → is_dir t n.location.objectid ≡ true → leads_down t has n ≡ true
   down n among opened names dir =
       let r = followed_to t items noted n among in
       and_from (is_link t has n) (names_inode n && is_dir t n.location.objectid) (and_from (is_followed n) (is_open t has n.dir) r.1 (open_to t items noted has named n.dir opened))
@@ -103,9 +78,9 @@ module _ (t : Names) (items : List TreeItem) (noted : HasNoted t items) (roots :
 
   pub keeps : KeepsNames roots items root_at
   keeps r (no_root_directory none is) =
-      true≢false (sym root_dir ∙ ap (λ (f : Option InodeFound). option_map_or is_directory (option_and_then kind_found f) false) (absent_to t items noted 256 none))
+      true≢false (sym root_dir ∙ ap (λ (f : Option InodeFound). option_map_or is_directory (option_and_then kind_found f) false) (absent_to t items noted FIRST_FREE_OBJECTID none))
   keeps r (root_is_none own kind on known other is) =
-      let d = dir_from t items noted 256 root_dir in
+      let d = dir_from t items noted FIRST_FREE_OBJECTID root_dir in
       let same = same_some own d.0 (sym on ∙ d.1) in
       other (same_some kind Directory (sym known ∙ (ap (λ (i : Inode). kind_of_mode i.mode) same ∙ d.2)))
   keeps r (bad_inode ino i is there body refused) = true≢false (sym (good ino i is there) ∙ ap (λ (o : Option Inode). option_map_or is_good o false) body)
@@ -122,7 +97,7 @@ module _ (t : Names) (items : List TreeItem) (noted : HasNoted t items) (roots :
       let whole = named_well (is_name n.name) (if is_followed n then target_rule t roots n else None) (entry_good n among opened) in
       true≢false (sym whole.0 ∙ bad)
   keeps r (twice m n both opened dir name refused) =
-      pair_of (DifferInName (is_open t has)) t.namings.items m n once (subst (λ (l : List Naming). AreIn l m n) (sym noted.namings) both) (open_to t items noted has named n.dir opened) dir name
+      pair_of (DifferInName (is_open t has)) t.namings.items m n once (subst (λ (l : List DirIndex). AreIn l m n) (sym noted.namings) both) (open_to t items noted has named n.dir opened) dir name
   keeps r (bad_location n among opened other neither refused) = true≢false (sym (tree_good n among opened other false neither).0)
   keeps r (no_inode n among opened names none refused) =
       true≢false (sym (inode_good n among opened names).0 ∙ ap (λ (f : Option InodeFound). is_some f) (absent_to t items noted n.location.objectid none))
@@ -132,8 +107,8 @@ module _ (t : Names) (items : List TreeItem) (noted : HasNoted t items) (roots :
       let among_n = second_in (followed items) m n both in
       let dir_n = dir_to t items noted n.location.objectid dir in
       let dir_m : is_dir t m.location.objectid ≡ true = ap (λ (k : ℕ). is_dir t k) same ∙ dir_n in
-      let all = AllPairs-filter (LeadApart t has) is_followed (namings items) (subst (λ (l : List Naming). AllPairs (LeadApart t has) l) noted.namings apart) in
+      let all = AllPairs-filter (LeadApart t has) is_followed (dir_indexes items) (subst (λ (l : List DirIndex). AllPairs (LeadApart t has) l) noted.namings apart) in
       pair_of (LeadApart t has) (followed items) m n all both (down m among_m open_m names_m dir_m) (down n among_n open_n names_n dir_n) same
   keeps r (root_named n among opened names top refused) =
-      let here : (n.location.objectid == 256) ≡ true = ap (λ (k : ℕ). k == 256) top in
+      let here : (n.location.objectid == FIRST_FREE_OBJECTID) ≡ true = ap (λ (k : ℕ). k == FIRST_FREE_OBJECTID) top in
       true≢false (sym here ∙ (inode_good n among opened names).1)

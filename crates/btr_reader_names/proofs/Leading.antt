@@ -1,26 +1,6 @@
 -- The links of a tree whose names keep the rules: they make a tree, and lead where the names do.
-use Rattle.std.proofs.Common.{◌≡◌, ◌≢◌, ℕ, Bool, true, false, ◌&&◌, List, [], ◌∷◌, map, filter, get_or, Contains, AllPairs, if◌then◌else◌, refl, sym, ap, subst, ◌∙◌, arith}
-use Rattle.std.proofs.lemmas.Bool.{and_parts, and_from}
-use Rattle.std.proofs.lemmas.Bool.Decides.{nat_tests}
-use Rattle.std.proofs.lemmas.List.{length-map, get_or-map}
-use Rattle.std.proofs.lemmas.List.Elements.{Contains-get_or, filter_passes}
-use Rattle.std.proofs.lemmas.List.Kept.{AllPairs-filter}
-use Rattle.btr_reader_walk.specs.refusals.declared.refusal.BtrRefusal.TheVariants.{BadBtrfs}
-use Rattle.btr_reader_walk.specs.refusals.declared.rule.BtrRule.TheVariants.{Body, DirTwice}
-use Rattle.btr_reader_walk.specs.Events.{TreeItem}
+use Rattle.btr_reader_names.proofs.Imports.{◌≡◌, ◌≢◌, ℕ, Bool, true, false, ◌&&◌, List, [], ◌∷◌, map, filter, get_or, Contains, AllPairs, if◌then◌else◌, refl, sym, ap, subst, ◌∙◌, arith, and_parts, and_from, nat_tests, length-map, get_or-map, Contains-get_or, filter_passes, AllPairs-filter, FIRST_FREE_OBJECTID, BadBtrfs, Body, DirTwice, TreeItem, NodeLink, NodeId, AreNamedOnce, Leads as LinksLead, in_map, in_filter, from_map, from_filter, DirIndex, NameTable, IsDirectoryInode, followed, is_followed, names_inode, names_tree, IsNamedInode, root, entry, Target, inode, tree, NamesTarget as IsNameOf, LeadsToTarget, DifferInName, leads_down, LeadApart, IsOpen, KeepsNames, bad_location, root_named, inode_node, tree_node, node_of_target, target_node, AreNamed, is_open, is_link, link_of, links_of, HasNotedNames, is_dir}
 use Rattle.fs_rows.specs.Rows.{NameList}
-use Rattle.fs_paths.specs.declared.link.Link.{Link}
-use Rattle.fs_paths.specs.declared.node.NodeId.{NodeId}
-use Rattle.fs_paths.specs.Links.{AreNamedOnce, Leads as LinksLead}
-use Rattle.fs_paths.proofs.Lists.{in_map, in_filter, from_map, from_filter}
-use Rattle.btr_reader_names.specs.declared.naming.Naming.{Naming}
-use Rattle.btr_reader_names.specs.declared.table.Names.{Names}
-use Rattle.btr_reader_names.specs.Inodes.{IsDirectory}
-use Rattle.btr_reader_names.specs.Links.{followed, is_followed, names_inode, names_tree, IsNamed, root, entry, Target, inode, tree, Names as IsNameOf, Leads}
-use Rattle.btr_reader_names.specs.Passes.{DifferInName, leads_down, LeadApart}
-use Rattle.btr_reader_names.specs.Rules.{IsOpen, KeepsNames, bad_location, root_named}
-use Rattle.btr_reader_names.specs.Steps.{inode_node, tree_node, node_of, target_node, AreNamed, is_open, is_link, link_of, links_of}
-use Rattle.btr_reader_names.specs.Table.{HasNoted, is_dir}
 use Rattle.btr_reader_names.specs.TreeLinks.{AreTreeLinks}
 use Rattle.btr_reader_names.proofs.Reaching.{followed_from, followed_to, open_from, open_to}
 
@@ -44,116 +24,116 @@ space_of a b is = ap (λ (n : NodeId). n.space) is
 number_of : (a b : NodeId) → a ≡ b → a.number ≡ b.number
 number_of a b is = ap (λ (n : NodeId). n.number) is
 
-inode_target : (b : Bool) (n : Naming) (number : ℕ) → (if b then inode_node n.location.objectid else tree_node n.location.objectid) ≡ inode_node number → (b ≡ true) × (n.location.objectid ≡ number)
+inode_target : (b : Bool) (n : DirIndex) (number : ℕ) → (if b then inode_node n.location.objectid else tree_node n.location.objectid) ≡ inode_node number → (b ≡ true) × (n.location.objectid ≡ number)
 inode_target true n number is = (refl, number_of (inode_node n.location.objectid) (inode_node number) is)
 inode_target false n number is = let s = space_of (tree_node n.location.objectid) (inode_node number) is in absurd (omega (arith, s))
 
-module _ (t : Names) (items : List TreeItem) (noted : HasNoted t items) (roots : ℕ → Bool) (root_at : ℕ) (has : NodeId → Bool) (named : AreNamed items has) (keeps : KeepsNames roots items root_at) where
-  abbrev links : List Link
+module _ (t : NameTable) (items : List TreeItem) (noted : HasNotedNames t items) (roots : ℕ → Bool) (root_at : ℕ) (has : NodeId → Bool) (named : AreNamed items has) (keeps : KeepsNames roots items root_at) where
+  abbrev links : List NodeLink
   links = links_of t has
 
   -- a link is an entry of a named directory
-  entry_of : (link : Link) → Contains links link → (n : Naming) × (link_of n ≡ link) × (is_link t has n ≡ true) × Contains (followed items) n × IsOpen items n.dir
+  entry_of : (link : NodeLink) → Contains links link → (n : DirIndex) × (link_of n ≡ link) × (is_link t has n ≡ true) × Contains (followed items) n × IsOpen items n.dir
   entry_of link among =
       let made = from_map link_of (filter (is_link t has) t.namings.items) link among in
-      let n : Naming = made.0 in
+      let n : DirIndex = made.0 in
       let kept = from_filter (is_link t has) t.namings.items n made.1 in
       let parts = and_parts (is_followed n) (is_open t has n.dir) kept.1 in
       (n, made.2, kept.1, followed_from t items noted n kept.0 parts.0, open_from t items noted has named n.dir parts.1)
 
   -- an entry that leads to no inode leads to another tree
-  tree_named : (n : Naming) → Contains (followed items) n → IsOpen items n.dir → names_inode n ≡ false → (b : Bool) → names_tree n ≡ b → b ≡ true
+  tree_named : (n : DirIndex) → Contains (followed items) n → IsOpen items n.dir → names_inode n ≡ false → (b : Bool) → names_tree n ≡ b → b ≡ true
   tree_named n among opened other true is = refl
   tree_named n among opened other false is = absurd (keeps (BadBtrfs n.leaf Body) (bad_location n among opened other is refl))
 
-  target_of : (n : Naming) → Contains (followed items) n → IsOpen items n.dir → (b : Bool) → names_inode n ≡ b → (next : Target) × IsNameOf n next × (target_node n ≡ node_of next)
+  target_of : (n : DirIndex) → Contains (followed items) n → IsOpen items n.dir → (b : Bool) → names_inode n ≡ b → (next : Target) × IsNameOf n next × (target_node n ≡ node_of_target next)
   target_of n among opened true is = (inode n.location.objectid, (is, refl), ap (λ (b : Bool). if b then inode_node n.location.objectid else tree_node n.location.objectid) is)
   target_of n among opened false is =
       (tree n.location.objectid, (tree_named n among opened is (names_tree n) refl, refl), ap (λ (b : Bool). if b then inode_node n.location.objectid else tree_node n.location.objectid) is)
 
-  sound : (path : NameList) (from : Target) (node : NodeId) → LinksLead links (node_of from) path node → (to : Target) × (node ≡ node_of to) × Leads items from path to
+  sound : (path : NameList) (from : Target) (node : NodeId) → LinksLead links (node_of_target from) path node → (to : Target) × (node ≡ node_of_target to) × LeadsToTarget items from path to
   sound [] from node is = (from, sym is, refl)
   sound (name ∷ names) (tree number) node (link, among, dir, called, rest) =
       let e = entry_of link among in
-      let s = space_of (inode_node e.0.dir) (tree_node number) (ap (λ (l : Link). l.dir) e.1 ∙ dir) in
+      let s = space_of (inode_node e.0.dir) (tree_node number) (ap (λ (l : NodeLink). l.dir) e.1 ∙ dir) in
       absurd (omega (arith, s))
   sound (name ∷ names) (inode ino) node (link, among, dir, called, rest) =
       let e = entry_of link among in
-      let n : Naming = e.0 in
-      let at : n.dir ≡ ino = number_of (inode_node n.dir) (inode_node ino) (ap (λ (l : Link). l.dir) e.1 ∙ dir) in
+      let n : DirIndex = e.0 in
+      let at : n.dir ≡ ino = number_of (inode_node n.dir) (inode_node ino) (ap (λ (l : NodeLink). l.dir) e.1 ∙ dir) in
       let next = target_of n e.3 e.4 (names_inode n) refl in
-      let target : link.target ≡ node_of next.0 = sym (ap (λ (l : Link). l.target) e.1) ∙ next.2 in
+      let target : link.target ≡ node_of_target next.0 = sym (ap (λ (l : NodeLink). l.target) e.1) ∙ next.2 in
       let later = sound names next.0 node (subst (λ (m : NodeId). LinksLead links m names node) target rest) in (
         later.0,
         later.1,
-        (n, next.0, e.3, at, subst (IsDirectory items) at e.4.directory, ap (λ (l : Link). l.name) e.1 ∙ called, next.1, later.2),
+        (n, next.0, e.3, at, subst (IsDirectoryInode items) at e.4.directory, ap (λ (l : NodeLink). l.name) e.1 ∙ called, next.1, later.2),
       )
 
   -- where a path stands: an inode that is named, or another tree
   abbrev IsThere : Target → Type 0
-  IsThere (inode ino) = IsNamed items ino
+  IsThere (inode ino) = IsNamedInode items ino
   IsThere (tree number) = Unit {0}
 
-  target_is : (n : Naming) (next : Target) → IsNameOf n next → target_node n ≡ node_of next
+  target_is : (n : DirIndex) (next : Target) → IsNameOf n next → target_node n ≡ node_of_target next
   target_is n (inode ino) (names, same) = ap (λ (b : Bool). if b then inode_node n.location.objectid else tree_node n.location.objectid) names ∙ ap inode_node same
   target_is n (tree number) (names, same) =
       let other : names_inode n ≡ false = grind (arith, nat_tests, names) in
       ap (λ (b : Bool). if b then inode_node n.location.objectid else tree_node n.location.objectid) other ∙ ap tree_node same
 
-  there_next : (n : Naming) (next : Target) → Contains (followed items) n → IsOpen items n.dir → IsNameOf n next → IsThere next
-  there_next n (inode ino) among opened (names, same) = subst (IsNamed items) same (entry n among opened.named opened.directory names)
+  there_next : (n : DirIndex) (next : Target) → Contains (followed items) n → IsOpen items n.dir → IsNameOf n next → IsThere next
+  there_next n (inode ino) among opened (names, same) = subst (IsNamedInode items) same (entry n among opened.named opened.directory names)
   there_next n (tree number) among opened is = tt
 
-  whole : (path : NameList) (from to : Target) → IsThere from → Leads items from path to → LinksLead links (node_of from) path (node_of to)
-  whole [] from to there is = ap node_of is
+  whole : (path : NameList) (from to : Target) → IsThere from → LeadsToTarget items from path to → LinksLead links (node_of_target from) path (node_of_target to)
+  whole [] from to there is = ap node_of_target is
   whole (name ∷ names) (tree number) to there leads = absurd leads
   whole (name ∷ names) (inode ino) to there (n, next, among, at, dir, called, names_it, rest) =
-      let opened : IsOpen items n.dir = record { named = subst (IsNamed items) (sym at) there; directory = subst (IsDirectory items) (sym at) dir } in
+      let opened : IsOpen items n.dir = record { named = subst (IsNamedInode items) (sym at) there; directory = subst (IsDirectoryInode items) (sym at) dir } in
       let r = followed_to t items noted n among in
       let passes = and_from (is_followed n) (is_open t has n.dir) r.1 (open_to t items noted has named n.dir opened) in
       let linked = in_map link_of (filter (is_link t has) t.namings.items) n (in_filter (is_link t has) t.namings.items n r.0 passes) in
       let later = whole names next to (there_next n next among opened names_it) rest in
-      (link_of n, linked, ap inode_node at, called, subst (λ (m : NodeId). LinksLead links m names (node_of to)) (sym (target_is n next names_it)) later)
+      (link_of n, linked, ap inode_node at, called, subst (λ (m : NodeId). LinksLead links m names (node_of_target to)) (sym (target_is n next names_it)) later)
 
   -- an entry that names what another entry's directory is leads to a directory
-  goes_down : (n : Naming) → is_link t has n ≡ true → (link : Link) → Contains links link → link.dir ≡ target_node n → leads_down t has n ≡ true
+  goes_down : (n : DirIndex) → is_link t has n ≡ true → (link : NodeLink) → Contains links link → link.dir ≡ target_node n → leads_down t has n ≡ true
   goes_down n is link among dir =
       let e = entry_of link among in
-      let target = inode_target (names_inode n) n e.0.dir (sym dir ∙ sym (ap (λ (l : Link). l.dir) e.1)) in
+      let target = inode_target (names_inode n) n e.0.dir (sym dir ∙ sym (ap (λ (l : NodeLink). l.dir) e.1)) in
       let parts = and_parts (is_followed e.0) (is_open t has e.0.dir) e.2 in
       let more = and_parts (has (inode_node e.0.dir)) (is_dir t e.0.dir) parts.1 in
       and_from (is_link t has n) (names_inode n && is_dir t n.location.objectid) is
       (and_from (names_inode n) (is_dir t n.location.objectid) target.0 (ap (is_dir t) target.1 ∙ more.1))
 
   module _ (names_once : AllPairs (DifferInName (is_open t has)) t.namings.items) (apart : AllPairs (LeadApart t has) t.namings.items) where
-    named_once : AreNamedOnce links (inode_node 256)
+    named_once : AreNamedOnce links (inode_node FIRST_FREE_OBJECTID)
     named_once = record {
       not_root = λ link among same.
           let e = entry_of link among in
-          let target = inode_target (names_inode e.0) e.0 256 (ap (λ (l : Link). l.target) e.1 ∙ same) in
+          let target = inode_target (names_inode e.0) e.0 FIRST_FREE_OBJECTID (ap (λ (l : NodeLink). l.target) e.1 ∙ same) in
           keeps (BadBtrfs e.0.leaf DirTwice) (root_named e.0 e.3 e.4 target.0 target.1 refl);
-      directories = all_pairs_map (λ (a b : Link). a.target ≡ b.target → (link : Link) → Contains links link → link.dir ≢ a.target) link_of (filter (is_link t has) t.namings.items)
-          (all_pairs_passing (λ (m n : Naming). target_node m ≡ target_node n → (link : Link) → Contains links link → link.dir ≢ target_node m) (is_link t has) t.namings.items
+      directories = all_pairs_map (λ (a b : NodeLink). a.target ≡ b.target → (link : NodeLink) → Contains links link → link.dir ≢ a.target) link_of (filter (is_link t has) t.namings.items)
+          (all_pairs_passing (λ (m n : DirIndex). target_node m ≡ target_node n → (link : NodeLink) → Contains links link → link.dir ≢ target_node m) (is_link t has) t.namings.items
           (λ i j d before within pass_m pass_n same link among dir.
           apart i j d before within (goes_down (get_or t.namings.items i d) pass_m link among dir) (goes_down (get_or t.namings.items j d) pass_n link among (dir ∙ same))
           (same_number (get_or t.namings.items i d) (get_or t.namings.items j d) same)));
-      names = all_pairs_map (λ (a b : Link). a.dir ≡ b.dir → a.name ≢ b.name) link_of (filter (is_link t has) t.namings.items)
-          (all_pairs_passing (λ (m n : Naming). inode_node m.dir ≡ inode_node n.dir → m.name ≢ n.name) (is_link t has) t.namings.items
+      names = all_pairs_map (λ (a b : NodeLink). a.dir ≡ b.dir → a.name ≢ b.name) link_of (filter (is_link t has) t.namings.items)
+          (all_pairs_passing (λ (m n : DirIndex). inode_node m.dir ≡ inode_node n.dir → m.name ≢ n.name) (is_link t has) t.namings.items
           (λ i j d before within pass_m pass_n same name.
           let parts = and_parts (is_followed (get_or t.namings.items j d)) (is_open t has (get_or t.namings.items j d).dir) pass_n in
           names_once i j d before within parts.1 (number_of (inode_node (get_or t.namings.items i d).dir) (inode_node (get_or t.namings.items j d).dir) same) name));
     }
       where
-        number_is : (b : Bool) (n : Naming) → (if b then inode_node n.location.objectid else tree_node n.location.objectid).number ≡ n.location.objectid
+        number_is : (b : Bool) (n : DirIndex) → (if b then inode_node n.location.objectid else tree_node n.location.objectid).number ≡ n.location.objectid
         number_is true n = refl
         number_is false n = refl
 
-        same_number : (m n : Naming) → target_node m ≡ target_node n → m.location.objectid ≡ n.location.objectid
+        same_number : (m n : DirIndex) → target_node m ≡ target_node n → m.location.objectid ≡ n.location.objectid
         same_number m n same = sym (number_is (names_inode m) m) ∙ (number_of (target_node m) (target_node n) same ∙ number_is (names_inode n) n)
 
     pub tree_links : AreTreeLinks items links
     tree_links = record {
       once = named_once;
-      sound = λ path node leads. sound path (inode 256) node leads;
-      whole = λ path to leads. whole path (inode 256) to root leads;
+      sound = λ path node leads. sound path (inode FIRST_FREE_OBJECTID) node leads;
+      whole = λ path to leads. whole path (inode FIRST_FREE_OBJECTID) to root leads;
     }

@@ -1,4 +1,5 @@
 pub mod Checking
+pub mod Imports
 pub mod InodeItems
 pub mod Keeping
 pub mod Leading

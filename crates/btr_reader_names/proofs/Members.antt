@@ -1,13 +1,7 @@
 -- Members of lists that are made of others, and pairs among them.
-use Rattle.std.proofs.Common.{◌≡◌, ℕ, ◌+◌, ◌<◌, ◌≤◌, Bool, true, false, cond, append_assoc, List, [], ◌∷◌, ◌++◌, map, filter, length, get_or, take, drop, Contains, AllPairs, ⊎_elim, refl, sym, ap, subst, ◌∙◌, arith}
-use Rattle.std.proofs.lemmas.Bool.{cases_lt}
-use Rattle.std.proofs.lemmas.List.{get_or_default, take-append-drop, take_more, map-append}
-use Rattle.std.proofs.lemmas.List.Elements.{filter-append}
+use Rattle.btr_reader_names.proofs.Imports.{◌≡◌, ℕ, ◌+◌, ◌<◌, ◌≤◌, Bool, true, false, cond, append_assoc, List, [], ◌∷◌, ◌++◌, map, filter, length, get_or, take, drop, Contains, AllPairs, ⊎_elim, refl, sym, ap, subst, ◌∙◌, arith, cases_lt, get_or_default, take-append-drop, take_more, map-append, length-append, filter-append, in_filter, AreIn}
 use Rattle.std.proofs.Math.Seq.{get_or-append_seam}
 use Rattle.std.proofs.Math.ListN.{get_or-append}
-use Rattle.std.proofs.lemmas.List.{length-append}
-use Rattle.fs_paths.proofs.Lists.{in_filter}
-use Rattle.btr_reader_names.specs.Rules.{AreIn}
 
 -- two that pass are two among those that pass
 pub filter_in : {X : Type 0} (p : X → Bool) (xs : List X) (x y : X) → p x ≡ true → p y ≡ true → AreIn xs x y → AreIn (filter p xs) x y

@@ -1,31 +1,6 @@
 -- What each look blames is a rule that is broken.
-use Rattle.std.proofs.Common.{◌≡◌, ℕ, ◌==◌, Bool, true, false, not, ◌&&◌, nat_lt, List, [], ◌∷◌, Contains, Option, Some, None, is_some, if◌then◌else◌, ⊎_elim, refl, sym, ap, subst, ◌∙◌, true≢false, arith}
-use Rattle.std.specs.Option.{option_and_then, option_map_or}
-use Rattle.std.proofs.lemmas.Bool.{and_parts, eqb-true}
-use Rattle.std.proofs.lemmas.Bool.Decides.{nat_tests}
-use Rattle.std.proofs.lemmas.List.Elements.{Contains-append_cases, Contains-append_left, Contains-append_right}
-use Rattle.btr_reader_walk.specs.refusals.declared.refusal.BtrRefusal.{BtrRefusal}
-use Rattle.btr_reader_walk.specs.refusals.declared.refusal.BtrRefusal.TheVariants.{BadBtrfs}
-use Rattle.btr_reader_walk.specs.refusals.declared.rule.BtrRule.{BtrRule}
-use Rattle.btr_reader_walk.specs.refusals.declared.rule.BtrRule.TheVariants.{Body, NoInode, NameForm, DirTwice}
+use Rattle.btr_reader_names.proofs.Imports.{◌≡◌, ℕ, ◌==◌, Bool, true, false, not, ◌&&◌, nat_lt, List, [], ◌∷◌, Contains, Option, Some, None, is_some, if◌then◌else◌, ⊎_elim, refl, sym, ap, subst, ◌∙◌, true≢false, arith, option_and_then, option_map_or, and_parts, eqb-true, nat_tests, Contains-append_cases, Contains-append_left, Contains-append_right, FIRST_FREE_OBJECTID, BtrRefusal, BadBtrfs, BtrRule, Body, NoInode, NameForm, DirTwice, inode_of, Inode, TreeItem, Kind, NodeId, head_or_tail, in_tail, at_head, InodeFound, DirIndex, OffForm, NameTable, find_inode_item, inode_on, kind_of_mode, is_symlink, dir_indexes, is_followed, is_index, index_entry, is_name, names_inode, names_tree, IsNamedInode, root, BlamesRoot, root_absent, root_off, root_other, fits_size, is_good, is_good_item, BlamesForm, inode_rule, tree_rule, target_rule, BlamesEntry, leads_down, AreIn, IsOpen, BreaksNames, no_root_directory, root_is_none, bad_inode, bad_mode, long_target, bad_index, bad_name, twice, bad_location, no_inode, no_tree, directory_twice, root_named, AreNamed, is_open, is_link, own_off_form, off_form_at, off_forms, told, has_item, is_dir, HasNotedNames}
 use Rattle.btr_reader_walk.specs.btr_keys.DirEntry.{DirEntryValue}
-use Rattle.btr_reader_walk.specs.btr_keys.Inode.{inode_of}
-use Rattle.btr_reader_walk.specs.btr_keys.declared.inode.Inode.{Inode}
-use Rattle.btr_reader_walk.specs.Events.{TreeItem}
-use Rattle.fs_rows.specs.declared.row.Kind.{Kind}
-use Rattle.fs_paths.specs.declared.node.NodeId.{NodeId}
-use Rattle.fs_paths.proofs.Lists.{head_or_tail, in_tail, at_head}
-use Rattle.btr_reader_names.specs.declared.inodes.InodeFound.{InodeFound}
-use Rattle.btr_reader_names.specs.declared.naming.Naming.{Naming}
-use Rattle.btr_reader_names.specs.declared.naming.OffForm.{OffForm}
-use Rattle.btr_reader_names.specs.declared.table.Names.{Names}
-use Rattle.btr_reader_names.specs.Inodes.{inode_item, inode_on, kind_of_mode}
-use Rattle.fs_rows.specs.Kinds.{is_symlink}
-use Rattle.btr_reader_names.specs.Links.{namings, is_followed, is_index, index_entry, is_name, names_inode, names_tree, IsNamed, root}
-use Rattle.btr_reader_names.specs.Passes.{BlamesRoot, root_absent, root_off, root_other, fits_size, is_good, is_good_item, BlamesForm, inode_rule, tree_rule, target_rule, BlamesEntry, leads_down}
-use Rattle.btr_reader_names.specs.Rules.{AreIn, IsOpen, BreaksNames, no_root_directory, root_is_none, bad_inode, bad_mode, long_target, bad_index, bad_name, twice, bad_location, no_inode, no_tree, directory_twice, root_named}
-use Rattle.btr_reader_names.specs.Steps.{AreNamed, is_open, is_link}
-use Rattle.btr_reader_names.specs.Table.{own_off_form, off_form_at, off_forms, told, has_item, is_dir, HasNoted}
 use Rattle.btr_reader_names.proofs.Members.{filter_in}
 use Rattle.btr_reader_names.proofs.Told.{dir_from, absent_from, item_from, symlink_is, not_directory, same_some}
 use Rattle.btr_reader_names.proofs.Reaching.{naming_from, followed_from, open_from}
@@ -67,25 +42,25 @@ to_off_forms (j ∷ items) i h is none =
         subst (λ (b : Bool). Contains (if b then off_form_at i (index_entry i.body) else []) (record { leaf = i.leaf; dir = i.key.objectid })) (sym is)
         (subst (λ (e : Option DirEntryValue). Contains (off_form_at i e) (record { leaf = i.leaf; dir = i.key.objectid })) (sym none) (at_head (record { leaf = i.leaf; dir = i.key.objectid }) []))
 
-module _ (t : Names) (items : List TreeItem) (noted : HasNoted t items) (roots : ℕ → Bool) (root_at : ℕ) (r : BtrRefusal) where
+module _ (t : NameTable) (items : List TreeItem) (noted : HasNotedNames t items) (roots : ℕ → Bool) (root_at : ℕ) (r : BtrRefusal) where
   abbrev Broken : Type 0
   Broken = BreaksNames roots items root_at r
 
   -- the item of a named inode
-  pub item_refused : (ino : ℕ) (f : InodeFound) → IsNamed items ino → told t ino ≡ Some f → is_good_item f ≡ false → r ≡ BadBtrfs f.leaf Body → Broken
+  pub item_refused : (ino : ℕ) (f : InodeFound) → IsNamedInode items ino → told t ino ≡ Some f → is_good_item f ≡ false → r ≡ BadBtrfs f.leaf Body → Broken
   item_refused ino f named has bad is =
       let at = item_from t items noted ino f has in
       let i : TreeItem = at.0 in
       let blamed : r ≡ BadBtrfs i.leaf Body = at_leaf r f.leaf i.leaf Body at.2 is in
       by i at.1 blamed (inode_of i.body) refl (sym (ap (λ (o : Option Inode). option_map_or is_good o false) at.3) ∙ bad)
     where
-      by_kind : (i : TreeItem) → inode_item items ino ≡ Some i → r ≡ BadBtrfs i.leaf Body → (own : Inode) → inode_of i.body ≡ Some own → (kind : Option Kind) → kind_of_mode own.mode ≡ kind → option_map_or (fits_size own.size) kind false ≡ false → Broken
+      by_kind : (i : TreeItem) → find_inode_item items ino ≡ Some i → r ≡ BadBtrfs i.leaf Body → (own : Inode) → inode_of i.body ≡ Some own → (kind : Option Kind) → kind_of_mode own.mode ≡ kind → option_map_or (fits_size own.size) kind false ≡ false → Broken
       by_kind i there blamed own body None unknown off = bad_mode ino i own named there body unknown blamed
       by_kind i there blamed own body (Some kind) known off =
           let parts = and_parts (is_symlink kind) (nat_lt 4095 own.size) (not_false (is_symlink kind && nat_lt 4095 own.size) off) in
           long_target ino i own named there body (known ∙ ap (λ (k : Kind). Some k) (symlink_is kind parts.0)) (grind (arith, nat_tests, parts.1)) blamed
 
-      by : (i : TreeItem) → inode_item items ino ≡ Some i → r ≡ BadBtrfs i.leaf Body → (o : Option Inode) → inode_of i.body ≡ o → option_map_or is_good o false ≡ false → Broken
+      by : (i : TreeItem) → find_inode_item items ino ≡ Some i → r ≡ BadBtrfs i.leaf Body → (o : Option Inode) → inode_of i.body ≡ o → option_map_or is_good o false ≡ false → Broken
       by i there blamed None body off = bad_inode ino i named there body blamed
       by i there blamed (Some own) body off = by_kind i there blamed own body (kind_of_mode own.mode) refl off
 
@@ -93,15 +68,15 @@ module _ (t : Names) (items : List TreeItem) (noted : HasNoted t items) (roots :
   unknown_bad None h = refl
   unknown_bad (Some own) h = ap (λ (k : Option Kind). option_map_or (fits_size own.size) k false) h
 
-  known_on : (i : TreeItem) (o : Option Inode) (kind : Kind) → inode_item items 256 ≡ Some i → o ≡ inode_of i.body → option_and_then (λ (own : Inode). kind_of_mode own.mode) o ≡ Some kind → (own : Inode) × (inode_on items 256 ≡ Some own) × (kind_of_mode own.mode ≡ Some kind)
+  known_on : (i : TreeItem) (o : Option Inode) (kind : Kind) → find_inode_item items FIRST_FREE_OBJECTID ≡ Some i → o ≡ inode_of i.body → option_and_then (λ (own : Inode). kind_of_mode own.mode) o ≡ Some kind → (own : Inode) × (inode_on items FIRST_FREE_OBJECTID ≡ Some own) × (kind_of_mode own.mode ≡ Some kind)
   known_on i None kind there body h = cc
   known_on i (Some own) kind there body h = (own, ap (λ (x : Option TreeItem). option_and_then (λ j. inode_of j.body) x) there ∙ sym body, h)
 
   pub root_refused : BlamesRoot t root_at r → Broken
-  root_refused (root_absent none is) = no_root_directory (absent_from t items noted 256 none) is
-  root_refused (root_off f has unknown is) = item_refused 256 f root has (unknown_bad f.inode unknown) is
+  root_refused (root_absent none is) = no_root_directory (absent_from t items noted FIRST_FREE_OBJECTID none) is
+  root_refused (root_off f has unknown is) = item_refused FIRST_FREE_OBJECTID f root has (unknown_bad f.inode unknown) is
   root_refused (root_other f kind has known not_dir is) =
-      let at = item_from t items noted 256 f has in
+      let at = item_from t items noted FIRST_FREE_OBJECTID f has in
       let on = known_on at.0 f.inode kind at.1 at.3 known in
       root_is_none on.0 kind on.1 on.2 (not_directory kind not_dir) is
 
@@ -113,11 +88,11 @@ module _ (t : Names) (items : List TreeItem) (noted : HasNoted t items) (roots :
         let opened : IsOpen items i.key.objectid = subst (IsOpen items) (ap (λ (f : OffForm). f.dir) at.4) (open_from t items noted has named o.dir blames.0) in
         bad_index i at.1 at.2 opened at.3 (at_leaf r o.leaf i.leaf Body (ap (λ (f : OffForm). f.leaf) at.4) blames.1)
 
-    module _ (n : Naming) (among : Contains t.namings.items n) (opened : IsOpen items n.dir) where
+    module _ (n : DirIndex) (among : Contains t.namings.items n) (opened : IsOpen items n.dir) where
       with_rule : (rule other : BtrRule) → Some other ≡ Some rule → r ≡ BadBtrfs n.leaf rule → r ≡ BadBtrfs n.leaf other
       with_rule rule other same is = is ∙ ap (λ (x : BtrRule). BadBtrfs n.leaf x) (sym (same_some other rule same))
 
-      inode_refused : is_followed n ≡ true → names_inode n ≡ true → (b : Bool) → has_item t n.location.objectid ≡ b → (e : Bool) → (n.location.objectid == 256) ≡ e
+      inode_refused : is_followed n ≡ true → names_inode n ≡ true → (b : Bool) → has_item t n.location.objectid ≡ b → (e : Bool) → (n.location.objectid == FIRST_FREE_OBJECTID) ≡ e
           → (rule : BtrRule) → (if b then (if e then Some DirTwice else None) else Some NoInode) ≡ Some rule → r ≡ BadBtrfs n.leaf rule → Broken
       inode_refused follows names true there true top rule broken is =
           root_named n (followed_from t items noted n among follows) opened names (eqb-true n.location.objectid 256 top) (with_rule rule DirTwice broken is)
@@ -136,7 +111,7 @@ module _ (t : Names) (items : List TreeItem) (noted : HasNoted t items) (roots :
       target_refused : is_followed n ≡ true → (a : Bool) → names_inode n ≡ a → (b : Bool) → names_tree n ≡ b
           → (rule : BtrRule) → (if a then inode_rule t n.location.objectid else (if b then tree_rule roots n.location.objectid else Some Body)) ≡ Some rule → r ≡ BadBtrfs n.leaf rule → Broken
       target_refused follows true names b _ rule broken is =
-          inode_refused follows names (has_item t n.location.objectid) refl (n.location.objectid == 256) refl rule broken is
+          inode_refused follows names (has_item t n.location.objectid) refl (n.location.objectid == FIRST_FREE_OBJECTID) refl rule broken is
       target_refused follows false other true names rule broken is = tree_refused follows names (roots n.location.objectid) refl rule broken is
       target_refused follows false other false neither rule broken is =
           bad_location n (followed_from t items noted n among follows) opened other neither (with_rule rule Body broken is)
@@ -146,14 +121,14 @@ module _ (t : Names) (items : List TreeItem) (noted : HasNoted t items) (roots :
       rule_refused true good true follows rule broken is = target_refused follows (names_inode n) refl (names_tree n) refl rule broken is
       rule_refused true good false other rule broken is = absurd (some_not_none rule (sym broken))
 
-    pub entry_refused : (n : Naming) → Contains t.namings.items n → BlamesEntry t (is_open t has) roots n r → Broken
+    pub entry_refused : (n : DirIndex) → Contains t.namings.items n → BlamesEntry t (is_open t has) roots n r → Broken
     entry_refused n among (rule, opened, broken, is) = rule_refused n among (open_from t items noted has named n.dir opened) (is_name n.name) refl (is_followed n) refl rule broken is
 
-    pub twice_refused : (m n : Naming) → AreIn t.namings.items m n → is_open t has n.dir ≡ true → m.dir ≡ n.dir → m.name ≡ n.name → r ≡ BadBtrfs n.leaf NameForm → Broken
+    pub twice_refused : (m n : DirIndex) → AreIn t.namings.items m n → is_open t has n.dir ≡ true → m.dir ≡ n.dir → m.name ≡ n.name → r ≡ BadBtrfs n.leaf NameForm → Broken
     twice_refused m n both opened dir name is =
-        twice m n (subst (λ (l : List Naming). AreIn l m n) noted.namings both) (open_from t items noted has named n.dir opened) dir name is
+        twice m n (subst (λ (l : List DirIndex). AreIn l m n) noted.namings both) (open_from t items noted has named n.dir opened) dir name is
 
-    pub again_refused : (m n : Naming) → AreIn t.namings.items m n → leads_down t has m ≡ true → leads_down t has n ≡ true → m.location.objectid ≡ n.location.objectid → r ≡ BadBtrfs n.leaf DirTwice → Broken
+    pub again_refused : (m n : DirIndex) → AreIn t.namings.items m n → leads_down t has m ≡ true → leads_down t has n ≡ true → m.location.objectid ≡ n.location.objectid → r ≡ BadBtrfs n.leaf DirTwice → Broken
     again_refused m n both first second same is =
         let one = and_parts (is_link t has m) (names_inode m && is_dir t m.location.objectid) first in
         let two = and_parts (is_link t has n) (names_inode n && is_dir t n.location.objectid) second in
@@ -161,5 +136,5 @@ module _ (t : Names) (items : List TreeItem) (noted : HasNoted t items) (roots :
         let link_two = and_parts (is_followed n) (is_open t has n.dir) two.0 in
         let to_one = and_parts (names_inode m) (is_dir t m.location.objectid) one.1 in
         let to_two = and_parts (names_inode n) (is_dir t n.location.objectid) two.1 in
-        let among = filter_in is_followed (namings items) m n link_one.0 link_two.0 (subst (λ (l : List Naming). AreIn l m n) noted.namings both) in
+        let among = filter_in is_followed (dir_indexes items) m n link_one.0 link_two.0 (subst (λ (l : List DirIndex). AreIn l m n) noted.namings both) in
         directory_twice m n among (open_from t items noted has named m.dir link_one.1) (open_from t items noted has named n.dir link_two.1) to_one.0 to_two.0 same (dir_from t items noted n.location.objectid to_two.1) is

@@ -1,22 +1,8 @@
 -- The names and the directories that were seen, with one more entry.
-use Rattle.std.proofs.Common.{◌≡◌, ℕ, ◌==◌, Bool, true, false, not, ◌&&◌, ◌||◌, nat_eq, List, [], ◌∷◌, ◌++◌, get_or, refl, sym, ap, ◌∙◌, true≢false, arith}
-use Rattle.std.specs.List.{list_any}
+use Rattle.btr_reader_names.proofs.Imports.{◌≡◌, ℕ, ◌==◌, Bool, true, false, not, ◌&&◌, ◌||◌, nat_eq, List, [], ◌∷◌, ◌++◌, get_or, refl, sym, ap, ◌∙◌, true≢false, arith, list_any, eqb-true, and_parts, nat_tests, list_any-append, list_any_at, Any-from_list_any, IndexSet, contains, BtrAnswer, Refused, Fault, Memory, BadBtrfs, NameForm, DirTwice, NodeId, same_name-true, DirIndex, NameTable, same_name, names_as, DifferInName, HasSeen, BlamesTwice, leads_down, leads_into, LeadApart, HasDirectories, BlamesAgain}
 use Rattle.std.specs.Cmp.Lexicographic.{pointwise}
-use Rattle.std.proofs.lemmas.Bool.{eqb-true, and_parts}
-use Rattle.std.proofs.lemmas.Bool.Decides.{nat_tests}
-use Rattle.std.proofs.lemmas.List.Folds.{list_any-append, list_any_at, Any-from_list_any}
 use Rattle.std.proofs.lemmas.List.Quantifiers.{all_pairs_push}
-use Rattle.indexmap.specs.IndexSet.{IndexSet, contains}
-use Rattle.btr_reader_walk.specs.refusals.declared.answer.BtrAnswer.{BtrAnswer}
-use Rattle.btr_reader_walk.specs.refusals.declared.answer.BtrAnswer.TheVariants.{Refused, Fault, Memory}
-use Rattle.btr_reader_walk.specs.refusals.declared.refusal.BtrRefusal.TheVariants.{BadBtrfs}
-use Rattle.btr_reader_walk.specs.refusals.declared.rule.BtrRule.TheVariants.{NameForm, DirTwice}
-use Rattle.fs_paths.specs.declared.node.NodeId.{NodeId}
-use Rattle.fs_paths.proofs.Nodes.{same_name-true}
-use Rattle.btr_reader_names.specs.declared.naming.Naming.{Naming}
 use Rattle.btr_reader_names.specs.declared.seen.NameIn.{NameIn}
-use Rattle.btr_reader_names.specs.declared.table.Names.{Names}
-use Rattle.btr_reader_names.specs.Passes.{same_name, names_as, DifferInName, HasSeen, BlamesTwice, leads_down, leads_into, LeadApart, HasDirectories, BlamesAgain}
 use Rattle.btr_reader_names.proofs.Members.{in_more}
 
 eq-self : (n : ℕ) → (n == n) ≡ true
@@ -49,13 +35,13 @@ was_there new true is h = refl
 was_there new false is h = absurd (true≢false (sym is ∙ h))
 
 -- an entry is of this name in this directory
-names_it : (opened : ℕ → Bool) (q : NameIn) (n : Naming) → opened n.dir ≡ true → n.dir ≡ q.dir → n.name ≡ q.name.items → names_as opened q n ≡ true
+names_it : (opened : ℕ → Bool) (q : NameIn) (n : DirIndex) → opened n.dir ≡ true → n.dir ≡ q.dir → n.name ≡ q.name.items → names_as opened q n ≡ true
 names_it opened q n is dir name =
     true_and (opened n.dir) ((n.dir == q.dir) && pointwise nat_eq n.name q.name.items) is
     ∙ (ap (λ (k : ℕ). (k == q.dir) && pointwise nat_eq n.name q.name.items) dir
     ∙ (ap (λ (b : Bool). b && pointwise nat_eq n.name q.name.items) (eq-self q.dir) ∙ (ap (λ (l : List ℕ). pointwise nat_eq l q.name.items) name ∙ pointwise_self q.name.items)))
 
-module _ {S : Type 0} (opened : ℕ → Bool) (old new : IndexSet NameIn S) (seen : List Naming) (n : Naming) (has : HasSeen opened old seen) where
+module _ {S : Type 0} (opened : ℕ → Bool) (old new : IndexSet NameIn S) (seen : List DirIndex) (n : DirIndex) (has : HasSeen opened old seen) where
   -- an entry of a directory that is not named
   pub closed_more : opened n.dir ≡ false → HasSeen opened old (seen ++ n ∷ [])
   closed_more closed = record {
@@ -88,14 +74,14 @@ module _ {S : Type 0} (opened : ℕ → Bool) (old new : IndexSet NameIn S) (see
     pub seen_twice : contains same_name old name ≡ true → BlamesTwice opened (seen ++ n ∷ []) (Refused (BadBtrfs n.leaf NameForm))
     seen_twice there =
         let a = Any-from_list_any (names_as opened name) seen (sym (has.each name) ∙ there) in
-        let m : Naming = a.1 in
+        let m : DirIndex = a.1 in
         let parts = and_parts (opened m.dir) ((m.dir == name.dir) && pointwise nat_eq m.name name.name.items) a.4 in
         let more = and_parts (m.dir == name.dir) (pointwise nat_eq m.name name.name.items) parts.1 in
         let dir : m.dir ≡ n.dir = eqb-true m.dir name.dir more.0 ∙ dir_is in
         let bytes : m.name ≡ n.name = same_name-true m.name name.name.items more.1 ∙ name_is in
         (m, (n, record { before = seen; after = []; split = refl; earlier = (a.0, a.2, a.3) }, is, dir, bytes, refl))
 
-pub twice_of_part : (opened : ℕ → Bool) (part more all : List Naming) (e : BtrAnswer) → all ≡ part ++ more → BlamesTwice opened part e → BlamesTwice opened all e
+pub twice_of_part : (opened : ℕ → Bool) (part more all : List DirIndex) (e : BtrAnswer) → all ≡ part ++ more → BlamesTwice opened part e → BlamesTwice opened all e
 twice_of_part opened part more all (Refused refusal) is b = (b.0, (b.1.0, in_more part more all b.0 b.1.0 is b.1.1, b.1.2, b.1.3, b.1.4, b.1.5))
 twice_of_part opened part more all Fault is b = b
 twice_of_part opened part more all Memory is b = tt
@@ -103,7 +89,7 @@ twice_of_part opened part more all Memory is b = tt
 pub none_seen : {S : Type 0} (opened : ℕ → Bool) (names : IndexSet NameIn S) → names.keys ≡ [] → HasSeen opened names []
 none_seen opened names empty = record { each = λ q. ap (λ (ks : List NameIn). list_any (same_name q) ks) empty; once = λ i j d before within. absurd (omega (arith, within)) }
 
-module _ {S : Type 0} (t : Names) (named : NodeId → Bool) (old new : IndexSet ℕ S) (seen : List Naming) (n : Naming) (has : HasDirectories t named old seen) where
+module _ {S : Type 0} (t : NameTable) (named : NodeId → Bool) (old new : IndexSet ℕ S) (seen : List DirIndex) (n : DirIndex) (has : HasDirectories t named old seen) where
   -- an entry that leads to no directory
   pub other_more : leads_down t named n ≡ false → HasDirectories t named old (seen ++ n ∷ [])
   other_more other = record {
@@ -126,21 +112,21 @@ module _ {S : Type 0} (t : Names) (named : NodeId → Bool) (old new : IndexSet 
           true≢false (sym (list_any_at (leads_into t named n.location.objectid) seen k d within (passes (get_or seen k d) down same)) ∙ (sym (has.each n.location.objectid) ∙ absent)));
     }
       where
-        passes : (m : Naming) → leads_down t named m ≡ true → m.location.objectid ≡ n.location.objectid → leads_into t named n.location.objectid m ≡ true
+        passes : (m : DirIndex) → leads_down t named m ≡ true → m.location.objectid ≡ n.location.objectid → leads_into t named n.location.objectid m ≡ true
         passes m down same =
             true_and (leads_down t named m) (m.location.objectid == n.location.objectid) down ∙ (ap (λ (k : ℕ). k == n.location.objectid) same ∙ eq-self n.location.objectid)
 
     pub directory_again : contains nat_eq old n.location.objectid ≡ true → BlamesAgain t named (seen ++ n ∷ []) (Refused (BadBtrfs n.leaf DirTwice))
     directory_again there =
         let a = Any-from_list_any (leads_into t named n.location.objectid) seen (sym (has.each n.location.objectid) ∙ there) in
-        let m : Naming = a.1 in
+        let m : DirIndex = a.1 in
         let parts = and_parts (leads_down t named m) (m.location.objectid == n.location.objectid) a.4 in
         (m, (n, record { before = seen; after = []; split = refl; earlier = (a.0, a.2, a.3) }, parts.0, leads, eqb-true m.location.objectid n.location.objectid parts.1, refl))
 
-pub again_of_part : (t : Names) (named : NodeId → Bool) (part more all : List Naming) (e : BtrAnswer) → all ≡ part ++ more → BlamesAgain t named part e → BlamesAgain t named all e
+pub again_of_part : (t : NameTable) (named : NodeId → Bool) (part more all : List DirIndex) (e : BtrAnswer) → all ≡ part ++ more → BlamesAgain t named part e → BlamesAgain t named all e
 again_of_part t named part more all (Refused refusal) is b = (b.0, (b.1.0, in_more part more all b.0 b.1.0 is b.1.1, b.1.2, b.1.3, b.1.4, b.1.5))
 again_of_part t named part more all Fault is b = b
 again_of_part t named part more all Memory is b = tt
 
-pub no_directories : {S : Type 0} (t : Names) (named : NodeId → Bool) (dirs : IndexSet ℕ S) → dirs.keys ≡ [] → HasDirectories t named dirs []
+pub no_directories : {S : Type 0} (t : NameTable) (named : NodeId → Bool) (dirs : IndexSet ℕ S) → dirs.keys ≡ [] → HasDirectories t named dirs []
 no_directories t named dirs empty = record { each = λ ino. ap (λ (ks : List ℕ). list_any (nat_eq ino) ks) empty; once = λ i j d before within. absurd (omega (arith, within)) }

@@ -1,16 +1,5 @@
 -- What the table tells of an inode, and what its item says.
-use Rattle.std.proofs.Common.{◌≡◌, ℕ, true, false, List, Option, Some, None, refl, sym, ap, subst, ◌∙◌, true≢false}
-use Rattle.std.specs.Option.{option_and_then, option_map_or}
-use Rattle.btr_reader_walk.specs.btr_keys.Inode.{inode_of}
-use Rattle.btr_reader_walk.specs.btr_keys.declared.inode.Inode.{Inode}
-use Rattle.btr_reader_walk.specs.Events.{TreeItem}
-use Rattle.fs_rows.specs.declared.row.Kind.{Kind}
-use Rattle.fs_rows.specs.declared.row.Kind.TheVariants.{Directory, File, Symlink, Character, Block, Fifo, Socket, Subvolume}
-use Rattle.btr_reader_names.specs.declared.inodes.InodeFound.{InodeFound}
-use Rattle.btr_reader_names.specs.declared.table.Names.{Names}
-use Rattle.btr_reader_names.specs.Inodes.{inode_item, inode_on, kind_of_mode, IsDirectory, TellsInode}
-use Rattle.fs_rows.specs.Kinds.{is_directory, is_symlink}
-use Rattle.btr_reader_names.specs.Table.{told, kind_found, kind_told, is_dir, HasNoted}
+use Rattle.btr_reader_names.proofs.Imports.{◌≡◌, ℕ, true, false, List, Option, Some, None, refl, sym, ap, subst, ◌∙◌, true≢false, option_and_then, option_map_or, inode_of, Inode, TreeItem, Kind, Directory, File, Symlink, Character, Block, Fifo, Socket, Subvolume, InodeFound, NameTable, find_inode_item, inode_on, kind_of_mode, IsDirectoryInode, TellsInode, is_directory, is_symlink, told, kind_found, kind_told, is_dir, HasNotedNames}
 
 abbrev kind_in : Option Inode → Option Kind
 kind_in own = option_and_then (λ i. kind_of_mode i.mode) own
@@ -71,22 +60,22 @@ kind_from (Some inode) kind h = (inode, refl, h)
 pub same_some : {X : Type 0} (x y : X) → Some x ≡ Some y → x ≡ y
 same_some x y h = cc
 
-module _ (t : Names) (items : List TreeItem) (noted : HasNoted t items) (ino : ℕ) where
-  pub dir_from : is_dir t ino ≡ true → IsDirectory items ino
-  dir_from h = kind_from (inode_on items ino) Directory (sym (tells_kind (told t ino) (inode_item items ino) (noted.each ino)) ∙ dir_is (kind_told t ino) h)
+module _ (t : NameTable) (items : List TreeItem) (noted : HasNotedNames t items) (ino : ℕ) where
+  pub dir_from : is_dir t ino ≡ true → IsDirectoryInode items ino
+  dir_from h = kind_from (inode_on items ino) Directory (sym (tells_kind (told t ino) (find_inode_item items ino) (noted.each ino)) ∙ dir_is (kind_told t ino) h)
 
-  pub dir_to : IsDirectory items ino → is_dir t ino ≡ true
+  pub dir_to : IsDirectoryInode items ino → is_dir t ino ≡ true
   dir_to d =
-      ap (λ (k : Option Kind). option_map_or is_directory k false) (tells_kind (told t ino) (inode_item items ino) (noted.each ino) ∙ (ap kind_in d.1 ∙ d.2))
+      ap (λ (k : Option Kind). option_map_or is_directory k false) (tells_kind (told t ino) (find_inode_item items ino) (noted.each ino) ∙ (ap kind_in d.1 ∙ d.2))
 
-  pub absent_from : told t ino ≡ None → inode_item items ino ≡ None
-  absent_from h = none_told (told t ino) (inode_item items ino) (noted.each ino) h
+  pub absent_from : told t ino ≡ None → find_inode_item items ino ≡ None
+  absent_from h = none_told (told t ino) (find_inode_item items ino) (noted.each ino) h
 
-  pub absent_to : inode_item items ino ≡ None → told t ino ≡ None
-  absent_to h = told_none (told t ino) (inode_item items ino) (noted.each ino) h
+  pub absent_to : find_inode_item items ino ≡ None → told t ino ≡ None
+  absent_to h = told_none (told t ino) (find_inode_item items ino) (noted.each ino) h
 
-  pub item_from : (f : InodeFound) → told t ino ≡ Some f → (i : TreeItem) × (inode_item items ino ≡ Some i) × (f.leaf ≡ i.leaf) × (f.inode ≡ inode_of i.body)
-  item_from f h = item_told f (inode_item items ino) (subst (λ (o : Option InodeFound). TellsInode o (inode_item items ino)) h (noted.each ino))
+  pub item_from : (f : InodeFound) → told t ino ≡ Some f → (i : TreeItem) × (find_inode_item items ino ≡ Some i) × (f.leaf ≡ i.leaf) × (f.inode ≡ inode_of i.body)
+  item_from f h = item_told f (find_inode_item items ino) (subst (λ (o : Option InodeFound). TellsInode o (find_inode_item items ino)) h (noted.each ino))
 
-  pub item_to : (i : TreeItem) → inode_item items ino ≡ Some i → (f : InodeFound) × (told t ino ≡ Some f) × (f.leaf ≡ i.leaf) × (f.inode ≡ inode_of i.body)
+  pub item_to : (i : TreeItem) → find_inode_item items ino ≡ Some i → (f : InodeFound) × (told t ino ≡ Some f) × (f.leaf ≡ i.leaf) × (f.inode ≡ inode_of i.body)
   item_to i h = told_some (told t ino) i (subst (TellsInode (told t ino)) h (noted.each ino))

@@ -7,20 +7,21 @@ ghost use Rattle.btr_reader_names.specs.Passes.{AreGood, BlamesOne};
 ghost use Rattle.btr_reader_names.specs.Refuses.{RefusesNames, IsNoFault};
 ghost use Rattle.btr_reader_names.specs.Rules.{KeepsNames};
 ghost use Rattle.btr_reader_names.specs.Steps.{AreNamed, links_of};
-ghost use Rattle.btr_reader_names.specs.Table.{HasNoted};
+ghost use Rattle.btr_reader_names.specs.Table.{HasNotedNames};
 ghost use Rattle.btr_reader_names.specs.TreeLinks.{AreTreeLinks};
 
-use crate::Names;
+use crate::NameTable;
 use crate::entry_rules::check_entries;
 use crate::inode_rules::{check_forms, check_inodes, check_root};
-use crate::links::{ROOT, inode_node};
+use crate::links::inode_node;
 use crate::seen::{check_directories, check_once};
 use btr_reader_walk::{BtrAnswer, BtrRefusal, Memory};
+use btrfs_format::object::FIRST_FREE_OBJECTID;
 use fs_paths::{NodeId, reached};
 use indexmap::IndexSet;
 use std::alloc::Global;
 
-impl Names {
+impl NameTable {
     /// The named inodes, where all the rules of names are kept. `root` is the address of the tree's root node, and `roots`
     /// has the numbers of the trees that have a root item.
     ///
@@ -34,10 +35,10 @@ impl Names {
         root: u64,
         roots: &IndexSet<u64>,
     ) -> Result<IndexSet<NodeId>, BtrAnswer>
-        ensures named { (items : List TreeItem) → HasNoted self.now items → IfOk result (λ named. AreNamed items (contains same_node named)) }
-        ensures kept { (items : List TreeItem) → HasNoted self.now items → OnOk result (KeepsNames (contains nat_eq roots.now) items root) }
-        ensures links { (items : List TreeItem) → HasNoted self.now items → IfOk result (λ named. AreTreeLinks items (links_of self.now (contains same_node named))) }
-        ensures refused { (items : List TreeItem) → HasNoted self.now items → IfErr result (RefusesNames (contains nat_eq roots.now) items root) }
+        ensures named { (items : List TreeItem) → HasNotedNames self.now items → IfOk result (λ named. AreNamed items (contains same_node named)) }
+        ensures kept { (items : List TreeItem) → HasNotedNames self.now items → OnOk result (KeepsNames (contains nat_eq roots.now) items root) }
+        ensures links { (items : List TreeItem) → HasNotedNames self.now items → IfOk result (λ named. AreTreeLinks items (links_of self.now (contains same_node named))) }
+        ensures refused { (items : List TreeItem) → HasNotedNames self.now items → IfErr result (RefusesNames (contains nat_eq roots.now) items root) }
         ensures cause { IfErr result IsNoFault }
     {
         let named = reach(self, alloc)?;
@@ -47,24 +48,24 @@ impl Names {
 }
 
 /// The inodes that the root directory reaches by names.
-fn reach(names: &Names, alloc: Global) -> Result<IndexSet<NodeId>, Memory>
-    ensures { (items : List TreeItem) → HasNoted names.now items → IfOk result (λ named. AreNamed items (contains same_node named)) }
+fn reach(names: &NameTable, alloc: Global) -> Result<IndexSet<NodeId>, Memory>
+    ensures { (items : List TreeItem) → HasNotedNames names.now items → IfOk result (λ named. AreNamed items (contains same_node named)) }
 {
     let steps = names.steps(alloc)?;
-    let named = reached(alloc, steps, inode_node(ROOT))?;
+    let named = reached(alloc, steps, inode_node(FIRST_FREE_OBJECTID))?;
     Ok(named)
 }
 
 /// Whether all the rules of names are kept, for these named inodes.
 fn check_all(
     alloc: Global,
-    names: &Names,
+    names: &NameTable,
     root: u64,
     roots: &IndexSet<u64>,
     named: &IndexSet<NodeId>,
 ) -> Result<(), BtrAnswer>
     ensures cause { IfErr result IsNoFault }
-    ensures all { (items : List TreeItem) → HasNoted names.now items → AreNamed items (contains same_node named.now)
+    ensures all { (items : List TreeItem) → HasNotedNames names.now items → AreNamed items (contains same_node named.now)
         → MatchResult result (λ _. KeepsNames (contains nat_eq roots.now) items root × AreTreeLinks items (links_of names.now (contains same_node named.now))) (RefusesNames (contains nat_eq roots.now) items root) }
 {
     check_each(names, root, roots, named)?;
@@ -75,7 +76,7 @@ fn check_all(
 
 /// Whether the root, each named inode, and each index and entry is in order by itself.
 fn check_each(
-    names: &Names,
+    names: &NameTable,
     root: u64,
     roots: &IndexSet<u64>,
     named: &IndexSet<NodeId>,

@@ -2,26 +2,27 @@ ghost use Rattle.std.specs.Prelude.{◌≡◌, ◌==◌, ◌||◌, nat_eq, Conta
 ghost use Rattle.std.specs.List.{list_any};
 ghost use Rattle.indexmap.specs.IndexSet.{contains};
 ghost use Rattle.fs_paths.specs.Links.{same_node};
-ghost use Rattle.btr_reader_names.specs.declared.naming.Naming.{Naming as NamingOf};
+ghost use Rattle.btr_reader_names.specs.declared.dir_index.DirIndex.{DirIndex as DirIndexOf};
 ghost use Rattle.btr_reader_names.specs.Links.{is_name};
 ghost use Rattle.btr_reader_names.specs.Passes.{inode_rule, tree_rule, target_rule, entry_rule, IsGoodEntry, BlamesEntry};
 ghost use Rattle.btr_reader_names.specs.Steps.{is_open};
 
 use crate::inode_rules::bad;
-use crate::links::{ROOT, is_followed, is_open, names_inode, names_tree};
-use crate::{Names, Naming};
+use crate::links::{is_followed, is_open, names_inode, names_tree};
+use crate::{DirIndex, NameTable};
 use btr_reader_walk::{BtrRefusal, BtrRule};
+use btrfs_format::object::FIRST_FREE_OBJECTID;
 use fs_paths::NodeId;
 use indexmap::IndexSet;
 
 /// Whether each entry of a named directory is in order by itself.
 pub fn check_entries(
-    names: &Names,
+    names: &NameTable,
     named: &IndexSet<NodeId>,
     roots: &IndexSet<u64>,
 ) -> Result<(), BtrRefusal>
-    ensures good { IfOk result (λ _. (n : NamingOf) → Contains names.now.namings.items n → IsGoodEntry names.now (is_open names.now (contains same_node named.now)) (contains nat_eq roots.now) n) }
-    ensures blamed { IfErr result (λ r. (n : NamingOf) × Contains names.now.namings.items n × BlamesEntry names.now (is_open names.now (contains same_node named.now)) (contains nat_eq roots.now) n r) }
+    ensures good { IfOk result (λ _. (n : DirIndexOf) → Contains names.now.namings.items n → IsGoodEntry names.now (is_open names.now (contains same_node named.now)) (contains nat_eq roots.now) n) }
+    ensures blamed { IfErr result (λ r. (n : DirIndexOf) × Contains names.now.namings.items n × BlamesEntry names.now (is_open names.now (contains same_node named.now)) (contains nat_eq roots.now) n r) }
 {
     for naming in &names.namings {
         check_entry(names, named, roots, naming)?;
@@ -31,10 +32,10 @@ pub fn check_entries(
 
 /// The same of one entry.
 fn check_entry(
-    names: &Names,
+    names: &NameTable,
     named: &IndexSet<NodeId>,
     roots: &IndexSet<u64>,
-    naming: &Naming,
+    naming: &DirIndex,
 ) -> Result<(), BtrRefusal>
     ensures good { IfOk result (λ _. IsGoodEntry names.now (is_open names.now (contains same_node named.now)) (contains nat_eq roots.now) naming.now) }
     ensures blamed { IfErr result (BlamesEntry names.now (is_open names.now (contains same_node named.now)) (contains nat_eq roots.now) naming.now) }
@@ -49,7 +50,7 @@ fn check_entry(
 }
 
 /// The rule that an entry of a named directory breaks, if it breaks one.
-fn entry_rule(names: &Names, roots: &IndexSet<u64>, naming: &Naming) -> Option<BtrRule>
+fn entry_rule(names: &NameTable, roots: &IndexSet<u64>, naming: &DirIndex) -> Option<BtrRule>
     ensures { result ≡ entry_rule names.now (contains nat_eq roots.now) naming.now }
 {
     if !is_name(naming.name.bytes()) {
@@ -62,7 +63,7 @@ fn entry_rule(names: &Names, roots: &IndexSet<u64>, naming: &Naming) -> Option<B
 }
 
 /// The same of what an entry names.
-fn target_rule(names: &Names, roots: &IndexSet<u64>, naming: &Naming) -> Option<BtrRule>
+fn target_rule(names: &NameTable, roots: &IndexSet<u64>, naming: &DirIndex) -> Option<BtrRule>
     ensures { result ≡ target_rule names.now (contains nat_eq roots.now) naming.now }
 {
     if names_inode(naming) {
@@ -74,13 +75,13 @@ fn target_rule(names: &Names, roots: &IndexSet<u64>, naming: &Naming) -> Option<
     Some(BtrRule::Body)
 }
 
-fn inode_rule(names: &Names, ino: u64) -> Option<BtrRule>
+fn inode_rule(names: &NameTable, ino: u64) -> Option<BtrRule>
     ensures { result ≡ inode_rule names.now ino }
 {
     if names.found(ino).is_none() {
         return Some(BtrRule::NoInode);
     }
-    if ino == ROOT {
+    if ino == FIRST_FREE_OBJECTID {
         return Some(BtrRule::DirTwice);
     }
     None

@@ -3,17 +3,18 @@ ghost use Rattle.std.specs.List.{All};
 ghost use Rattle.indexmap.specs.IndexSet.{contains};
 ghost use Rattle.fs_paths.specs.Links.{same_node};
 ghost use Rattle.fs_paths.specs.declared.node.NodeId.{NodeId as NodeOf};
-ghost use Rattle.btr_reader_names.specs.declared.naming.OffForm.{OffForm as OffFormOf};
+ghost use Rattle.btr_reader_names.specs.declared.dir_index.OffForm.{OffForm as OffFormOf};
 ghost use Rattle.btr_reader_names.specs.Passes.{BlamesRoot, fits_size, is_good, is_good_item, IsGoodNode, BlamesNode, BlamesForm};
 ghost use Rattle.btr_reader_names.specs.Steps.{is_open};
 ghost use Rattle.btr_reader_names.specs.Table.{is_dir};
 
-use crate::Names;
+use crate::NameTable;
+use crate::dir_index::OffForm;
 use crate::inodes::{InodeFound, kind_of_mode};
-use crate::links::{ROOT, is_open};
-use crate::naming::OffForm;
+use crate::links::is_open;
 use crate::table::kind_found;
 use btr_reader_walk::{BtrRefusal, BtrRule, Inode};
+use btrfs_format::object::FIRST_FREE_OBJECTID;
 use fs_paths::NodeId;
 use fs_rows::Kind;
 use indexmap::IndexSet;
@@ -28,11 +29,11 @@ pub fn bad(address: u64, rule: BtrRule) -> BtrRefusal
 }
 
 /// Whether the root directory is there, and one. `root` is the address of the tree's root node.
-pub fn check_root(names: &Names, root: u64) -> Result<(), BtrRefusal>
-    ensures good { IfOk result (λ _. is_dir names.now 256 ≡ true) }
+pub fn check_root(names: &NameTable, root: u64) -> Result<(), BtrRefusal>
+    ensures good { IfOk result (λ _. is_dir names.now FIRST_FREE_OBJECTID ≡ true) }
     ensures blamed { IfErr result (BlamesRoot names.now root) }
 {
-    let found = match names.found(ROOT) {
+    let found = match names.found(FIRST_FREE_OBJECTID) {
         Some(found) => found,
         None => return Err(bad(root, BtrRule::NoInode)),
     };
@@ -49,7 +50,7 @@ pub fn check_root(names: &Names, root: u64) -> Result<(), BtrRefusal>
 }
 
 /// Whether the item of each named inode is in order.
-pub fn check_inodes(names: &Names, named: &IndexSet<NodeId>) -> Result<(), BtrRefusal>
+pub fn check_inodes(names: &NameTable, named: &IndexSet<NodeId>) -> Result<(), BtrRefusal>
     ensures good { IfOk result (λ _. (node : NodeOf) → Contains named.now.keys node → IsGoodNode names.now node) }
     ensures blamed { IfErr result (λ r. (node : NodeOf) × Contains named.now.keys node × BlamesNode names.now node r) }
 {
@@ -60,7 +61,7 @@ pub fn check_inodes(names: &Names, named: &IndexSet<NodeId>) -> Result<(), BtrRe
 }
 
 /// The same of one inode. One without an item is blamed on the entry that names it.
-fn check_inode(names: &Names, node: NodeId) -> Result<(), BtrRefusal>
+fn check_inode(names: &NameTable, node: NodeId) -> Result<(), BtrRefusal>
     ensures good { IfOk result (λ _. IsGoodNode names.now node) }
     ensures blamed { IfErr result (BlamesNode names.now node) }
 {
@@ -108,7 +109,7 @@ fn fits_size(size: u64, kind: Kind) -> bool
 }
 
 /// Whether each directory index of a named directory is on its grammar.
-pub fn check_forms(names: &Names, named: &IndexSet<NodeId>) -> Result<(), BtrRefusal>
+pub fn check_forms(names: &NameTable, named: &IndexSet<NodeId>) -> Result<(), BtrRefusal>
     ensures good { IfOk result (λ _. (off : OffFormOf) → Contains names.now.off_form.items off → is_open names.now (contains same_node named.now) off.dir ≡ false) }
     ensures blamed { IfErr result (λ r. (off : OffFormOf) × Contains names.now.off_form.items off × BlamesForm (is_open names.now (contains same_node named.now)) off r) }
 {
@@ -118,7 +119,7 @@ pub fn check_forms(names: &Names, named: &IndexSet<NodeId>) -> Result<(), BtrRef
     Ok(())
 }
 
-fn check_form(names: &Names, named: &IndexSet<NodeId>, off: &OffForm) -> Result<(), BtrRefusal>
+fn check_form(names: &NameTable, named: &IndexSet<NodeId>, off: &OffForm) -> Result<(), BtrRefusal>
     ensures good { IfOk result (λ _. is_open names.now (contains same_node named.now) off.now.dir ≡ false) }
     ensures blamed { IfErr result (BlamesForm (is_open names.now (contains same_node named.now)) off.now) }
 {

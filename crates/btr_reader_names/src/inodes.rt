@@ -3,6 +3,7 @@ ghost use Rattle.btr_reader_names.specs.Inodes.{kind_of_mode};
 
 use btr_reader_walk::Inode;
 use fs_rows::Kind;
+use vol_block::{DT_BLK, DT_CHR, DT_DIR, DT_FIFO, DT_LNK, DT_REG, DT_SOCK};
 
 /// An inode item: the leaf that it stands in, and the inode; None where its body is off the grammar.
 #[derive(Clone, Copy, Debug)]
@@ -16,13 +17,13 @@ pub fn kind_of_mode(mode: u32) -> Option<Kind>
     ensures { result ≡ kind_of_mode mode }
 {
     match mode / 4096 % 16 {
-        4 => Some(Kind::Directory),
-        8 => Some(Kind::File),
-        10 => Some(Kind::Symlink),
-        2 => Some(Kind::Character),
-        6 => Some(Kind::Block),
-        1 => Some(Kind::Fifo),
-        12 => Some(Kind::Socket),
+        DT_DIR => Some(Kind::Directory),
+        DT_REG => Some(Kind::File),
+        DT_LNK => Some(Kind::Symlink),
+        DT_CHR => Some(Kind::Character),
+        DT_BLK => Some(Kind::Block),
+        DT_FIFO => Some(Kind::Fifo),
+        DT_SOCK => Some(Kind::Socket),
         _ => None,
     }
 }

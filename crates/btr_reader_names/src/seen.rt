@@ -2,14 +2,14 @@ ghost use Rattle.std.specs.Prelude.{◌≡◌, ◌||◌, ◌++◌, ◌∷◌, []
 ghost use Rattle.std.specs.Result.{MatchResult};
 ghost use Rattle.indexmap.specs.IndexSet.{contains};
 ghost use Rattle.fs_paths.specs.Links.{same_node};
-ghost use Rattle.btr_reader_names.specs.declared.naming.Naming.{Naming as NamingOf};
+ghost use Rattle.btr_reader_names.specs.declared.dir_index.DirIndex.{DirIndex as DirIndexOf};
 ghost use Rattle.btr_reader_names.specs.declared.seen.NameIn.{NameIn as NameInOf};
 ghost use Rattle.btr_reader_names.specs.Passes.{same_name, DifferInName, HasSeen, IsTwice, BlamesTwice, leads_down, LeadApart, HasDirectories, BlamesAgain};
 ghost use Rattle.btr_reader_names.specs.Steps.{is_open};
 
 use crate::inode_rules::bad;
 use crate::links::{is_link, is_open, names_inode};
-use crate::{Names, Naming};
+use crate::{DirIndex, NameTable};
 use btr_reader_walk::{BtrAnswer, BtrRule, Memory};
 use fs_paths::NodeId;
 use indexmap::IndexSet;
@@ -23,7 +23,11 @@ pub struct NameIn {
 }
 
 /// Whether no named directory has one name twice.
-pub fn check_once(alloc: Global, names: &Names, named: &IndexSet<NodeId>) -> Result<(), BtrAnswer>
+pub fn check_once(
+    alloc: Global,
+    names: &NameTable,
+    named: &IndexSet<NodeId>,
+) -> Result<(), BtrAnswer>
     ensures once { OnOk result (AllPairs (DifferInName (is_open names.now (contains same_node named.now))) names.now.namings.items) }
     ensures twice { IfErr result (BlamesTwice (is_open names.now (contains same_node named.now)) names.now.namings.items) }
 {
@@ -38,11 +42,11 @@ pub fn check_once(alloc: Global, names: &Names, named: &IndexSet<NodeId>) -> Res
 fn see_open(
     seen: &mut IndexSet<NameIn>,
     alloc: Global,
-    names: &Names,
+    names: &NameTable,
     named: &IndexSet<NodeId>,
-    naming: &Naming,
+    naming: &DirIndex,
 ) -> Result<(), BtrAnswer>
-    ensures { (before : List NamingOf) → HasSeen (is_open names.now (contains same_node named.now)) seen.old before
+    ensures { (before : List DirIndexOf) → HasSeen (is_open names.now (contains same_node named.now)) seen.old before
         → MatchResult result (λ _. HasSeen (is_open names.now (contains same_node named.now)) seen.new (before ++ naming.now ∷ [])) (BlamesTwice (is_open names.now (contains same_node named.now)) (before ++ naming.now ∷ [])) }
 {
     if is_open(names, named, naming.dir) {
@@ -56,10 +60,10 @@ fn see_open(
 pub fn see_name(
     seen: &mut IndexSet<NameIn>,
     alloc: Global,
-    naming: &Naming,
+    naming: &DirIndex,
 ) -> Result<(), BtrAnswer>
     ensures answer { IfErr result (IsTwice naming.now) }
-    ensures seen { (opened : ℕ → Bool) (before : List NamingOf) → opened naming.now.dir ≡ true → HasSeen opened seen.old before
+    ensures seen { (opened : ℕ → Bool) (before : List DirIndexOf) → opened naming.now.dir ≡ true → HasSeen opened seen.old before
         → MatchResult result (λ _. HasSeen opened seen.new (before ++ naming.now ∷ [])) (BlamesTwice opened (before ++ naming.now ∷ [])) }
 {
     let name = name_in(alloc, naming)?;
@@ -71,7 +75,7 @@ pub fn see_name(
 }
 
 /// The name of an entry with its directory.
-fn name_in(alloc: Global, naming: &Naming) -> Result<NameIn, Memory>
+fn name_in(alloc: Global, naming: &DirIndex) -> Result<NameIn, Memory>
     ensures dir { IfOk result (λ name. name.dir ≡ naming.now.dir) }
     ensures name { IfOk result (λ name. name.name.items ≡ naming.now.name) }
 {
@@ -93,7 +97,7 @@ fn add_name(names: &mut IndexSet<NameIn>, name: NameIn) -> Result<bool, Memory>
 /// Whether no directory is named twice.
 pub fn check_directories(
     alloc: Global,
-    names: &Names,
+    names: &NameTable,
     named: &IndexSet<NodeId>,
 ) -> Result<(), BtrAnswer>
     ensures apart { OnOk result (AllPairs (LeadApart names.now (contains same_node named.now)) names.now.namings.items) }
@@ -109,11 +113,11 @@ pub fn check_directories(
 /// Adds the directory that an entry leads to, if it was not seen yet.
 fn see_target(
     seen: &mut IndexSet<u64>,
-    names: &Names,
+    names: &NameTable,
     named: &IndexSet<NodeId>,
-    naming: &Naming,
+    naming: &DirIndex,
 ) -> Result<(), BtrAnswer>
-    ensures { (before : List NamingOf) → HasDirectories names.now (contains same_node named.now) seen.old before
+    ensures { (before : List DirIndexOf) → HasDirectories names.now (contains same_node named.now) seen.old before
         → MatchResult result (λ _. HasDirectories names.now (contains same_node named.now) seen.new (before ++ naming.now ∷ [])) (BlamesAgain names.now (contains same_node named.now) (before ++ naming.now ∷ [])) }
 {
     if !leads_down(names, named, naming) {
@@ -127,7 +131,7 @@ fn see_target(
 }
 
 /// Whether an entry of a named directory leads to a directory.
-fn leads_down(names: &Names, named: &IndexSet<NodeId>, naming: &Naming) -> bool
+fn leads_down(names: &NameTable, named: &IndexSet<NodeId>, naming: &DirIndex) -> bool
     ensures { result ≡ leads_down names.now (contains same_node named.now) naming.now }
 {
     is_link(names, named, naming)

@@ -4,36 +4,31 @@ ghost use Rattle.btr_reader_walk.specs.btr_keys.DirEntry.{dir_entry_value};
 ghost use Rattle.btr_reader_walk.specs.Events.{TreeItem};
 ghost use Rattle.btr_reader_names.specs.Inodes.{inode_on};
 ghost use Rattle.btr_reader_names.specs.Links.{naming_of, own_naming};
-ghost use Rattle.btr_reader_names.specs.Table.{AreNoted, HasNoted, own_off_form, told, kind_told, kind_found, is_dir};
+ghost use Rattle.btr_reader_names.specs.Table.{AreNoted, HasNotedNames, own_off_form, told, kind_told, kind_found, is_dir};
 
+use crate::dir_index::{DirIndex, OffForm};
 use crate::entry::index_entry;
 use crate::inodes::{InodeFound, kind_of_mode};
-use crate::naming::{Naming, OffForm};
 use btr_reader_walk::{DirEntry, Inode, Key, Memory, Notes};
+use btrfs_format::key::{DIR_INDEX, INODE_ITEM};
 use fs_rows::{Kind, Name};
 use indexmap::IndexMap;
 use std::alloc::Global;
 
-/// The kind in the key of an inode item.
-const INODE_KIND: u8 = 1;
-
-/// The kind in the key of a directory index.
-const INDEX_KIND: u8 = 96;
-
 /// The inodes of a file tree, and the entries of its directories.
 #[derive(Drop)]
-pub struct Names {
+pub struct NameTable {
     inodes: IndexMap<u64, InodeFound>,
-    pub namings: Vec<Naming>,
+    pub namings: Vec<DirIndex>,
     pub off_form: Vec<OffForm>,
 }
 
-impl Names {
+impl NameTable {
     /// No names.
-    pub fn new(alloc: Global) -> Names
-        ensures { HasNoted result [] }
+    pub fn new(alloc: Global) -> NameTable
+        ensures { HasNotedNames result [] }
     {
-        Names {
+        NameTable {
             inodes: IndexMap::new(alloc),
             namings: Vec::new(alloc),
             off_form: Vec::new(alloc),
@@ -49,7 +44,7 @@ impl Names {
 
     /// The inode with this number, where its item is there and on the grammar.
     pub fn inode(&self, ino: u64) -> Option<Inode>
-        ensures { (items : List TreeItem) → HasNoted self.now items → result ≡ inode_on items ino }
+        ensures { (items : List TreeItem) → HasNotedNames self.now items → result ≡ inode_on items ino }
     {
         match self.found(ino) {
             Some(found) => found.inode,
@@ -77,10 +72,10 @@ impl Names {
     }
 }
 
-impl Notes for Names {
-    ghost use Rattle.btr_reader_names.specs.Table.{HasNoted};
+impl Notes for NameTable {
+    ghost use Rattle.btr_reader_names.specs.Table.{HasNotedNames};
 
-    ghost holds = { λ begun names items. HasNoted names items };
+    ghost holds = { λ begun names items. HasNotedNames names items };
 
     /// Notes one more item of the tree. Items of other kinds are passed over.
     fn note(&mut self, alloc: Global, key: &Key, body: &[u8], leaf: u64) -> Result<(), Memory> {
@@ -117,7 +112,7 @@ fn note_inode(
     ensures { (items : List TreeItem) (i : TreeItem) → i.key ≡ key.now → i.body ≡ body.now → i.leaf ≡ leaf → AreNoted (λ ino. get nat_eq inodes.old ino) items
         → OnOk result (AreNoted (λ ino. get nat_eq inodes.new ino) (items ++ i ∷ [])) }
 {
-    if key.kind != INODE_KIND {
+    if key.kind != INODE_ITEM {
         return Ok(());
     }
     if key.offset != 0 {
@@ -146,7 +141,7 @@ fn note_first(
 
 /// Notes an item, if it is a directory index.
 fn note_index(
-    namings: &mut Vec<Naming>,
+    namings: &mut Vec<DirIndex>,
     off_form: &mut Vec<OffForm>,
     alloc: Global,
     key: &Key,
@@ -156,7 +151,7 @@ fn note_index(
     ensures namings { (i : TreeItem) → i.key ≡ key.now → i.body ≡ body.now → i.leaf ≡ leaf → OnOk result (namings.new.items ≡ namings.old.items ++ own_naming i) }
     ensures off_form { (i : TreeItem) → i.key ≡ key.now → i.body ≡ body.now → i.leaf ≡ leaf → OnOk result (off_form.new.items ≡ off_form.old.items ++ own_off_form i) }
 {
-    if key.kind != INDEX_KIND {
+    if key.kind != DIR_INDEX {
         return Ok(());
     }
     match index_entry(body) {
@@ -173,7 +168,7 @@ fn note_index(
 
 /// Notes an entry of a directory.
 fn note_entry(
-    namings: &mut Vec<Naming>,
+    namings: &mut Vec<DirIndex>,
     alloc: Global,
     key: &Key,
     entry: &DirEntry<'_>,
@@ -192,10 +187,10 @@ pub fn naming_of(
     key: &Key,
     entry: &DirEntry<'_>,
     leaf: u64,
-) -> Result<Naming, Memory>
+) -> Result<DirIndex, Memory>
     ensures { (i : TreeItem) → i.key ≡ key.now → i.leaf ≡ leaf → IfOk result (λ n. n ≡ naming_of i (dir_entry_value entry.now)) }
 {
-    Ok(Naming {
+    Ok(DirIndex {
         leaf,
         dir: key.objectid,
         index: key.offset,

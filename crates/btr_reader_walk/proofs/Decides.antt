@@ -1,20 +1,5 @@
 -- The bytes of the nodes that are met decide what is met.
-use Rattle.std.proofs.Common.{◌≡◌, ℕ, zero, suc, Bool, List, [], ◌∷◌, ◌++◌, if◌then◌else◌, refl, ◌∙◌, ap, subst}
-use Rattle.std.specs.List.{All, flat_map}
-use Rattle.std.proofs.lemmas.List.Elements.{All-nil, All-cons, All-head, All-tail}
-use Rattle.btr_node.specs.outside.History.{Image}
-use Rattle.btr_node.specs.refusals.declared.rule.BtrRule.{BtrRule}
-use Rattle.btr_node.specs.refusals.declared.rule.BtrRule.TheVariants.{Unmapped}
-use Rattle.btr_node.specs.Leaf.{items_in}
-use Rattle.btr_node.specs.Inner.{children_in}
-use Rattle.btr_node.specs.declared.child.Child.{Child}
-use Rattle.btr_reader_walk.specs.declared.tree.Form.{Form}
-use Rattle.btr_reader_walk.specs.declared.tree.Pointer.{Pointer}
-use Rattle.btr_reader_walk.specs.declared.map.MapRange.{MapRange}
-use Rattle.btr_reader_walk.specs.Map.{is_mapped, node_at}
-use Rattle.btr_reader_walk.specs.Node.{want, content_damages, node_damages}
-use Rattle.btr_reader_walk.specs.Events.{Event, node, leaf_events, unless_damaged, node_events, nodes_in}
-use Rattle.btr_reader_walk.specs.Laws.{NodesDecide}
+use Rattle.btr_reader_walk.proofs.Imports.{◌≡◌, ℕ, zero, suc, Bool, List, [], ◌∷◌, ◌++◌, if◌then◌else◌, refl, ◌∙◌, ap, subst, All, flat_map, All-nil, All-cons, All-head, All-tail, Image, BtrRule, Unmapped, items_in, children_in, Child, Form, NodePointer, MapRange, is_mapped, node_at, want, content_damages, node_damages, TreeEvent, node, leaf_events, unless_damaged, node_events, nodes_in, NodesDecide}
 use Rattle.btr_reader_walk.proofs.Events.{nodes_in-append}
 use Rattle.btr_reader_walk.proofs.Subtrees.{to}
 
@@ -26,7 +11,7 @@ all_second : {X : Type 0} (P : X → Type 0) (xs ys : List X) → All P (xs ++ y
 all_second P [] ys all = all
 all_second P (x ∷ xs) ys all = all_second P xs ys (All-tail P x (xs ++ ys) all)
 
-children_same : (P : Pointer → Type 0) (f g : Child → List Event) → ((c : Child) → All P (nodes_in (f c)) → g c ≡ f c) → (children : List Child)
+children_same : (P : NodePointer → Type 0) (f g : Child → List TreeEvent) → ((c : Child) → All P (nodes_in (f c)) → g c ≡ f c) → (children : List Child)
     → All P (nodes_in (flat_map f children)) → flat_map g children ≡ flat_map f children
 children_same P f g each [] all = refl
 children_same P f g each (c ∷ cs) all =
@@ -34,16 +19,16 @@ children_same P f g each (c ∷ cs) all =
     ap (λ z. z ++ flat_map g cs) (each c (all_first P (nodes_in (f c)) (nodes_in (flat_map f cs)) parts))
     ∙ ap (λ z. f c ++ z) (children_same P f g each cs (all_second P (nodes_in (f c)) (nodes_in (flat_map f cs)) parts))
 
-unless_same : (P : Pointer → Type 0) (d : List BtrRule) (xs ys : List Event) → (All P (nodes_in xs) → ys ≡ xs) → All P (nodes_in (unless_damaged d xs))
+unless_same : (P : NodePointer → Type 0) (d : List BtrRule) (xs ys : List TreeEvent) → (All P (nodes_in xs) → ys ≡ xs) → All P (nodes_in (unless_damaged d xs))
     → unless_damaged d ys ≡ unless_damaged d xs
 unless_same P [] xs ys same all = same all
 unless_same P (rule ∷ rules) xs ys same all = refl
 
 -- what a node breaks, by its bytes
-abbrev breaks : List MapRange → Form → ℕ → Bool → Pointer → List ℕ → List BtrRule
+abbrev breaks : List MapRange → Form → ℕ → Bool → NodePointer → List ℕ → List BtrRule
 breaks ranges form owner bare p bytes = if is_mapped ranges form.nodesize p.address then content_damages (want form owner p) bare bytes else Unmapped ∷ []
 
-same_damages : (image other : Image) (ranges : List MapRange) (form : Form) (owner : ℕ) (bare : Bool) (p : Pointer)
+same_damages : (image other : Image) (ranges : List MapRange) (form : Form) (owner : ℕ) (bare : Bool) (p : NodePointer)
     → node_at other ranges form.nodesize p.address ≡ node_at image ranges form.nodesize p.address
     → node_damages other ranges form owner bare p ≡ node_damages image ranges form owner bare p
 unfolding node_damages
@@ -54,20 +39,20 @@ same_events : (image other : Image) (ranges : List MapRange) (form : Form) (owne
     → node_events other ranges form owner bare level a g ≡ node_events image ranges form owner bare level a g
 unfolding node_events
 same_events image other ranges form owner bare zero a g all =
-    let P : Pointer → Type 0 = λ q. node_at other ranges form.nodesize q.address ≡ node_at image ranges form.nodesize q.address in
+    let P : NodePointer → Type 0 = λ q. node_at other ranges form.nodesize q.address ≡ node_at image ranges form.nodesize q.address in
     let here = All-head P (to a zero g) _ all in
     ap (λ (d : List BtrRule). node (to a zero g) ∷ unless_damaged d (leaf_events a (items_in (node_at other ranges form.nodesize a)))) (same_damages image other ranges form owner bare (to a zero g) here)
     ∙ ap (λ (bytes : List ℕ). node (to a zero g) ∷ unless_damaged (node_damages image ranges form owner bare (to a zero g)) (leaf_events a (items_in bytes))) here
 same_events image other ranges form owner bare (suc level) a g all =
-    let P : Pointer → Type 0 = λ q. node_at other ranges form.nodesize q.address ≡ node_at image ranges form.nodesize q.address in
-    let p : Pointer = to a (suc level) g in
-    let old : Child → List Event = λ c. node_events image ranges form owner bare level c.address c.generation in
-    let new : Child → List Event = λ c. node_events other ranges form owner bare level c.address c.generation in
+    let P : NodePointer → Type 0 = λ q. node_at other ranges form.nodesize q.address ≡ node_at image ranges form.nodesize q.address in
+    let p : NodePointer = to a (suc level) g in
+    let old : Child → List TreeEvent = λ c. node_events image ranges form owner bare level c.address c.generation in
+    let new : Child → List TreeEvent = λ c. node_events other ranges form owner bare level c.address c.generation in
     let here = All-head P p _ all in
     let children : List Child = children_in (node_at image ranges form.nodesize a) in
     ap (λ (d : List BtrRule). node p ∷ unless_damaged d (flat_map new (children_in (node_at other ranges form.nodesize a)))) (same_damages image other ranges form owner bare p here)
     ∙ (ap (λ (bytes : List ℕ). node p ∷ unless_damaged (node_damages image ranges form owner bare p) (flat_map new (children_in bytes))) here
-    ∙ ap (λ (z : List Event). node p ∷ z)
+    ∙ ap (λ (z : List TreeEvent). node p ∷ z)
     (unless_same P (node_damages image ranges form owner bare p) (flat_map old children) (flat_map new children)
     (children_same P old new (λ c. same_events image other ranges form owner bare level c.address c.generation) children)
     (All-tail P p _ all)))

@@ -1,25 +1,13 @@
 -- Events in parts.
-use Rattle.std.proofs.Common.{◌≡◌, ℕ, Bool, List, [], ◌∷◌, ◌++◌, map, Option, Some, if◌then◌else◌, refl, sym, ◌∙◌, ap, append_assoc}
-use Rattle.std.specs.List.{flat_map}
+use Rattle.btr_reader_walk.proofs.Imports.{◌≡◌, ℕ, Bool, List, [], ◌∷◌, ◌++◌, map, Option, Some, if◌then◌else◌, refl, sym, ◌∙◌, ap, append_assoc, flat_map, Image, BtrRefusal, KeyOrder, Key, Item, Form, NodePointer, MapRange, TreeItem, TreeEvent, node, item, leaf_events, nodes_in, items_in_events, last_after, bare_item, node_faults, pointer_damages, at_address, is_above, order_damages}
 use Rattle.std.proofs.lemmas.List.Concat.{flat_map-append}
-use Rattle.btr_node.specs.outside.History.{Image}
-use Rattle.btr_node.specs.refusals.declared.refusal.BtrRefusal.{BtrRefusal}
-use Rattle.btr_node.specs.refusals.declared.rule.BtrRule.TheVariants.{KeyOrder}
-use Rattle.btr_node.specs.btr_keys.declared.key.Key.{Key}
-use Rattle.btr_node.specs.Leaf.{Item}
-use Rattle.btr_reader_walk.specs.declared.tree.Form.{Form}
-use Rattle.btr_reader_walk.specs.declared.tree.Pointer.{Pointer}
-use Rattle.btr_reader_walk.specs.declared.map.MapRange.{MapRange}
-use Rattle.btr_reader_walk.specs.Events.{TreeItem, Event, node, item, leaf_events, nodes_in, items_in_events}
-use Rattle.btr_reader_walk.specs.Walks.{last_after}
-use Rattle.btr_reader_walk.specs.Tree.{bare_item, node_faults, pointer_damages, at_address, is_above, order_damages}
 
-pub nodes_in-append : (xs ys : List Event) → nodes_in (xs ++ ys) ≡ nodes_in xs ++ nodes_in ys
+pub nodes_in-append : (xs ys : List TreeEvent) → nodes_in (xs ++ ys) ≡ nodes_in xs ++ nodes_in ys
 nodes_in-append [] ys = refl
-nodes_in-append (node p ∷ xs) ys = ap (λ (z : List Pointer). p ∷ z) (nodes_in-append xs ys)
+nodes_in-append (node p ∷ xs) ys = ap (λ (z : List NodePointer). p ∷ z) (nodes_in-append xs ys)
 nodes_in-append (item i ∷ xs) ys = nodes_in-append xs ys
 
-pub items_in-append : (xs ys : List Event) → items_in_events (xs ++ ys) ≡ items_in_events xs ++ items_in_events ys
+pub items_in-append : (xs ys : List TreeEvent) → items_in_events (xs ++ ys) ≡ items_in_events xs ++ items_in_events ys
 items_in-append [] ys = refl
 items_in-append (node p ∷ xs) ys = items_in-append xs ys
 items_in-append (item i ∷ xs) ys = ap (λ (z : List TreeItem). i ∷ z) (items_in-append xs ys)
@@ -37,7 +25,7 @@ leaf_own address (i ∷ items) = ap (λ (z : List Item). i ∷ z) (leaf_own addr
 pub none_both : {A : Type 0} (xs ys : List A) → xs ≡ [] → ys ≡ [] → xs ++ ys ≡ []
 none_both xs ys a b = ap (λ z. z ++ ys) a ∙ b
 
-pub node_faults-append : (image : Image) (ranges : List MapRange) (form : Form) (owner : ℕ) (bare : Bool) (xs ys : List Event)
+pub node_faults-append : (image : Image) (ranges : List MapRange) (form : Form) (owner : ℕ) (bare : Bool) (xs ys : List TreeEvent)
     → node_faults image ranges form owner bare (xs ++ ys) ≡ node_faults image ranges form owner bare xs ++ node_faults image ranges form owner bare ys
 node_faults-append image ranges form owner bare xs ys =
     ap (flat_map (pointer_damages image ranges form owner bare)) (nodes_in-append xs ys)

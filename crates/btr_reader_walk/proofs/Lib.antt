@@ -3,6 +3,7 @@ pub use Rattle.btr_node.proofs as btr_node
 pub mod Contents
 pub mod Decides
 pub mod Events
+pub mod Imports
 pub mod Mapping
 pub mod Opening
 pub mod Stacks

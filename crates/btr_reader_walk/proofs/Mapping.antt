@@ -1,12 +1,5 @@
 -- Addresses and the blocks that hold them.
-use Rattle.std.proofs.Common.{◌≡◌, ℕ, zero, suc, ◌+◌, ◌-◌, ◌*◌, ◌/◌, ◌%◌, eqb, ◌≤◌, ◌<◌, Bool, true, false, ◌&&◌, List, [], ◌∷◌, ◌++◌, length, drop, take, get_or, Option, Some, not, if◌then◌else◌, is_some, refl, sym, ◌∙◌, ap, subst, arith, append_assoc}
-use Rattle.std.proofs.lemmas.List.{append-nil, drop_more, take_all}
-use Rattle.std.proofs.lemmas.List.Elements.{All-head, All-tail}
-use Rattle.std.proofs.lemmas.Bool.Decides.{nat_tests}
-use Rattle.btr_node.specs.outside.History.{Image}
-use Rattle.btr_reader_walk.specs.declared.map.MapRange.{MapRange}
-use Rattle.btr_reader_walk.specs.Map.{holds, place, are_mapped, is_mapped, block_of_place, blocks_at}
-use Rattle.btr_reader_walk.specs.Walks.{LieOn}
+use Rattle.btr_reader_walk.proofs.Imports.{◌≡◌, ℕ, zero, suc, ◌+◌, ◌-◌, ◌*◌, ◌/◌, ◌%◌, eqb, ◌≤◌, ◌<◌, Bool, true, false, ◌&&◌, List, [], ◌∷◌, ◌++◌, length, drop, take, get_or, Option, Some, not, if◌then◌else◌, is_some, refl, sym, ◌∙◌, ap, subst, arith, append_assoc, append-nil, drop_more, take_all, All-head, All-tail, nat_tests, Image, MapRange, holds, place, are_mapped, is_mapped, block_of_place, blocks_at, LieOn}
 
 pub holds_bounds : (r : MapRange) (a : ℕ) → holds r a ≡ true → (r.logical ≤ a) × (a < r.logical + r.length)
 holds_bounds r a h = (grind (arith, nat_tests, h), grind (arith, nat_tests, h))

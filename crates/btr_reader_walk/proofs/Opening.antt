@@ -1,28 +1,11 @@
 -- A node that was read into the buffer.
-use Rattle.std.proofs.Common.{◌≡◌, ℕ, zero, suc, ◌+◌, ◌-◌, ◌*◌, ◌≤◌, ◌<◌, Bool, true, List, ◌++◌, length, Result, Ok, Err, OnOk, OnErr, Contains, sym, ◌∙◌, ap, subst, arith}
-use Rattle.btr_node.specs.outside.History.{Image}
-use Rattle.btr_node.specs.refusals.declared.answer.BtrAnswer.{BtrAnswer}
-use Rattle.btr_node.specs.refusals.declared.answer.BtrAnswer.TheVariants.{Refused, Fault, Memory}
-use Rattle.btr_node.specs.refusals.declared.rule.BtrRule.TheVariants.{Unmapped}
-use Rattle.btr_node.specs.refusals.declared.refusal.BtrRefusal.TheVariants.{BadBtrfs}
-use Rattle.btr_node.specs.refusals.declared.rule.BtrRule.{BtrRule}
-use Rattle.btr_node.specs.Leaf.{HasLeafLayout, items_in}
-use Rattle.btr_node.specs.declared.child.Child.{Child}
-use Rattle.btr_node.specs.declared.expect.Expect.{Expect}
-use Rattle.btr_reader_walk.specs.declared.map.MapRange.{MapRange}
-use Rattle.btr_reader_walk.specs.declared.tree.Pointer.{Pointer}
-use Rattle.btr_reader_walk.specs.declared.walker.TreeWalker.{TreeWalker}
-use Rattle.btr_reader_walk.specs.Map.{is_mapped, node_at}
-use Rattle.btr_reader_walk.specs.Node.{want, content_damages}
-use Rattle.btr_reader_walk.specs.Events.{TreeItem, may_be_bare}
-use Rattle.btr_reader_walk.specs.Stack.{is_stack, stack_weight, weight}
-use Rattle.btr_reader_walk.specs.Walks.{IsAt, IsReadFault, Blames, wrong}
+use Rattle.btr_reader_walk.proofs.Imports.{◌≡◌, ℕ, zero, suc, ◌+◌, ◌-◌, ◌*◌, ◌≤◌, ◌<◌, Bool, true, List, ◌++◌, length, Result, Ok, Err, OnOk, OnErr, Contains, sym, ◌∙◌, ap, subst, arith, Image, BtrAnswer, Refused, Fault, Memory, Unmapped, BadBtrfs, BtrRule, HasLeafLayout, items_in, Child, Expect, MapRange, NodePointer, TreeWalker, is_mapped, node_at, want, content_damages, TreeItem, may_be_bare, is_stack, stack_weight, weight, IsAt, IsReadFault, Blames, wrong}
 use Rattle.btr_reader_walk.proofs.Contents.{count_items}
 use Rattle.btr_reader_walk.proofs.Stacks.{turned, stack_with_children, weight_children, children_lighter}
 use Rattle.btr_reader_walk.proofs.Walking.{breaks, mapped_breaks, unmapped_breaks, node_blamed}
 
 -- what the bytes that were looked at break is what the node breaks
-pub seen_breaks : (w : TreeWalker) (image : Image) (ranges : List MapRange) (p : Pointer) (wanted : Expect) (bare : Bool) (bytes : List ℕ)
+pub seen_breaks : (w : TreeWalker) (image : Image) (ranges : List MapRange) (p : NodePointer) (wanted : Expect) (bare : Bool) (bytes : List ℕ)
     → wanted ≡ want w.tree.form w.tree.owner p → bare ≡ may_be_bare w.tree.root → bytes ≡ w.bytes.items
     → is_mapped ranges w.tree.form.nodesize p.address ≡ true → w.bytes.items ≡ node_at image ranges w.tree.form.nodesize p.address
     → content_damages wanted bare bytes ≡ breaks image ranges w.tree p
@@ -33,7 +16,7 @@ seen_breaks w image ranges p wanted bare bytes wants bares same mapped is =
     ∙ mapped_breaks image ranges w.tree p w.bytes.items mapped is))
 
 -- a rule that they break is among what is wrong
-pub seen_blamed : (w : TreeWalker) (image : Image) (ranges : List MapRange) (given : List TreeItem) (p : Pointer) (wanted : Expect) (bare : Bool) (bytes : List ℕ) (rule : BtrRule)
+pub seen_blamed : (w : TreeWalker) (image : Image) (ranges : List MapRange) (given : List TreeItem) (p : NodePointer) (wanted : Expect) (bare : Bool) (bytes : List ℕ) (rule : BtrRule)
     → IsAt p w image ranges given
     → wanted ≡ want w.tree.form w.tree.owner p → bare ≡ may_be_bare w.tree.root → bytes ≡ w.bytes.items
     → is_mapped ranges w.tree.form.nodesize p.address ≡ true → w.bytes.items ≡ node_at image ranges w.tree.form.nodesize p.address
@@ -52,7 +35,7 @@ leaf_lighter n zero left leaf few = omega (arith, few)
 leaf_lighter n (suc level) left leaf few = absurd (omega arith)
 
 -- the stack stays in its bounds, whether the children were put on or not
-pub stack_after : {T : Type 0} (limit fan level : ℕ) (old new : List Pointer) (cs : List Child) (result : Result T BtrRule) → is_stack limit fan 0 old ≡ true → 1 ≤ level → length old + level * fan ≤ limit
+pub stack_after : {T : Type 0} (limit fan level : ℕ) (old new : List NodePointer) (cs : List Child) (result : Result T BtrRule) → is_stack limit fan 0 old ≡ true → 1 ≤ level → length old + level * fan ≤ limit
     → OnOk result (new ≡ old ++ turned (level - 1) cs) → OnOk result (length cs ≤ fan) → OnErr result (new ≡ old) → is_stack limit fan 0 new ≡ true
 stack_after limit fan level old new cs (Err e) stack inner room pushed few unchanged = ap (is_stack limit fan 0) unchanged ∙ stack
 stack_after limit fan zero old new cs (Ok x) stack inner room pushed few unchanged = absurd (omega arith)
@@ -61,7 +44,7 @@ stack_after limit fan (suc level) old new cs (Ok x) stack inner room pushed few 
     ap (is_stack limit fan 0) (pushed ∙ ap (λ (l : ℕ). old ++ turned l cs) e) ∙ stack_with_children limit fan level old cs stack room few
 
 -- the children weigh less than the node
-pub inner_lighter : (n level : ℕ) (old new : List Pointer) (cs : List Child) → 1 ≤ level → new ≡ old ++ turned (level - 1) cs → length cs ≤ n → stack_weight n new < weight n level + stack_weight n old
+pub inner_lighter : (n level : ℕ) (old new : List NodePointer) (cs : List Child) → 1 ≤ level → new ≡ old ++ turned (level - 1) cs → length cs ≤ n → stack_weight n new < weight n level + stack_weight n old
 inner_lighter n zero old new cs inner pushed few = absurd (omega arith)
 inner_lighter n (suc level) old new cs inner pushed few =
     let e : suc level - 1 ≡ level = omega arith in
@@ -69,7 +52,7 @@ inner_lighter n (suc level) old new cs inner pushed few =
     omega (arith, ap (stack_weight n) is, weight_children n old level cs, children_lighter n (length cs) level few)
 
 -- the buffer is no part of where a walker is
-pub rebuffered : (w v : TreeWalker) (image : Image) (ranges : List MapRange) (given : List TreeItem) (p : Pointer) → IsAt p w image ranges given
+pub rebuffered : (w v : TreeWalker) (image : Image) (ranges : List MapRange) (given : List TreeItem) (p : NodePointer) → IsAt p w image ranges given
     → v.tree ≡ w.tree → v.pending ≡ w.pending → v.last ≡ w.last → IsAt p v image ranges given
 rebuffered w v image ranges given p k tree pending last = record {
   done = k.done;
@@ -81,7 +64,7 @@ rebuffered w v image ranges given p k tree pending last = record {
 }
 
 -- a node that does not lie in the map is among what is wrong
-pub read_blamed : (w : TreeWalker) (image : Image) (ranges : List MapRange) (given : List TreeItem) (p : Pointer) (size : ℕ) (e : BtrAnswer) → IsAt p w image ranges given
+pub read_blamed : (w : TreeWalker) (image : Image) (ranges : List MapRange) (given : List TreeItem) (p : NodePointer) (size : ℕ) (e : BtrAnswer) → IsAt p w image ranges given
     → size ≡ w.tree.form.nodesize → IsReadFault ranges size p.address e → Blames (wrong image ranges w.tree) e
 read_blamed w image ranges given p size (Refused r) k same (is, off) =
     subst (λ q. Contains (wrong image ranges w.tree) q) (sym is)

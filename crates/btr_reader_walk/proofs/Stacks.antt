@@ -1,57 +1,48 @@
 -- A stack of pointers as its top goes and as a node's children come.
-use Rattle.std.proofs.Common.{◌≡◌, ℕ, zero, suc, ◌+◌, ◌*◌, ◌≤◌, ◌<◌, eqb, nat_le, Bool, true, false, ◌||◌, List, [], ◌∷◌, ◌++◌, length, map, reverse, refl, sym, ◌∙◌, ap, arith, append_assoc, inl, inr}
-use Rattle.std.specs.List.{flat_map}
-use Rattle.std.proofs.lemmas.List.{append-nil, reverse-append}
+use Rattle.btr_reader_walk.proofs.Imports.{◌≡◌, ℕ, zero, suc, ◌+◌, ◌*◌, ◌≤◌, ◌<◌, eqb, nat_le, Bool, true, false, ◌||◌, List, [], ◌∷◌, ◌++◌, length, map, reverse, refl, sym, ◌∙◌, ap, arith, append_assoc, inl, inr, flat_map, append-nil, reverse-append, nat_tests, Child, both, joined, NodePointer, child_pointer, TreeEvent, stack_events, is_stack, is_node_size, weight, stack_weight}
 use Rattle.std.proofs.lemmas.Nat.{mul-le}
 use Rattle.std.proofs.Math.Nat.{suc-mul}
-use Rattle.std.proofs.lemmas.Bool.Decides.{nat_tests}
 use Rattle.btr_node.specs.NodeSize.{IsNodeSize}
-use Rattle.btr_node.specs.declared.child.Child.{Child}
-use Rattle.btr_node.proofs.Rows.{both, joined}
-use Rattle.btr_reader_walk.specs.declared.tree.Pointer.{Pointer}
-use Rattle.btr_reader_walk.specs.Node.{child_pointer}
-use Rattle.btr_reader_walk.specs.Events.{Event}
-use Rattle.btr_reader_walk.specs.Stack.{stack_events, is_stack, is_node_size, weight, stack_weight}
 
-pub stack_push : (f : Pointer → List Event) (ps : List Pointer) (p : Pointer) → stack_events f (ps ++ p ∷ []) ≡ f p ++ stack_events f ps
+pub stack_push : (f : NodePointer → List TreeEvent) (ps : List NodePointer) (p : NodePointer) → stack_events f (ps ++ p ∷ []) ≡ f p ++ stack_events f ps
 stack_push f [] p = sym (append-nil (f p))
-stack_push f (q ∷ ps) p = ap (λ (z : List Event). z ++ f q) (stack_push f ps p) ∙ append_assoc (f p) (stack_events f ps) (f q)
+stack_push f (q ∷ ps) p = ap (λ (z : List TreeEvent). z ++ f q) (stack_push f ps p) ∙ append_assoc (f p) (stack_events f ps) (f q)
 
 -- the children of a node, the first one last
-abbrev pub turned : ℕ → List Child → List Pointer
+abbrev pub turned : ℕ → List Child → List NodePointer
 turned level cs = reverse (map (child_pointer level) cs)
 
 turned_more : (level : ℕ) (c : Child) (cs : List Child) → turned level (c ∷ cs) ≡ turned level cs ++ child_pointer level c ∷ []
 turned_more level c cs = reverse-append (child_pointer level c ∷ []) (map (child_pointer level) cs)
 
 -- with one child more on top
-on_top : (ps : List Pointer) (level : ℕ) (c : Child) (cs : List Child) → ps ++ turned level (c ∷ cs) ≡ (ps ++ turned level cs) ++ child_pointer level c ∷ []
-on_top ps level c cs = ap (λ (z : List Pointer). ps ++ z) (turned_more level c cs) ∙ sym (append_assoc ps (turned level cs) (child_pointer level c ∷ []))
+on_top : (ps : List NodePointer) (level : ℕ) (c : Child) (cs : List Child) → ps ++ turned level (c ∷ cs) ≡ (ps ++ turned level cs) ++ child_pointer level c ∷ []
+on_top ps level c cs = ap (λ (z : List NodePointer). ps ++ z) (turned_more level c cs) ∙ sym (append_assoc ps (turned level cs) (child_pointer level c ∷ []))
 
-pub stack_children : (f : Pointer → List Event) (ps : List Pointer) (level : ℕ) (cs : List Child)
+pub stack_children : (f : NodePointer → List TreeEvent) (ps : List NodePointer) (level : ℕ) (cs : List Child)
     → stack_events f (ps ++ turned level cs) ≡ flat_map (λ c. f (child_pointer level c)) cs ++ stack_events f ps
 stack_children f ps level [] = ap (stack_events f) (append-nil ps)
 stack_children f ps level (c ∷ cs) =
     ap (stack_events f) (on_top ps level c cs)
     ∙ (stack_push f (ps ++ turned level cs) (child_pointer level c)
-    ∙ (ap (λ (z : List Event). f (child_pointer level c) ++ z) (stack_children f ps level cs)
+    ∙ (ap (λ (z : List TreeEvent). f (child_pointer level c) ++ z) (stack_children f ps level cs)
     ∙ sym (append_assoc (f (child_pointer level c)) (flat_map (λ d. f (child_pointer level d)) cs) (stack_events f ps))))
 
-length-one : (ps : List Pointer) (p : Pointer) → length (ps ++ p ∷ []) ≡ length ps + 1
+length-one : (ps : List NodePointer) (p : NodePointer) → length (ps ++ p ∷ []) ≡ length ps + 1
 length-one [] p = omega arith
 length-one (q ∷ ps) p = omega (arith, length-one ps p)
 
-pub length-turned : (ps : List Pointer) (level : ℕ) (cs : List Child) → length (ps ++ turned level cs) ≡ length ps + length cs
-length-turned ps level [] = ap (λ (z : List Pointer). length z) (append-nil ps) ∙ omega arith
+pub length-turned : (ps : List NodePointer) (level : ℕ) (cs : List Child) → length (ps ++ turned level cs) ≡ length ps + length cs
+length-turned ps level [] = ap (λ (z : List NodePointer). length z) (append-nil ps) ∙ omega arith
 length-turned ps level (c ∷ cs) =
-    ap (λ (z : List Pointer). length z) (on_top ps level c cs)
+    ap (λ (z : List NodePointer). length z) (on_top ps level c cs)
     ∙ (length-one (ps ++ turned level cs) (child_pointer level c) ∙ omega (arith, length-turned ps level cs))
 
-pub weight_push : (n : ℕ) (ps : List Pointer) (p : Pointer) → stack_weight n (ps ++ p ∷ []) ≡ weight n p.level + stack_weight n ps
+pub weight_push : (n : ℕ) (ps : List NodePointer) (p : NodePointer) → stack_weight n (ps ++ p ∷ []) ≡ weight n p.level + stack_weight n ps
 weight_push n [] p = refl
 weight_push n (q ∷ ps) p = omega (arith, weight_push n ps p)
 
-pub weight_children : (n : ℕ) (ps : List Pointer) (level : ℕ) (cs : List Child) → stack_weight n (ps ++ turned level cs) ≡ length cs * weight n level + stack_weight n ps
+pub weight_children : (n : ℕ) (ps : List NodePointer) (level : ℕ) (cs : List Child) → stack_weight n (ps ++ turned level cs) ≡ length cs * weight n level + stack_weight n ps
 weight_children n ps level [] = ap (stack_weight n) (append-nil ps) ∙ omega arith
 weight_children n ps level (c ∷ cs) =
     ap (stack_weight n) (on_top ps level c cs)
@@ -69,24 +60,24 @@ test_le : (a b : ℕ) → a ≤ b → nat_le a b ≡ true
 test_le a b h = grind (arith, nat_tests, h)
 
 -- the top of a stack, and what is below it
-pub stack_top : (limit fan i : ℕ) (ps : List Pointer) (p : Pointer) → is_stack limit fan i (ps ++ p ∷ []) ≡ true → i + length ps + p.level * fan ≤ limit
+pub stack_top : (limit fan i : ℕ) (ps : List NodePointer) (p : NodePointer) → is_stack limit fan i (ps ++ p ∷ []) ≡ true → i + length ps + p.level * fan ≤ limit
 stack_top limit fan i [] p h = omega (arith, le_test (i + p.level * fan) limit (both (nat_le (i + p.level * fan) limit) true h).0)
 stack_top limit fan i (q ∷ ps) p h =
     omega (arith, stack_top limit fan (suc i) ps p (both (nat_le (i + q.level * fan) limit) (is_stack limit fan (suc i) (ps ++ p ∷ [])) h).1)
 
-pub stack_below : (limit fan i : ℕ) (ps : List Pointer) (p : Pointer) → is_stack limit fan i (ps ++ p ∷ []) ≡ true → is_stack limit fan i ps ≡ true
+pub stack_below : (limit fan i : ℕ) (ps : List NodePointer) (p : NodePointer) → is_stack limit fan i (ps ++ p ∷ []) ≡ true → is_stack limit fan i ps ≡ true
 stack_below limit fan i [] p h = refl
 stack_below limit fan i (q ∷ ps) p h =
     let parts = both (nat_le (i + q.level * fan) limit) (is_stack limit fan (suc i) (ps ++ p ∷ [])) h in
     joined (nat_le (i + q.level * fan) limit) (is_stack limit fan (suc i) ps) parts.0 (stack_below limit fan (suc i) ps p parts.1)
 
-stack_more : (limit fan i : ℕ) (ps : List Pointer) (p : Pointer) → is_stack limit fan i ps ≡ true → i + length ps + p.level * fan ≤ limit → is_stack limit fan i (ps ++ p ∷ []) ≡ true
+stack_more : (limit fan i : ℕ) (ps : List NodePointer) (p : NodePointer) → is_stack limit fan i ps ≡ true → i + length ps + p.level * fan ≤ limit → is_stack limit fan i (ps ++ p ∷ []) ≡ true
 stack_more limit fan i [] p h room = joined (nat_le (i + p.level * fan) limit) true (test_le (i + p.level * fan) limit (omega (arith, room))) refl
 stack_more limit fan i (q ∷ ps) p h room =
     let parts = both (nat_le (i + q.level * fan) limit) (is_stack limit fan (suc i) ps) h in
     joined (nat_le (i + q.level * fan) limit) (is_stack limit fan (suc i) (ps ++ p ∷ [])) parts.0 (stack_more limit fan (suc i) ps p parts.1 (omega (arith, room)))
 
-pub stack_with_children : (limit fan level : ℕ) (ps : List Pointer) (cs : List Child) → is_stack limit fan 0 ps ≡ true → length ps + suc level * fan ≤ limit → length cs ≤ fan
+pub stack_with_children : (limit fan level : ℕ) (ps : List NodePointer) (cs : List Child) → is_stack limit fan 0 ps ≡ true → length ps + suc level * fan ≤ limit → length cs ≤ fan
     → is_stack limit fan 0 (ps ++ turned level cs) ≡ true
 stack_with_children limit fan level ps [] h room few = ap (is_stack limit fan 0) (append-nil ps) ∙ h
 stack_with_children limit fan level ps (c ∷ cs) h room few =

@@ -1,55 +1,32 @@
 -- A tree from its leaves up.
-use Rattle.std.proofs.Common.{◌≡◌, ℕ, zero, suc, nat_lt, eqb, Bool, true, false, ◌||◌, List, [], ◌∷◌, ◌++◌, map, Option, Some, None, if◌then◌else◌, refl, sym, ◌∙◌, ap, subst, arith}
-use Rattle.std.specs.List.{flat_map}
-use Rattle.std.proofs.lemmas.List.{map-append}
-use Rattle.std.proofs.lemmas.Bool.Decides.{nat_tests}
-use Rattle.btr_node.specs.outside.History.{Image}
-use Rattle.btr_node.specs.refusals.declared.refusal.BtrRefusal.{BtrRefusal}
-use Rattle.btr_node.specs.refusals.declared.rule.BtrRule.{BtrRule}
-use Rattle.btr_node.specs.refusals.declared.rule.BtrRule.TheVariants.{KeyOrder, Unmapped, NodeHead}
-use Rattle.btr_node.specs.btr_keys.declared.key.Key.{Key}
-use Rattle.btr_node.specs.Head.{count}
+use Rattle.btr_reader_walk.proofs.Imports.{◌≡◌, ℕ, zero, suc, nat_lt, eqb, Bool, true, false, ◌||◌, List, [], ◌∷◌, ◌++◌, map, Option, Some, None, if◌then◌else◌, refl, sym, ◌∙◌, ap, subst, arith, flat_map, map-append, nat_tests, Image, BtrRefusal, BtrRule, KeyOrder, Unmapped, NodeHead, Key, nritems, Item, IsBtrfsLeaf, items_in, keys_of, IsBtrfsInner, children_in, broken, leaf_damages, inner_damages, Child, Expect, both, Form, NodePointer, MapRange, is_mapped, node_at, want, child_pointer, content_damages, node_damages, TreeItem, TreeEvent, leaf_events, unless_damaged, node_events, nodes_in, items_in_events, at_address, bare_item, node_faults, pointer_damages, is_above, order_damages, tree_refusals, when_sound, leaf_items, IsSubtree, AreSubtrees, LeavesGiveItems, ChildrenGiveItems, SubtreesAreTrees}
 use Rattle.btr_node.specs.Laws.{DamagesTell}
-use Rattle.btr_node.specs.Leaf.{Item, IsLeaf, items_in, keys_of}
-use Rattle.btr_node.specs.Inner.{IsInner, children_in}
 use Rattle.btr_node.specs.Order.{ascends, is_before_first}
-use Rattle.btr_node.specs.Rules.{broken, leaf_damages, inner_damages}
-use Rattle.btr_node.specs.declared.child.Child.{Child}
-use Rattle.btr_node.specs.declared.expect.Expect.{Expect}
-use Rattle.btr_node.proofs.Rows.{both}
-use Rattle.btr_reader_walk.specs.declared.tree.Form.{Form}
-use Rattle.btr_reader_walk.specs.declared.tree.Pointer.{Pointer}
-use Rattle.btr_reader_walk.specs.declared.map.MapRange.{MapRange}
-use Rattle.btr_reader_walk.specs.Map.{is_mapped, node_at}
-use Rattle.btr_reader_walk.specs.Node.{want, child_pointer, content_damages, node_damages}
-use Rattle.btr_reader_walk.specs.Events.{TreeItem, Event, leaf_events, unless_damaged, node_events, nodes_in, items_in_events}
-use Rattle.btr_reader_walk.specs.Tree.{at_address, bare_item, node_faults, pointer_damages, is_above, order_damages, tree_damages, when_sound, leaf_items}
-use Rattle.btr_reader_walk.specs.Laws.{IsSubtree, AreSubtrees, LeavesGiveItems, ChildrenGiveItems, SubtreesAreTrees}
 use Rattle.btr_reader_walk.proofs.Events.{items_in-append, leaf_nodes, leaf_own, none_both, node_faults-append}
 
 -- the pointer with these three
-abbrev pub to : ℕ → ℕ → ℕ → Pointer
+abbrev pub to : ℕ → ℕ → ℕ → NodePointer
 to address level generation = record { address = address; level = level; generation = generation }
 
 -- what a leaf breaks
-pub leaf_damages_none : (tell : DamagesTell) (want : Expect) (bare : Bool) (bytes : List ℕ) → IsLeaf want bytes → (bare || nat_lt 0 (count bytes)) ≡ true
+pub leaf_damages_none : (tell : DamagesTell) (want : Expect) (bare : Bool) (bytes : List ℕ) → IsBtrfsLeaf want bytes → (bare || nat_lt 0 (nritems bytes)) ≡ true
     → content_damages want bare bytes ≡ []
 leaf_damages_none tell want bare bytes leaf some =
-    ap (λ (l : ℕ). if eqb l 0 then leaf_damages want bytes ++ broken (bare || nat_lt 0 (count bytes)) NodeHead else inner_damages want bytes) leaf.level
+    ap (λ (l : ℕ). if eqb l 0 then leaf_damages want bytes ++ broken (bare || nat_lt 0 (nritems bytes)) NodeHead else inner_damages want bytes) leaf.level
     ∙ none_both (leaf_damages want bytes) _ ((tell want bytes).0.1 leaf) (ap (λ t. broken t NodeHead) some)
 
-pub mapped_damages : (image : Image) (ranges : List MapRange) (form : Form) (owner : ℕ) (bare : Bool) (p : Pointer) → is_mapped ranges form.nodesize p.address ≡ true
+pub mapped_damages : (image : Image) (ranges : List MapRange) (form : Form) (owner : ℕ) (bare : Bool) (p : NodePointer) → is_mapped ranges form.nodesize p.address ≡ true
     → content_damages (want form owner p) bare (node_at image ranges form.nodesize p.address) ≡ []
     → node_damages image ranges form owner bare p ≡ []
 unfolding node_damages
 mapped_damages image ranges form owner bare p mapped none =
     ap (λ t. if t then content_damages (want form owner p) bare (node_at image ranges form.nodesize p.address) else Unmapped ∷ []) mapped ∙ none
 
-inner_damages_none : (tell : DamagesTell) (want : Expect) (bare : Bool) (bytes : List ℕ) (level : ℕ) → want.level ≡ suc level → IsInner want bytes
+inner_damages_none : (tell : DamagesTell) (want : Expect) (bare : Bool) (bytes : List ℕ) (level : ℕ) → want.level ≡ suc level → IsBtrfsInner want bytes
     → content_damages want bare bytes ≡ []
 inner_damages_none tell want bare bytes level is inner =
     let high : eqb want.level 0 ≡ false = grind (arith, nat_tests, is) in
-    ap (λ t. if t then leaf_damages want bytes ++ broken (bare || nat_lt 0 (count bytes)) NodeHead else inner_damages want bytes) high
+    ap (λ t. if t then leaf_damages want bytes ++ broken (bare || nat_lt 0 (nritems bytes)) NodeHead else inner_damages want bytes) high
     ∙ (tell want bytes).1.1 inner
 
 -- a leaf that breaks no rule
@@ -58,7 +35,7 @@ pub leaf_subtree : (image : Image) (ranges : List MapRange) (form : Form) (owner
     → IsSubtree image ranges form owner bare (to a l g) (items_in (node_at image ranges form.nodesize a))
 unfolding node_events
 leaf_subtree image ranges form owner bare a zero g is none =
-    let own : List Event = leaf_events a (items_in (node_at image ranges form.nodesize a)) in
+    let own : List TreeEvent = leaf_events a (items_in (node_at image ranges form.nodesize a)) in
     let all = pointer_damages image ranges form owner bare in
     record {
       sound =
@@ -71,7 +48,7 @@ leaf_subtree image ranges form owner bare a zero g is none =
 leaf_subtree image ranges form owner bare a (suc l) g is none = absurd (omega arith)
 
 -- what is below the children of an inner node
-abbrev below : Image → List MapRange → Form → ℕ → Bool → ℕ → List Child → List Event
+abbrev below : Image → List MapRange → Form → ℕ → Bool → ℕ → List Child → List TreeEvent
 below image ranges form owner bare level children = flat_map (λ child. node_events image ranges form owner bare level child.address child.generation) children
 
 children_sound : (image : Image) (ranges : List MapRange) (form : Form) (owner : ℕ) (bare : Bool) (level : ℕ) (children : List Child) (lists : List (List Item))
@@ -91,8 +68,8 @@ children_items image ranges form owner bare level [] [] are = refl
 children_items image ranges form owner bare level [] (items ∷ lists) are = absurd are
 children_items image ranges form owner bare level (c ∷ cs) [] are = absurd are
 children_items image ranges form owner bare level (c ∷ cs) (items ∷ lists) are =
-    let first : List Event = node_events image ranges form owner bare level c.address c.generation in
-    let others : List Event = below image ranges form owner bare level cs in
+    let first : List TreeEvent = node_events image ranges form owner bare level c.address c.generation in
+    let others : List TreeEvent = below image ranges form owner bare level cs in
     ap (map bare_item) (items_in-append first others)
     ∙ (map-append bare_item (items_in_events first) (items_in_events others)
     ∙ (ap (λ (z : List Item). z ++ map bare_item (items_in_events others)) are.0.items_are
@@ -110,7 +87,7 @@ inner_subtree image ranges form owner bare a (suc l) g level lists is none are =
     let children : List Child = children_in (node_at image ranges form.nodesize a) in
     let here : AreSubtrees image ranges form owner bare (map (child_pointer l) children) lists =
     subst (λ k. AreSubtrees image ranges form owner bare (map (child_pointer k) children) lists) same are in
-    let lower : List Event = below image ranges form owner bare l children in
+    let lower : List TreeEvent = below image ranges form owner bare l children in
     let all = pointer_damages image ranges form owner bare in
     record {
       sound =
@@ -153,6 +130,6 @@ order_none last (i ∷ items) first rest =
 pub subtrees_are_trees : SubtreesAreTrees
 subtrees_are_trees = λ image ranges form owner root items below ascend.
     let met : List TreeItem = leaf_items image ranges form root owner in
-    let none : tree_damages image ranges form root owner ≡ [] =
+    let none : tree_refusals image ranges form root owner ≡ [] =
     none_both _ _ below.sound (order_none None met refl (subst (λ (z : List Item). ascends (keys_of z) ≡ true) (sym below.items_are) ascend)) in
     ap (λ (d : List BtrRefusal). when_sound d (map bare_item met)) none ∙ ap Some below.items_are

@@ -1,19 +1,20 @@
 -- The nodes that a walk has still to meet, as a stack of pointers: the next one stands last.
 use Rattle.std.specs.Prelude.{ℕ, zero, suc, ◌+◌, ◌*◌, ◌/◌, ◌==◌, nat_le, Bool, true, ◌&&◌, ◌||◌, List, [], ◌∷◌, ◌++◌}
-use Rattle.btr_reader_walk.specs.declared.tree.Pointer.{Pointer}
-use Rattle.btr_reader_walk.specs.Events.{Event}
+use Rattle.btrfs_format.specs.declared.size.TheConstants.{KEY_PTR_SIZE}
+use Rattle.btr_reader_walk.specs.declared.tree.NodePointer.{NodePointer}
+use Rattle.btr_reader_walk.specs.Events.{TreeEvent}
 
 -- what is met at them, where this is what is met at one
-abbrev pub stack_events : (Pointer → List Event) → List Pointer → List Event
+abbrev pub stack_events : (NodePointer → List TreeEvent) → List NodePointer → List TreeEvent
 stack_events below [] = []
 stack_events below (p ∷ ps) = stack_events below ps ++ below p
 
 -- at most how many children a node of this size has; a child takes 33 bytes
 abbrev pub fan_out : ℕ → ℕ
-fan_out nodesize = nodesize / 33
+fan_out nodesize = nodesize / KEY_PTR_SIZE
 
 -- What bounds the stack: the pointers are counted from i on, and one of a lower level may stand a node's children higher.
-abbrev pub is_stack : ℕ → ℕ → ℕ → List Pointer → Bool
+abbrev pub is_stack : ℕ → ℕ → ℕ → List NodePointer → Bool
 is_stack limit fan i [] = true
 is_stack limit fan i (p ∷ ps) = nat_le (i + p.level * fan) limit && is_stack limit fan (suc i) ps
 
@@ -26,6 +27,6 @@ abbrev pub weight : ℕ → ℕ → ℕ
 weight n zero = suc n
 weight n (suc level) = suc (n * weight n level)
 
-abbrev pub stack_weight : ℕ → List Pointer → ℕ
+abbrev pub stack_weight : ℕ → List NodePointer → ℕ
 stack_weight n [] = 0
 stack_weight n (p ∷ ps) = weight n p.level + stack_weight n ps

@@ -9,13 +9,13 @@ use Rattle.btr_node.specs.refusals.declared.refusal.BtrRefusal.TheVariants.{BadB
 use Rattle.btr_node.specs.refusals.declared.rule.BtrRule.TheVariants.{Unmapped}
 use Rattle.btr_node.specs.btr_keys.declared.key.Key.{Key}
 use Rattle.btr_node.specs.Leaf.{Item, items_in}
-use Rattle.btr_reader_walk.specs.declared.tree.Pointer.{Pointer}
+use Rattle.btr_reader_walk.specs.declared.tree.NodePointer.{NodePointer}
 use Rattle.btr_reader_walk.specs.declared.tree.Tree.{Tree}
 use Rattle.btr_reader_walk.specs.declared.map.MapRange.{MapRange}
 use Rattle.btr_reader_walk.specs.declared.walker.TreeWalker.{TreeWalker}
 use Rattle.btr_reader_walk.specs.Map.{is_mapped}
-use Rattle.btr_reader_walk.specs.Events.{TreeItem, Event, leaf_events, pointer_events, tree_events, items_in_events, may_be_bare}
-use Rattle.btr_reader_walk.specs.Tree.{node_faults, order_damages, tree_damages, leaf_items}
+use Rattle.btr_reader_walk.specs.Events.{TreeItem, TreeEvent, leaf_events, pointer_events, walk_events, items_in_events, may_be_bare}
+use Rattle.btr_reader_walk.specs.Tree.{node_faults, order_damages, tree_refusals, leaf_items}
 use Rattle.btr_reader_walk.specs.Stack.{stack_events, stack_weight}
 
 -- each range ends within a device of so many blocks
@@ -29,34 +29,34 @@ IsReadFault ranges nodesize address Fault = Unit {0}
 IsReadFault ranges nodesize address Memory = ⊥
 
 -- what a walk of the tree meets, and what is wrong with the tree
-abbrev pub met : Image → List MapRange → Tree → List Event
-met image ranges tree = tree_events image ranges tree.form tree.root tree.owner
+abbrev pub met : Image → List MapRange → Tree → List TreeEvent
+met image ranges tree = walk_events image ranges tree.form tree.root tree.owner
 
 abbrev pub wrong : Image → List MapRange → Tree → List BtrRefusal
-wrong image ranges tree = tree_damages image ranges tree.form tree.root tree.owner
+wrong image ranges tree = tree_refusals image ranges tree.form tree.root tree.owner
 
 -- its items, each with its leaf
 abbrev pub found : Image → List MapRange → Tree → List TreeItem
 found image ranges tree = leaf_items image ranges tree.form tree.root tree.owner
 
 -- what is met at a node of the tree and below it
-abbrev pub below : Image → List MapRange → Tree → Pointer → List Event
+abbrev pub below : Image → List MapRange → Tree → NodePointer → List TreeEvent
 below image ranges tree p = pointer_events image ranges tree.form tree.owner (may_be_bare tree.root) p
 
 -- what is wrong with the nodes of the tree that were met
-abbrev pub met_faults : Image → List MapRange → Tree → List Event → List BtrRefusal
+abbrev pub met_faults : Image → List MapRange → Tree → List TreeEvent → List BtrRefusal
 met_faults image ranges tree events = node_faults image ranges tree.form tree.owner (may_be_bare tree.root) events
 
 -- what the leaf in hand has still to give
-abbrev pub hand_events : ℕ → List ℕ → ℕ → ℕ → List Event
+abbrev pub hand_events : ℕ → List ℕ → ℕ → ℕ → List TreeEvent
 hand_events address bytes next left = leaf_events address (take left (drop next (items_in bytes)))
 
 -- what a walker has still to meet behind the leaf in hand
-abbrev pub behind : Image → List MapRange → TreeWalker → List Event
+abbrev pub behind : Image → List MapRange → TreeWalker → List TreeEvent
 behind image ranges w = stack_events (below image ranges w.tree) w.pending.items
 
 -- what it has still to meet
-abbrev pub rest : Image → List MapRange → TreeWalker → List Event
+abbrev pub rest : Image → List MapRange → TreeWalker → List TreeEvent
 rest image ranges w = hand_events w.address w.bytes.items w.at.next w.at.left ++ behind image ranges w
 
 -- the key of the last item, after one before
@@ -66,7 +66,7 @@ last_after last (i ∷ items) = last_after (Some i.key) items
 
 -- a walker that has given these items of its tree, and found nothing wrong so far
 pub record Walks (w : TreeWalker) (image : Image) (ranges : List MapRange) (given : List TreeItem) : Type 0 where
-  pub done : List Event
+  pub done : List TreeEvent
   pub whole : done ++ rest image ranges w ≡ met image ranges w.tree
   pub items : items_in_events done ≡ given
   pub last : w.last ≡ last_after None given
@@ -74,8 +74,8 @@ pub record Walks (w : TreeWalker) (image : Image) (ranges : List MapRange) (give
   pub order : order_damages None given ≡ []
 
 -- The same, but for a node that was taken off the stack and is still to be read.
-pub record IsAt (p : Pointer) (w : TreeWalker) (image : Image) (ranges : List MapRange) (given : List TreeItem) : Type 0 where
-  pub done : List Event
+pub record IsAt (p : NodePointer) (w : TreeWalker) (image : Image) (ranges : List MapRange) (given : List TreeItem) : Type 0 where
+  pub done : List TreeEvent
   pub whole : done ++ (below image ranges w.tree p ++ behind image ranges w) ≡ met image ranges w.tree
   pub items : items_in_events done ≡ given
   pub last : w.last ≡ last_after None given
@@ -88,9 +88,9 @@ pub record IsOver (tree : Tree) (image : Image) (ranges : List MapRange) (given 
   pub sound : wrong image ranges tree ≡ []
 
 -- a node was taken, or there is none
-abbrev pub Takes : Option Pointer → Tree → TreeWalker → Image → List MapRange → List TreeItem → Type 0
-Takes (Some p) tree w image ranges given = IsAt p w image ranges given
-Takes None tree w image ranges given = Walks w image ranges given × IsOver tree image ranges given
+abbrev pub TakesNode : Option NodePointer → Tree → TreeWalker → Image → List MapRange → List TreeItem → Type 0
+TakesNode (Some p) tree w image ranges given = IsAt p w image ranges given
+TakesNode None tree w image ranges given = Walks w image ranges given × IsOver tree image ranges given
 
 -- a node was opened and no item given, or there is nothing more
 abbrev pub Moves : Bool → Tree → TreeWalker → Image → List MapRange → List TreeItem → Type 0
@@ -102,13 +102,13 @@ abbrev pub HasItem : TreeWalker → Type 0
 HasItem w = 0 < w.at.next
 
 -- the item that was given last
-pub record Stands (w : TreeWalker) (i : TreeItem) : Type 0 where
+pub record StandsLast (w : TreeWalker) (i : TreeItem) : Type 0 where
   pub leaf : i.leaf ≡ w.address
   pub item : (other : Item) → slice_index_or (items_in w.bytes.items) (w.at.next - 1) other ≡ (i.key, i.body)
 
 -- one more item was given and stands, or there is none more
 abbrev pub Comes : Bool → Tree → TreeWalker → Image → List MapRange → List TreeItem → Type 0
-Comes true tree w image ranges given = (i : TreeItem) × Walks w image ranges (given ++ i ∷ []) × Stands w i
+Comes true tree w image ranges given = (i : TreeItem) × Walks w image ranges (given ++ i ∷ []) × StandsLast w i
 Comes false tree w image ranges given = Walks w image ranges given × IsOver tree image ranges given
 
 -- the answer is one of what is wrong, or a fault

@@ -8,13 +8,13 @@ ghost use Rattle.btr_reader_walk.specs.Events.{TreeItem};
 ghost use Rattle.btr_reader_walk.specs.Map.{is_mapped, node_at};
 ghost use Rattle.btr_reader_walk.specs.Tree.{is_above};
 ghost use Rattle.btr_reader_walk.specs.Stack.{fan_out, weight, stack_weight};
-ghost use Rattle.btr_reader_walk.specs.Walks.{Walks, IsAt, Takes, Moves, Comes, Stands, HasItem, Blames, IsBad, IsBadOrFault, LieOn, wrong, fuel};
+ghost use Rattle.btr_reader_walk.specs.Walks.{Walks, IsAt, TakesNode, Moves, Comes, StandsLast, HasItem, Blames, IsBad, IsBadOrFault, LieOn, wrong, fuel};
 
 use crate::blocks::read_node;
 use crate::map::MapRange;
 use crate::node::{open_inner, open_leaf};
-use crate::tree::{Pointer, Tree};
-use crate::walker::{Place, TreeWalker};
+use crate::tree::{NodePointer, Tree};
+use crate::walker::{LeafCursor, TreeWalker};
 use btr_node::{BlockSource, BtrAnswer, BtrRefusal, BtrRule, Key, LeafView, Memory};
 use std::alloc::Global;
 
@@ -38,7 +38,7 @@ impl TreeWalker {
             )?,
             address: 0,
             bytes: zeroed(alloc, nodesize)?,
-            at: Place { next: 0, left: 0 },
+            at: LeafCursor { next: 0, left: 0 },
             last: None,
             spent: false,
         })
@@ -52,10 +52,10 @@ impl TreeWalker {
     }
 
     /// Takes the next node off the stack.
-    fn take_pointer(&mut self) -> Option<Pointer>
+    fn take_pointer(&mut self) -> Option<NodePointer>
         requires done { self.old.at.left ≡ 0 }
         ensures takes { (image : Image) (ranges : List RangeOf) (given : List TreeItem) → Walks self.old image ranges given →
-            Takes result self.old.tree self.new image ranges given }
+            TakesNode result self.old.tree self.new image ranges given }
         ensures tree { self.new.tree ≡ self.old.tree }
         ensures kept_on { self.new.spent ≡ self.old.spent }
         ensures emptied { IfSome result (λ _. (self.new.at.next ≡ 0) × (self.new.at.left ≡ 0)) }
@@ -63,12 +63,12 @@ impl TreeWalker {
         ensures weight { IfSome result (λ p. weight self.new.tree.form.nodesize p.level + fuel self.new ≡ fuel self.old) }
     {
         let pointer = self.pending.pop()?;
-        self.at = Place { next: 0, left: 0 };
+        self.at = LeafCursor { next: 0, left: 0 };
         Some(pointer)
     }
 
     /// Goes into the leaf that was read into the buffer.
-    fn put_leaf(&mut self, p: Pointer) -> Result<(), BtrRefusal>
+    fn put_leaf(&mut self, p: NodePointer) -> Result<(), BtrRefusal>
         requires level { p.level ≡ 0 }
         requires next { self.old.at.next ≡ 0 }
         requires left { self.old.at.left ≡ 0 }
@@ -84,7 +84,7 @@ impl TreeWalker {
         match open_leaf(self.bytes.as_slice(), &want, self.tree.may_be_bare()) {
             Ok(left) => {
                 self.address = p.address;
-                self.at = Place { next: 0, left };
+                self.at = LeafCursor { next: 0, left };
                 Ok(())
             }
             Err(rule) => Err(BtrRefusal::BadBtrfs {
@@ -95,7 +95,7 @@ impl TreeWalker {
     }
 
     /// Puts the children of the inner node that was read into the buffer onto the stack.
-    fn put_children(&mut self, p: Pointer) -> Result<(), BtrRefusal>
+    fn put_children(&mut self, p: NodePointer) -> Result<(), BtrRefusal>
         requires level { 1 ≤ p.level }
         requires next { self.old.at.next ≡ 0 }
         requires left { self.old.at.left ≡ 0 }
@@ -119,7 +119,7 @@ impl TreeWalker {
     }
 
     /// Opens the node that was read into the buffer.
-    fn open(&mut self, p: Pointer) -> Result<(), BtrRefusal>
+    fn open(&mut self, p: NodePointer) -> Result<(), BtrRefusal>
         requires next { self.old.at.next ≡ 0 }
         requires left { self.old.at.left ≡ 0 }
         requires room { length self.old.pending.items + p.level * fan_out self.old.tree.form.nodesize ≤ self.old.tree.root.level * fan_out self.old.tree.form.nodesize }
@@ -185,7 +185,7 @@ impl TreeWalker {
             });
         }
         self.last = Some(key);
-        self.at = Place {
+        self.at = LeafCursor {
             next: self.at.next + 1,
             left: self.at.left - 1,
         };
@@ -248,7 +248,7 @@ impl TreeWalker {
     /// The key of the item that stands.
     pub fn key(&self) -> Key
         requires { HasItem self.now }
-        ensures { (i : TreeItem) → Stands self.now i → result ≡ i.key }
+        ensures { (i : TreeItem) → StandsLast self.now i → result ≡ i.key }
     {
         LeafView::of(self.bytes.as_slice()).key(self.at.next - 1)
     }
@@ -256,7 +256,7 @@ impl TreeWalker {
     /// The data of the item that stands, in bytes.
     pub fn body(&self) -> &[u8]
         requires { HasItem self.now }
-        ensures { (i : TreeItem) → Stands self.now i → result.now ≡ i.body }
+        ensures { (i : TreeItem) → StandsLast self.now i → result.now ≡ i.body }
     {
         LeafView::of(self.bytes.as_slice()).body(self.at.next - 1)
     }
@@ -264,7 +264,7 @@ impl TreeWalker {
     /// The address of the leaf of the item that stands.
     pub fn leaf(&self) -> u64
         requires { HasItem self.now }
-        ensures { (i : TreeItem) → Stands self.now i → result ≡ i.leaf }
+        ensures { (i : TreeItem) → StandsLast self.now i → result ≡ i.leaf }
     {
         self.address
     }
@@ -281,7 +281,7 @@ fn is_above(last: &Option<Key>, key: &Key) -> bool
 }
 
 /// A stack with one pointer and room for so many.
-fn stack_of(alloc: Global, root: Pointer, room: usize) -> Result<Vec<Pointer>, Memory>
+fn stack_of(alloc: Global, root: NodePointer, room: usize) -> Result<Vec<NodePointer>, Memory>
     ensures items { IfOk result (λ stack. stack.items ≡ root ∷ []) }
     ensures capacity { IfOk result (λ stack. room ≤ vec_capacity stack) }
 {

@@ -18,5 +18,5 @@ pub use btr_node::{
 pub use laws::{children_give_items, leaves_give_items, nodes_decide, subtrees_are_trees};
 pub use map::{MapRange, is_mapped, place};
 pub use note::{Notes, note_items};
-pub use tree::{Form, Pointer, Tree};
-pub use walker::{Place, TreeWalker};
+pub use tree::{Form, NodePointer, Tree};
+pub use walker::{LeafCursor, TreeWalker};

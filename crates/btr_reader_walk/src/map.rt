@@ -1,7 +1,7 @@
 ghost use Rattle.std.specs.Prelude.{◌≡◌, ◌+◌, ◌-◌, true};
 ghost use Rattle.btr_reader_walk.specs.Map.{holds, place, are_mapped, is_mapped};
 
-/// A range of logical addresses that lies in one piece on the device, as a chunk says.
+/// A range of logical addresses that lies in one piece on the device, or in two copies, as a chunk says.
 #[derive(Clone, Copy, Debug, PartialEq, Eq)]
 pub struct MapRange {
     /// The first logical address, in bytes.
@@ -10,6 +10,8 @@ pub struct MapRange {
     pub length: u64,
     /// Where it begins on the device, in bytes.
     pub physical: u64,
+    /// Where its second copy begins, if there is one. It is not read.
+    pub mirror: Option<u64>,
 }
 
 impl MapRange {
@@ -29,7 +31,7 @@ impl MapRange {
     }
 }
 
-/// The place on the device of an address, both in bytes, by the first range that holds it.
+/// The place on the device of an address, both in bytes, by the first copy of the first range that holds it.
 ///
 /// An address may be past 2^64: it is then one of the last blocks of a node that begins before.
 pub fn place(ranges: &[MapRange], address: u128) -> Option<u128>

@@ -5,7 +5,7 @@ ghost use Rattle.btr_node.specs.NodeSize.{IsNodeSize};
 ghost use Rattle.btr_reader_walk.specs.Node.{child_pointer, content_damages};
 ghost use Rattle.btr_reader_walk.specs.Stack.{fan_out};
 
-use crate::tree::Pointer;
+use crate::tree::NodePointer;
 use btr_node::{BtrRule, Expect, InnerView, LeafView};
 
 /// How many items the leaf with these bytes has, or a rule that it breaks. Only a leaf that may be bare may have none.
@@ -28,7 +28,11 @@ pub fn open_leaf(bytes: &[u8], want: &Expect, bare: bool) -> Result<usize, BtrRu
 
 /// Puts the children of the inner node with these bytes onto a stack, the first one last; or answers a rule that the
 /// node breaks.
-pub fn open_inner(bytes: &[u8], want: &Expect, pending: &mut Vec<Pointer>) -> Result<(), BtrRule>
+pub fn open_inner(
+    bytes: &[u8],
+    want: &Expect,
+    pending: &mut Vec<NodePointer>,
+) -> Result<(), BtrRule>
     requires size { IsNodeSize (length bytes.now) }
     requires inner { 1 ≤ want.now.level }
     requires room { length pending.old.items + fan_out (length bytes.now) ≤ vec_capacity pending.old }
@@ -46,7 +50,7 @@ pub fn open_inner(bytes: &[u8], want: &Expect, pending: &mut Vec<Pointer>) -> Re
 }
 
 /// Puts the children of a node onto a stack, the first one last.
-fn push_children(pending: &mut Vec<Pointer>, node: &InnerView<'_>, level: u8)
+fn push_children(pending: &mut Vec<NodePointer>, node: &InnerView<'_>, level: u8)
     requires { length pending.old.items + length node.now ≤ vec_capacity pending.old }
     ensures pushed { pending.new.items ≡ pending.old.items ++ reverse (map (child_pointer level) node.now) }
     ensures capacity { vec_capacity pending.new ≡ vec_capacity pending.old }
@@ -55,7 +59,7 @@ fn push_children(pending: &mut Vec<Pointer>, node: &InnerView<'_>, level: u8)
     while left > 0 {
         left -= 1;
         let child = node.child(left);
-        pending.push_reserved(Pointer {
+        pending.push_reserved(NodePointer {
             address: child.address,
             level,
             generation: child.generation,

@@ -17,7 +17,7 @@ pub struct Form {
 
 /// What is said of a node where it is named: by its parent, or of a root by the superblock or a root item.
 #[derive(Clone, Copy, Debug, PartialEq, Eq)]
-pub struct Pointer {
+pub struct NodePointer {
     /// The node's address, in bytes.
     pub address: u64,
     /// 0 for a leaf, and one more than its children's level for an inner node.
@@ -32,14 +32,14 @@ pub struct Tree {
     /// What its nodes share with all others of the volume.
     pub form: Form,
     /// The pointer to its root.
-    pub root: Pointer,
+    pub root: NodePointer,
     /// Its number.
     pub owner: u64,
 }
 
 impl Tree {
     /// What is known of a node of the tree by the pointer to it.
-    pub fn want(&self, p: &Pointer) -> Expect
+    pub fn want(&self, p: &NodePointer) -> Expect
         ensures { result ≡ want self.now.form self.now.owner p.now }
     {
         Expect {

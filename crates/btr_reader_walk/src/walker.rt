@@ -2,12 +2,12 @@ ghost use Rattle.std.specs.Prelude.{◌≡◌, ◌≤◌, ◌<◌, ◌+◌, ◌*
 ghost use Rattle.btr_node.specs.Leaf.{HasLeafLayout, items_in};
 ghost use Rattle.btr_reader_walk.specs.Stack.{fan_out, is_node_size, is_stack};
 
-use crate::tree::{Pointer, Tree};
+use crate::tree::{NodePointer, Tree};
 use btr_node::Key;
 
 /// Which items of the leaf in hand are still to come.
 #[derive(Clone, Copy, Debug)]
-pub struct Place {
+pub struct LeafCursor {
     pub next: usize,
     pub left: usize,
 }
@@ -18,10 +18,10 @@ pub struct Place {
 #[derive(Drop)]
 pub struct TreeWalker {
     pub tree: Tree,
-    pub pending: Vec<Pointer>,
+    pub pending: Vec<NodePointer>,
     pub address: u64,
     pub bytes: Vec<u8>,
-    pub at: Place,
+    pub at: LeafCursor,
     pub last: Option<Key>,
     pub spent: bool,
     ghost size: { IsTrue (is_node_size tree.form.nodesize) },

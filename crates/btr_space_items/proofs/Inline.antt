@@ -1,8 +1,7 @@
 -- Steps over the references of an extent.
-use Rattle.std.proofs.Common.{◌≡◌, ◌<◌, ◌≤◌, ℕ, List, length, drop, Some, None, cond, ltb, ◌==◌, Bool, true, false, refl, arith, subst, length-drop, slice_index_or}
-use Rattle.std.proofs.lemmas.Bool.{ltb-false}
-use Rattle.btr_keys.proofs.Starts.{Shrinks}
-use Rattle.btr_space_items.specs.InlineRef.{behind_inline, rest_of}
+use Rattle.btr_space_items.proofs.Imports.{◌≡◌, ◌<◌, ◌≤◌, ℕ, List, length, drop, Some, None, cond, ltb, ◌==◌, Bool, true, false, refl, arith, subst, length-drop, slice_index_or, ltb-false, Shrinks, behind_inline, rest_of}
+use Rattle.btrfs_format.specs.declared.key.TheConstants.{EXTENT_DATA_REF, TREE_BLOCK_REF}
+use Rattle.btrfs_format.specs.declared.size.TheConstants.{INLINE_BLOCK_REF_SIZE, INLINE_DATA_REF_SIZE}
 
 rest_shrinks : (n : ℕ) → 0 < n → Shrinks (rest_of n)
 rest_shrinks n some bytes rest e =
@@ -19,14 +18,14 @@ rest_shrinks n some bytes rest e =
 pub inline_shrinks : Shrinks behind_inline
 unfolding behind_inline
 inline_shrinks bytes rest e =
-    let inner : (is_data : Bool) → cond is_data (rest_of 29 bytes) None ≡ Some rest → length rest < length bytes
-    = λ is_data. elim is_data as (λ is_data. cond is_data (rest_of 29 bytes) None ≡ Some rest → length rest < length bytes) [
+    let inner : (is_data : Bool) → cond is_data (rest_of INLINE_DATA_REF_SIZE bytes) None ≡ Some rest → length rest < length bytes
+    = λ is_data. elim is_data as (λ is_data. cond is_data (rest_of INLINE_DATA_REF_SIZE bytes) None ≡ Some rest → length rest < length bytes) [
       | true ↦ λ h. rest_shrinks 29 (omega arith) bytes rest h
       | false ↦ λ h. absurd cc
     ] in
-    let outer : (block : Bool) → cond block (rest_of 9 bytes) (cond (slice_index_or bytes 0 0 == 178) (rest_of 29 bytes) None) ≡ Some rest → length rest < length bytes
-    = λ block. elim block as (λ block. cond block (rest_of 9 bytes) (cond (slice_index_or bytes 0 0 == 178) (rest_of 29 bytes) None) ≡ Some rest → length rest < length bytes) [
+    let outer : (block : Bool) → cond block (rest_of INLINE_BLOCK_REF_SIZE bytes) (cond (slice_index_or bytes 0 0 == EXTENT_DATA_REF) (rest_of INLINE_DATA_REF_SIZE bytes) None) ≡ Some rest → length rest < length bytes
+    = λ block. elim block as (λ block. cond block (rest_of INLINE_BLOCK_REF_SIZE bytes) (cond (slice_index_or bytes 0 0 == EXTENT_DATA_REF) (rest_of INLINE_DATA_REF_SIZE bytes) None) ≡ Some rest → length rest < length bytes) [
       | true ↦ λ h. rest_shrinks 9 (omega arith) bytes rest h
-      | false ↦ λ h. inner (slice_index_or bytes 0 0 == 178) h
+      | false ↦ λ h. inner (slice_index_or bytes 0 0 == EXTENT_DATA_REF) h
     ] in
-    outer (slice_index_or bytes 0 0 == 176) e
+    outer (slice_index_or bytes 0 0 == TREE_BLOCK_REF) e

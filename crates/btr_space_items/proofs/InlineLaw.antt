@@ -1,16 +1,8 @@
 -- References that are written one after the other read as these references.
-use Rattle.std.proofs.Common.{◌≡◌, ◌<◌, ℕ, List, [], ◌∷◌, ◌++◌, length, drop, map, Option, Some, None, cond, ltb, Bool, false, refl, ap, sym, ◌∙◌, arith, length-append}
-use Rattle.std.proofs.lemmas.Bool.{le-ltb}
-use Rattle.std.proofs.lemmas.List.{drop_at}
-use Rattle.std.specs.Option.{option_map}
+use Rattle.btr_space_items.proofs.Imports.{◌≡◌, ◌<◌, ℕ, List, [], ◌∷◌, ◌++◌, length, drop, map, Option, Some, None, cond, ltb, Bool, false, refl, ap, sym, ◌∙◌, arith, length-append, le-ltb, drop_at, option_map, starts, records, Reads, start, ◌▹◌, u8_reads, u32_reads, u64_reads, starts_step, starts_end, tree_block_layout, make_tree_block, data_ref_layout, make_data_ref, ref_kind, ref_root, ref_objectid, ref_offset, ref_count, inline_ref_front, inline_ref_bytes, behind_inline, rest_of, FitsInline, InlineRefsReadBack}
 use Rattle.std.specs.List.{flat_map}
-use Rattle.btr_keys.specs.Repeated.{starts, records}
-use Rattle.btr_keys.proofs.Layouts.{Reads, start, ◌▹◌, u8_reads, u32_reads, u64_reads}
-use Rattle.btr_keys.proofs.Starts.{starts_step, starts_end}
 use Rattle.btr_space_items.specs.declared.inline_ref.InlineRef.{InlineRef}
 use Rattle.btr_space_items.specs.declared.inline_ref.InlineRef.TheVariants.{TreeBlock, DataRef}
-use Rattle.btr_space_items.specs.InlineRef.{tree_block_layout, make_tree_block, data_ref_layout, make_data_ref, ref_kind, ref_root, ref_objectid, ref_offset, ref_count, inline_ref_front, inline_ref_bytes, behind_inline, rest_of, FitsInline}
-use Rattle.btr_space_items.specs.Laws.{InlineRefsReadBack}
 use Rattle.btr_space_items.proofs.Inline.{inline_shrinks}
 
 block_reads : Reads tree_block_layout (λ r. make_tree_block (ref_kind r) (ref_root r))

@@ -1,26 +1,15 @@
 -- The layouts of this crate read what they write.
-use Rattle.std.proofs.Common.{◌≡◌, ◌+◌, ◌*◌, ◌==◌, ℕ, List, [], ◌++◌, length, drop, cond, ltb, Bool, true, false, None, Some, refl, ap, sym, ◌∙◌, arith, lit<, length-append, eq-eqb}
-use Rattle.std.proofs.lemmas.Bool.{le-ltb}
-use Rattle.std.proofs.lemmas.List.{take_at, append-nil}
+use Rattle.btr_space_items.proofs.Imports.{◌≡◌, ◌+◌, ◌*◌, ◌==◌, ℕ, List, [], ◌++◌, length, drop, cond, ltb, Bool, true, false, None, Some, refl, ap, sym, ◌∙◌, arith, lit<, length-append, eq-eqb, le-ltb, take_at, append-nil, key_layout, stamp_layout, inode_layout, Reads, start, ◌▹◌, skip, u8_reads, u16_reads, u32_reads, u64_reads, array_reads, part_reads, reads_back, device_layout, make_device, stripe_layout, make_stripe, chunk_layout, make_chunk, chunk_bytes, root_item_layout, make_root_item, BlockGroupsReadBack, DevExtentsReadBack, DevicesReadBack, StripesReadBack, ExtentHeadsReadBack, ChunksReadBack, RootItemsReadBack, RootRefsReadBack}
 use Rattle.byteorder.specs.Endian.{little_bytes}
 use Rattle.byteorder.specs.Numbers.{little_number-reads_back}
 use Rattle.btr_keys.specs.vol_block.Volume.{field}
-use Rattle.btr_keys.specs.Key.{key_layout}
-use Rattle.btr_keys.specs.Stamp.{stamp_layout}
-use Rattle.btr_keys.specs.Inode.{inode_layout}
-use Rattle.btr_keys.proofs.Layouts.{Reads, start, ◌▹◌, skip, u8_reads, u16_reads, u32_reads, u64_reads, array_reads, part_reads, reads_back}
 use Rattle.btr_keys.proofs.Records.{key_reads, stamp_reads, inode_reads}
 use Rattle.btr_keys.proofs.Repeats.{IsNamed, front_of}
 use Rattle.btr_space_items.specs.declared.chunk.Chunk.{Chunk}
 use Rattle.btr_space_items.specs.BlockGroup.{block_group_layout, make_block_group}
 use Rattle.btr_space_items.specs.DevExtent.{dev_extent_layout, make_dev_extent}
-use Rattle.btr_space_items.specs.Device.{device_layout, make_device}
-use Rattle.btr_space_items.specs.Stripe.{stripe_layout, make_stripe}
 use Rattle.btr_space_items.specs.ExtentHead.{extent_head_layout, make_extent_head, extent_head_bytes}
-use Rattle.btr_space_items.specs.Chunk.{chunk_layout, make_chunk, chunk_bytes}
-use Rattle.btr_space_items.specs.RootItem.{root_item_layout, make_root_item}
 use Rattle.btr_space_items.specs.RootRef.{root_ref_head, make_root_ref, root_ref_bytes}
-use Rattle.btr_space_items.specs.Laws.{BlockGroupsReadBack, DevExtentsReadBack, DevicesReadBack, StripesReadBack, ExtentHeadsReadBack, ChunksReadBack, RootItemsReadBack, RootRefsReadBack}
 
 pub block_group_reads : Reads block_group_layout (λ v. v)
 unfolding block_group_layout

@@ -1,5 +1,6 @@
 -- Bodies of block group items, as the Btrfs on-disk format documentation has them (struct btrfs_block_group_item).
 use Rattle.std.specs.Prelude.{ℕ, List, drop, Option}
+use Rattle.btrfs_format.specs.declared.size.TheConstants.{BLOCK_GROUP_ITEM_SIZE}
 use Rattle.btr_keys.specs.Layout.{Layout, made_by, ◌▸◌, u64, whole, spelling}
 use Rattle.btr_space_items.specs.declared.block_group.BlockGroup.{BlockGroup}
 
@@ -24,7 +25,7 @@ block_group_at bytes at = block_group_layout.read (drop at bytes)
 
 -- the value that is the whole body
 abbrev pub block_group_of : List ℕ → Option BlockGroup
-block_group_of body = whole 24 block_group_layout body
+block_group_of body = whole BLOCK_GROUP_ITEM_SIZE block_group_layout body
 
 -- the 24 bytes of a value
 abbrev pub block_group_bytes : BlockGroup → List ℕ

@@ -1,5 +1,6 @@
 -- Bodies of chunks, as the Btrfs on-disk format documentation has them (struct btrfs_chunk).
 use Rattle.std.specs.Prelude.{ℕ, ◌+◌, ◌*◌, ◌==◌, nat_lt, if◌then◌else◌, List, length, Option, Some, None}
+use Rattle.btrfs_format.specs.declared.size.TheConstants.{CHUNK_HEAD_SIZE, STRIPE_SIZE}
 use Rattle.btr_keys.specs.vol_block.Volume.{field}
 use Rattle.btr_keys.specs.Layout.{Layout, made_by, ◌▸◌, u16, u32, u64, part, spelling}
 use Rattle.btr_space_items.specs.Stripe.{stripe_layout}
@@ -40,7 +41,7 @@ chunk_layout =
 abbrev pub chunk_of : List ℕ → Option Chunk
 chunk_of body =
     if nat_lt (length body) 80 then None
-    else (if length body == 48 + 32 * field 2 body 44 then Some (chunk_layout.read body) else None)
+    else (if length body == CHUNK_HEAD_SIZE + STRIPE_SIZE * field 2 body 44 then Some (chunk_layout.read body) else None)
 
 -- the 80 bytes of a chunk of one stripe
 abbrev pub chunk_bytes : Chunk → List ℕ

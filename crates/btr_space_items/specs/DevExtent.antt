@@ -1,5 +1,6 @@
 -- Bodies of device extents, as the Btrfs on-disk format documentation has them (struct btrfs_dev_extent).
 use Rattle.std.specs.Prelude.{ℕ, List, drop, Option}
+use Rattle.btrfs_format.specs.declared.size.TheConstants.{DEV_EXTENT_SIZE}
 use Rattle.btr_keys.specs.Layout.{Layout, made_by, ◌▸◌, u64, array, whole, spelling}
 use Rattle.btr_space_items.specs.declared.dev_extent.DevExtent.{DevExtent}
 
@@ -28,7 +29,7 @@ dev_extent_at bytes at = dev_extent_layout.read (drop at bytes)
 
 -- the value that is the whole body
 abbrev pub dev_extent_of : List ℕ → Option DevExtent
-dev_extent_of body = whole 48 dev_extent_layout body
+dev_extent_of body = whole DEV_EXTENT_SIZE dev_extent_layout body
 
 -- the 48 bytes of a value
 abbrev pub dev_extent_bytes : DevExtent → List ℕ

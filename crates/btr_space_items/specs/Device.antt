@@ -1,5 +1,6 @@
 -- Bodies of device items, as the Btrfs on-disk format documentation has them (struct btrfs_dev_item).
 use Rattle.std.specs.Prelude.{ℕ, List, drop, Option}
+use Rattle.btrfs_format.specs.declared.size.TheConstants.{DEV_ITEM_SIZE}
 use Rattle.btr_keys.specs.Layout.{Layout, made_by, ◌▸◌, u8, u32, u64, array, whole, spelling}
 use Rattle.btr_space_items.specs.declared.device.Device.{Device}
 
@@ -46,7 +47,7 @@ device_at bytes at = device_layout.read (drop at bytes)
 
 -- the value that is the whole body
 abbrev pub device_of : List ℕ → Option Device
-device_of body = whole 98 device_layout body
+device_of body = whole DEV_ITEM_SIZE device_layout body
 
 -- the 98 bytes of a value
 abbrev pub device_bytes : Device → List ℕ

@@ -1,6 +1,8 @@
 -- References that stand in an extent or metadata item, as the Btrfs on-disk format documentation has them (struct
 -- btrfs_extent_inline_ref and struct btrfs_extent_data_ref).
 use Rattle.std.specs.Prelude.{ℕ, ◌==◌, nat_lt, if◌then◌else◌, List, length, drop, slice_index, Option, Some, None}
+use Rattle.btrfs_format.specs.declared.key.TheConstants.{EXTENT_DATA_REF, TREE_BLOCK_REF}
+use Rattle.btrfs_format.specs.declared.size.TheConstants.{INLINE_BLOCK_REF_SIZE, INLINE_DATA_REF_SIZE}
 use Rattle.btr_keys.specs.Layout.{Layout, made_by, ◌▸◌, u8, u32, u64, spelling}
 use Rattle.btr_keys.specs.Repeated.{records}
 use Rattle.btr_space_items.specs.declared.inline_ref.InlineRef.{InlineRef}
@@ -8,8 +10,8 @@ use Rattle.btr_space_items.specs.declared.inline_ref.InlineRef.TheVariants.{Tree
 
 -- the byte that says which reference it is
 abbrev pub ref_kind : InlineRef → ℕ
-ref_kind (TreeBlock root) = 176
-ref_kind (DataRef root objectid offset count) = 178
+ref_kind (TreeBlock root) = TREE_BLOCK_REF
+ref_kind (DataRef root objectid offset count) = EXTENT_DATA_REF
 
 abbrev pub ref_root : InlineRef → ℕ
 ref_root (TreeBlock root) = root
@@ -50,7 +52,7 @@ data_ref_layout =
 
 -- the reference that bytes begin with
 abbrev pub inline_ref_front : List ℕ → InlineRef
-inline_ref_front bytes = if slice_index bytes 0 == 176 then tree_block_layout.read bytes else data_ref_layout.read bytes
+inline_ref_front bytes = if slice_index bytes 0 == TREE_BLOCK_REF then tree_block_layout.read bytes else data_ref_layout.read bytes
 
 -- the bytes behind the first n
 abbrev pub rest_of : ℕ → List ℕ → Option (List ℕ)
@@ -59,8 +61,8 @@ rest_of n bytes = if nat_lt (length bytes) n then None else Some (drop n bytes)
 -- the bytes behind the reference that bytes begin with, if it is whole and of one of the two kinds
 unfoldable pub behind_inline : List ℕ → Option (List ℕ)
 behind_inline bytes =
-    if slice_index bytes 0 == 176 then rest_of 9 bytes
-    else (if slice_index bytes 0 == 178 then rest_of 29 bytes else None)
+    if slice_index bytes 0 == TREE_BLOCK_REF then rest_of INLINE_BLOCK_REF_SIZE bytes
+    else (if slice_index bytes 0 == EXTENT_DATA_REF then rest_of INLINE_DATA_REF_SIZE bytes else None)
 
 -- the references that bytes are, none or more
 abbrev pub inline_refs_of : List ℕ → Option (List InlineRef)
@@ -68,8 +70,8 @@ inline_refs_of bytes = records behind_inline inline_ref_front bytes
 
 -- how many bytes a reference takes
 abbrev pub inline_ref_size : InlineRef → ℕ
-inline_ref_size (TreeBlock root) = 9
-inline_ref_size (DataRef root objectid offset count) = 29
+inline_ref_size (TreeBlock root) = INLINE_BLOCK_REF_SIZE
+inline_ref_size (DataRef root objectid offset count) = INLINE_DATA_REF_SIZE
 
 -- the bytes of a reference
 abbrev pub inline_ref_bytes : InlineRef → List ℕ

@@ -1,6 +1,7 @@
 -- What is written is read again.
 use Rattle.std.specs.Prelude.{◌≡◌, ℕ, List, ◌++◌, Some}
 use Rattle.std.specs.List.{flat_map, AllByRecursion}
+use Rattle.btrfs_format.specs.declared.size.TheConstants.{BLOCK_GROUP_ITEM_SIZE, DEV_EXTENT_SIZE, DEV_ITEM_SIZE, ROOT_ITEM_SIZE, STRIPE_SIZE}
 use Rattle.btr_keys.specs.Layout.{ReadsBack}
 use Rattle.btr_space_items.specs.declared.extent_head.ExtentHead.{ExtentHead}
 use Rattle.btr_space_items.specs.declared.chunk.Chunk.{Chunk}
@@ -16,16 +17,16 @@ use Rattle.btr_space_items.specs.RootRef.{RootRefValue, root_ref_head, root_ref_
 use Rattle.btr_space_items.specs.InlineRef.{FitsInline, inline_refs_of, inline_ref_bytes}
 
 abbrev pub BlockGroupsReadBack : Type 0
-BlockGroupsReadBack = ReadsBack 24 block_group_layout
+BlockGroupsReadBack = ReadsBack BLOCK_GROUP_ITEM_SIZE block_group_layout
 
 abbrev pub DevExtentsReadBack : Type 0
-DevExtentsReadBack = ReadsBack 48 dev_extent_layout
+DevExtentsReadBack = ReadsBack DEV_EXTENT_SIZE dev_extent_layout
 
 abbrev pub DevicesReadBack : Type 0
-DevicesReadBack = ReadsBack 98 device_layout
+DevicesReadBack = ReadsBack DEV_ITEM_SIZE device_layout
 
 abbrev pub StripesReadBack : Type 0
-StripesReadBack = ReadsBack 32 stripe_layout
+StripesReadBack = ReadsBack STRIPE_SIZE stripe_layout
 
 -- whatever stands behind them
 abbrev pub ExtentHeadsReadBack : Type 0
@@ -35,7 +36,7 @@ abbrev pub ChunksReadBack : Type 0
 ChunksReadBack = (chunk : Chunk) → chunk_layout.fits chunk → chunk.num_stripes ≡ 1 → chunk_of (chunk_bytes chunk) ≡ Some chunk
 
 abbrev pub RootItemsReadBack : Type 0
-RootItemsReadBack = ReadsBack 439 root_item_layout
+RootItemsReadBack = ReadsBack ROOT_ITEM_SIZE root_item_layout
 
 abbrev pub RootRefsReadBack : Type 0
 RootRefsReadBack = (r : RootRefValue) → root_ref_head.fits r → root_ref_of (root_ref_bytes r) ≡ Some r

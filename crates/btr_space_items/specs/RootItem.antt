@@ -1,5 +1,6 @@
 -- Bodies of root items, as the Btrfs on-disk format documentation has them (struct btrfs_root_item).
 use Rattle.std.specs.Prelude.{ℕ, List, Option}
+use Rattle.btrfs_format.specs.declared.size.TheConstants.{ROOT_ITEM_SIZE}
 use Rattle.btr_keys.specs.Layout.{Layout, made_by, ◌▸◌, u8, u32, u64, array, part, reserved, whole, spelling}
 use Rattle.btr_keys.specs.Key.{key_layout}
 use Rattle.btr_keys.specs.Stamp.{stamp}
@@ -70,7 +71,7 @@ root_item_layout =
 
 -- the root item that is the whole body
 abbrev pub root_item_of : List ℕ → Option RootItem
-root_item_of body = whole 439 root_item_layout body
+root_item_of body = whole ROOT_ITEM_SIZE root_item_layout body
 
 -- the 439 bytes of a root item
 abbrev pub root_item_bytes : RootItem → List ℕ

@@ -1,5 +1,6 @@
 -- Bodies of root refs and root backrefs, as the Btrfs on-disk format documentation has them (struct btrfs_root_ref).
 use Rattle.std.specs.Prelude.{ℕ, ◌+◌, ◌==◌, nat_lt, if◌then◌else◌, List, length, take, drop, Option, Some, None}
+use Rattle.btrfs_format.specs.declared.size.TheConstants.{ROOT_REF_SIZE}
 use Rattle.btr_keys.specs.vol_block.Volume.{field}
 use Rattle.btr_keys.specs.Layout.{Layout, made_by, ◌▸◌, u16, u64}
 use Rattle.btr_space_items.specs.declared.root_ref.RootRef.{RootRef}
@@ -28,7 +29,7 @@ root_ref_head =
 abbrev pub root_ref_of : List ℕ → Option RootRefValue
 root_ref_of body =
     if nat_lt (length body) 18 then None
-    else (if length body == 18 + field 2 body 16 then Some (root_ref_head.read body (drop 18 body)) else None)
+    else (if length body == ROOT_REF_SIZE + field 2 body 16 then Some (root_ref_head.read body (drop ROOT_REF_SIZE body)) else None)
 
 -- the bytes of a root ref
 abbrev pub root_ref_bytes : RootRefValue → List ℕ

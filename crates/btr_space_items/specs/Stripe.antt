@@ -1,5 +1,6 @@
 -- Stripes of chunks, as the Btrfs on-disk format documentation has them (struct btrfs_stripe).
 use Rattle.std.specs.Prelude.{ℕ, List, drop, Option}
+use Rattle.btrfs_format.specs.declared.size.TheConstants.{STRIPE_SIZE}
 use Rattle.btr_keys.specs.Layout.{Layout, made_by, ◌▸◌, u64, array, whole, spelling}
 use Rattle.btr_space_items.specs.declared.stripe.Stripe.{Stripe}
 
@@ -24,7 +25,7 @@ stripe_at bytes at = stripe_layout.read (drop at bytes)
 
 -- the value that is the whole body
 abbrev pub stripe_of : List ℕ → Option Stripe
-stripe_of body = whole 32 stripe_layout body
+stripe_of body = whole STRIPE_SIZE stripe_layout body
 
 -- the 32 bytes of a value
 abbrev pub stripe_bytes : Stripe → List ℕ

@@ -2,6 +2,7 @@ ghost use Rattle.std.specs.Prelude.{◌≡◌, length};
 ghost use Rattle.btr_space_items.specs.BlockGroup.{block_group_of, block_group_bytes};
 
 use btr_keys::{Field, put_fields, u64_at};
+use btrfs_format::size::BLOCK_GROUP_ITEM_SIZE;
 
 /// The body of a block group, key (logical address, 192, length), both in bytes: 24 bytes, as the Btrfs on-disk format
 /// documentation has it.
@@ -17,7 +18,7 @@ pub struct BlockGroup {
 
 impl BlockGroup {
     /// The bytes of a value.
-    pub const SIZE: usize = 24;
+    pub const SIZE: usize = BLOCK_GROUP_ITEM_SIZE;
 
     /// The value that is the whole body; None exactly where the body has another length than 24 bytes.
     #[tactic(auto, unfolding(crate::specs::BlockGroup::block_group_layout))]

@@ -3,6 +3,7 @@ ghost use Rattle.btr_space_items.specs.Chunk.{chunk_layout, chunk_of, chunk_byte
 
 use crate::stripe::Stripe;
 use btr_keys::{Field, put_fields, u16_at, u32_at, u64_at};
+use btrfs_format::size::{CHUNK_HEAD_SIZE, CHUNK_SIZE, STRIPE_SIZE};
 
 /// The body of a chunk, key (256, 228, logical address in bytes): 48 bytes, and 32 for each stripe, as the Btrfs on-disk
 /// format documentation has it.
@@ -32,7 +33,7 @@ pub struct Chunk {
 
 impl Chunk {
     /// The bytes of a chunk of one stripe.
-    pub const SIZE: usize = 80;
+    pub const SIZE: usize = CHUNK_SIZE;
 
     fn first(bytes: &[u8]) -> Chunk
         requires { 80 ≤ length bytes.now }
@@ -61,7 +62,7 @@ impl Chunk {
             return None;
         }
         let stripes = u16_at(body, 44) as usize;
-        if body.len() == 48 + 32 * stripes {
+        if body.len() == CHUNK_HEAD_SIZE + STRIPE_SIZE * stripes {
             Some(Chunk::first(body))
         } else {
             None

@@ -2,6 +2,7 @@ ghost use Rattle.std.specs.Prelude.{◌≡◌, length};
 ghost use Rattle.btr_space_items.specs.DevExtent.{dev_extent_of, dev_extent_bytes};
 
 use btr_keys::{Field, array_at, put_fields, u64_at};
+use btrfs_format::size::DEV_EXTENT_SIZE;
 
 /// The body of a device extent, key (device, 204, physical address in bytes): 48 bytes, as the Btrfs on-disk format
 /// documentation has it.
@@ -21,7 +22,7 @@ pub struct DevExtent {
 
 impl DevExtent {
     /// The bytes of a value.
-    pub const SIZE: usize = 48;
+    pub const SIZE: usize = DEV_EXTENT_SIZE;
 
     /// The value that is the whole body; None exactly where the body has another length than 48 bytes.
     #[tactic(auto, unfolding(crate::specs::DevExtent::dev_extent_layout))]

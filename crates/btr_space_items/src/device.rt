@@ -2,6 +2,7 @@ ghost use Rattle.std.specs.Prelude.{◌≡◌, ◌+◌, ◌≤◌, length};
 ghost use Rattle.btr_space_items.specs.Device.{device_layout, device_at, device_of, device_bytes};
 
 use btr_keys::{Field, array_at, put_fields, u32_at, u64_at};
+use btrfs_format::size::DEV_ITEM_SIZE;
 
 /// The body of a device, key (1, 216, device): 98 bytes, as the Btrfs on-disk format documentation has it.
 #[derive(Clone, Copy, Debug, PartialEq, Eq)]
@@ -38,7 +39,7 @@ pub struct Device {
 
 impl Device {
     /// The bytes of a value.
-    pub const SIZE: usize = 98;
+    pub const SIZE: usize = DEV_ITEM_SIZE;
 
     /// The value in the 98 bytes from byte `at` on.
     pub fn at(bytes: &[u8], at: usize) -> Device

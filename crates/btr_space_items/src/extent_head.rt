@@ -2,6 +2,7 @@ ghost use Rattle.std.specs.Prelude.{◌≡◌, length};
 ghost use Rattle.btr_space_items.specs.ExtentHead.{extent_head_of, extent_head_bytes};
 
 use btr_keys::{Field, put_fields, u64_at};
+use btrfs_format::size::EXTENT_ITEM_SIZE;
 
 /// The first 24 bytes of an extent, key (logical address, 168, length), or of a metadata extent, key (logical address,
 /// 169, level), as the Btrfs on-disk format documentation has it. References stand behind it.
@@ -17,7 +18,7 @@ pub struct ExtentHead {
 
 impl ExtentHead {
     /// The bytes of a value.
-    pub const SIZE: usize = 24;
+    pub const SIZE: usize = EXTENT_ITEM_SIZE;
 
     /// What a body begins with; None exactly where the body has fewer than 24 bytes.
     #[tactic(auto, unfolding(crate::specs::ExtentHead::extent_head_layout))]

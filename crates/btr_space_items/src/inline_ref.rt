@@ -11,6 +11,8 @@ ghost use Rattle.btr_space_items.specs.InlineRef.{
 };
 
 use btr_keys::{Field, put_fields, u32_at, u64_at};
+use btrfs_format::key::{EXTENT_DATA_REF, TREE_BLOCK_REF};
+use btrfs_format::size::{INLINE_BLOCK_REF_SIZE, INLINE_DATA_REF_SIZE};
 use std::marker::Model;
 
 /// A reference to an extent that stands in the extent's item, as the Btrfs on-disk format documentation has it.
@@ -34,19 +36,14 @@ pub enum InlineRef {
     },
 }
 
-/// The byte that begins a reference to a node.
-const TREE_BLOCK: u8 = 176;
-/// The byte that begins a reference to data.
-const DATA: u8 = 178;
-
 impl InlineRef {
     /// How many bytes the reference takes.
     pub fn size(&self) -> usize
         ensures { result ≡ inline_ref_size self.now }
     {
         match self {
-            InlineRef::TreeBlock { .. } => 9,
-            InlineRef::DataRef { .. } => 29,
+            InlineRef::TreeBlock { .. } => INLINE_BLOCK_REF_SIZE,
+            InlineRef::DataRef { .. } => INLINE_DATA_REF_SIZE,
         }
     }
 
@@ -58,7 +55,7 @@ impl InlineRef {
     {
         match *self {
             InlineRef::TreeBlock { root } => {
-                put_fields(into, &[Field::U8(TREE_BLOCK), Field::U64(root)]);
+                put_fields(into, &[Field::U8(TREE_BLOCK_REF), Field::U64(root)]);
             }
             InlineRef::DataRef {
                 root,
@@ -68,7 +65,7 @@ impl InlineRef {
             } => put_fields(
                 into,
                 &[
-                    Field::U8(DATA),
+                    Field::U8(EXTENT_DATA_REF),
                     Field::U64(root),
                     Field::U64(objectid),
                     Field::U64(offset),
@@ -83,7 +80,7 @@ impl InlineRef {
         requires { IsSome (behind_inline bytes.now) }
         ensures { result ≡ inline_ref_front bytes.now }
     {
-        if bytes[0] == TREE_BLOCK {
+        if bytes[0] == TREE_BLOCK_REF {
             InlineRef::TreeBlock {
                 root: u64_at(bytes, 1),
             }
@@ -104,8 +101,8 @@ fn behind(bytes: &[u8]) -> Option<&[u8]>
     ensures { option_copied result ≡ behind_inline bytes.now }
 {
     match bytes {
-        [TREE_BLOCK, ..] => rest_of(9, bytes),
-        [DATA, ..] => rest_of(29, bytes),
+        [TREE_BLOCK_REF, ..] => rest_of(INLINE_BLOCK_REF_SIZE, bytes),
+        [EXTENT_DATA_REF, ..] => rest_of(INLINE_DATA_REF_SIZE, bytes),
         _ => None,
     }
 }

@@ -4,6 +4,7 @@ ghost use Rattle.btr_keys.specs.vol_block.Volume.{field};
 ghost use Rattle.btr_space_items.specs.RootRef.{root_ref_head, root_ref_value, root_ref_of, root_ref_bytes};
 
 use btr_keys::{Field, put_fields, u16_at, u64_at};
+use btrfs_format::size::ROOT_REF_SIZE;
 
 /// Where a tree stands in a directory of another: the body of a root ref, key (parent tree, 156, tree), and of a root
 /// backref, key (tree, 144, parent tree), as the Btrfs on-disk format documentation has it.
@@ -27,7 +28,7 @@ impl<'a> RootRef<'a> {
             return None;
         }
         let name_length = u16_at(body, 16) as usize;
-        if body.len() == 18 + name_length {
+        if body.len() == ROOT_REF_SIZE + name_length {
             Some(RootRef::first(body))
         } else {
             None
@@ -40,7 +41,7 @@ impl<'a> RootRef<'a> {
         requires name { length body.now ≡ 18 + field 2 body.now 16 }
         ensures { root_ref_value result ≡ root_ref_head.read body.now (drop 18 body.now) }
     {
-        let end = 18 + u16_at(body, 16) as usize;
+        let end = ROOT_REF_SIZE + u16_at(body, 16) as usize;
         RootRef {
             dirid: u64_at(body, 0),
             sequence: u64_at(body, 8),
@@ -52,7 +53,7 @@ impl<'a> RootRef<'a> {
     #[tactic(auto, unfolding(crate::specs::RootRef::root_ref_head))]
     pub fn write(&self, into: &mut [u8])
         requires name { length self.now.name.now < 65536 }
-        requires room { length into.old ≡ 18 + length self.now.name.now }
+        requires room { length into.old ≡ ROOT_REF_SIZE + length self.now.name.now }
         ensures { into.new ≡ root_ref_bytes (root_ref_value self.now) }
     {
         put_fields(

@@ -2,6 +2,7 @@ ghost use Rattle.std.specs.Prelude.{◌≡◌, ◌+◌, ◌≤◌, length};
 ghost use Rattle.btr_space_items.specs.Stripe.{stripe_layout, stripe_at, stripe_of, stripe_bytes};
 
 use btr_keys::{Field, array_at, put_fields, u64_at};
+use btrfs_format::size::STRIPE_SIZE;
 
 /// Where a chunk lies on a device: 32 bytes, as the Btrfs on-disk format documentation has it.
 #[derive(Clone, Copy, Debug, PartialEq, Eq)]
@@ -16,7 +17,7 @@ pub struct Stripe {
 
 impl Stripe {
     /// The bytes of a value.
-    pub const SIZE: usize = 32;
+    pub const SIZE: usize = STRIPE_SIZE;
 
     /// The value in the 32 bytes from byte `at` on.
     pub fn at(bytes: &[u8], at: usize) -> Stripe

@@ -1,15 +1,6 @@
--- The first rule that fails, and checksums' lengths.
-use Rattle.std.proofs.Common.{◌≡◌, ◌↔◌, ℕ, Bool, true, false, List, [], ◌∷◌, ◌++◌, length, Result, Ok, Err, cond, refl, ap, sym, subst}
+-- The first rule that fails.
+use Rattle.btr_super.proofs.Imports.{◌≡◌, ◌↔◌, ℕ, Bool, true, false, List, [], ◌∷◌, ◌++◌, length, Result, Ok, Err, cond, refl, ap, sym, subst, BtrRefusal, failing, unless_refused}
 use Rattle.std.specs.Prelude.{IsOk}
-use Rattle.csum_kinds.specs.Kind.{kind_sum}
-use Rattle.csum_kinds.specs.declared.kind.SumKind.{SumKind}
-use Rattle.csum_kinds.specs.declared.kind.SumKind.TheVariants.{Crc32c}
-use Rattle.refusals.specs.declared.refusal.BtrRefusal.{BtrRefusal}
-use Rattle.btr_super.specs.Rules.{failing, unless_refused}
-
-pub sum_length : (kind : SumKind) (bytes : List ℕ) → length (kind_sum kind bytes) ≡ 32
-unfolding kind_sum
-sum_length Crc32c bytes = refl
 
 abbrev ok : {A : Type 0} → A → Result A BtrRefusal
 ok x = Ok x

@@ -1,8 +1,5 @@
 -- Bytes of a record that belong to no field are passed over.
-use Rattle.std.proofs.Common.{ℕ, List, [], ◌++◌, length, ap, sym, ◌∙◌, arith, append_assoc, length-append}
-use Rattle.std.proofs.lemmas.List.{append-nil}
-use Rattle.btr_space_items.specs.btr_keys.Layout.{Layout}
-use Rattle.btr_space_items.proofs.btr_keys.Layouts.{Reads}
+use Rattle.btr_super.proofs.Imports.{ℕ, List, [], ◌++◌, length, ap, sym, ◌∙◌, arith, append_assoc, length-append, append-nil, Layout, Reads}
 use Rattle.btr_super.specs.Constant.{◌▸▸◌}
 
 infixl 10 ◌▹▹◌

@@ -1,25 +1,9 @@
 -- The copy of a superblock at another place is read there.
-use Rattle.std.proofs.Common.{◌≡◌, ◌<◌, ◌≤◌, ◌+◌, ◌*◌, ◌^◌, ◌%◌, ◌==◌, ℕ, Bool, true, false, ◌&&◌, List, [], ◌∷◌, ◌++◌, length, take, drop, slice_index, codes, nat_eq, nat_lt, nat_le, Ok, Option, Some, None, is_some, refl, ap, sym, ◌∙◌, arith, eq-eqb, length-take, length-drop}
-use Rattle.std.proofs.lemmas.Bool.{lt-ltb}
-use Rattle.std.proofs.lemmas.List.{take_at, drop_at, drop-drop, drop-append-le, drop-take}
-use Rattle.std.specs.List.{starts_with}
-use Rattle.byteorder.specs.Endian.{little_number, little_bytes}
+use Rattle.btr_super.proofs.Imports.{◌≡◌, ◌<◌, ◌≤◌, ◌+◌, ◌*◌, ◌^◌, ◌%◌, ◌==◌, ℕ, Bool, true, false, ◌&&◌, List, [], ◌∷◌, ◌++◌, length, take, drop, slice_index, codes, nat_eq, nat_lt, nat_le, Ok, Option, Some, None, is_some, refl, ap, sym, ◌∙◌, arith, eq-eqb, length-take, length-drop, lt-ltb, take_at, drop_at, drop-drop, drop-append-le, drop-take, starts_with, SUPER_INFO_OFFSET, SUPER_MAGIC_OFFSET, little_number, little_bytes, put_field, has_bytes_at, kind_sum, SumKind, BtrRefusal, device_layout, Super, known_kind, csum_type_of, has_sum, sealed_by, super_layout, super_in, mirror_bytes, is_super, has_fields, bad_field, block_rules, feature_rules, field_rules, failing, super_refusals, unless_refused, super_of, MirrorsRead, length-kind_sum}
 use Rattle.byteorder.specs.Numbers.{little_number-reads_back}
-use Rattle.refusals.specs.vol_block.Volume.{put_field}
-use Rattle.refusals.specs.vol_block.Format.{has_bytes_at}
-use Rattle.csum_kinds.specs.Kind.{kind_sum}
-use Rattle.csum_kinds.specs.declared.kind.SumKind.{SumKind}
-use Rattle.refusals.specs.declared.refusal.BtrRefusal.{BtrRefusal}
 use Rattle.refusals.specs.declared.refusal.BtrRefusal.TheVariants.{BadBtrfs, Unsupported}
 use Rattle.refusals.specs.declared.rule.BtrRule.TheVariants.{SuperCsum}
 use Rattle.refusals.specs.declared.rule.Feature.TheVariants.{ChecksumType}
-use Rattle.btr_space_items.specs.Device.{device_layout}
-use Rattle.btr_super.specs.declared.superblock.Super.{Super}
-use Rattle.btr_super.specs.Sums.{known_kind, csum_type_of, has_sum, sealed_by}
-use Rattle.btr_super.specs.Super.{super_layout, super_in, mirror_bytes}
-use Rattle.btr_super.specs.Rules.{is_super, has_fields, bad_field, block_rules, feature_rules, field_rules, failing, super_refusals, unless_refused, super_of}
-use Rattle.btr_super.specs.Laws.{MirrorsRead}
-use Rattle.btr_super.proofs.Answers.{sum_length}
 use Rattle.btr_super.proofs.ReadBack.{starts_with_front, three_hold}
 
 moved_rest : (c : List ℕ) (x : ℕ) → 24 ≤ length c → drop 24 (take 16 c ++ (little_bytes 8 x ++ drop 24 c)) ≡ drop 24 c
@@ -68,6 +52,7 @@ moved_reads c x long fits =
       label = ap (take 256) (same 243) i;
       cache_generation = ap (little_number 8) (same 499) i;
       uuid_tree_generation = ap (little_number 8) (same 507) i;
+      metadata_uuid = ap (take 16) (same 515) i;
       sys_chunk_array = ap (take 2048) (same 755) i;
       backup_roots = ap (take 672) (same 2803) i;
     }
@@ -129,10 +114,10 @@ unfolding super_of
 mirrors_read block s place device to len is below there =
     let read = unless_ok (super_refusals block place device) (super_in block) s is in
     let held =
-    three_held (is_super block place device) (is_some (known_kind (csum_type_of block))) (has_sum (known_kind (csum_type_of block)) block) bad_field (Unsupported ChecksumType (csum_type_of block)) (BadBtrfs 65536 SuperCsum)
+    three_held (is_super block place device) (is_some (known_kind (csum_type_of block))) (has_sum (known_kind (csum_type_of block)) block) bad_field (Unsupported ChecksumType (csum_type_of block)) (BadBtrfs SUPER_INFO_OFFSET SuperCsum)
     (field_rules (super_in block) place device) read.0 in
     let kind = known_of (known_kind (csum_type_of block)) held.1 in
-    let magic = both_of (nat_lt place device) (has_bytes_at block 64 (codes "_BHRfS_M")) held.0 in
+    let magic = both_of (nat_lt place device) (has_bytes_at block SUPER_MAGIC_OFFSET (codes "_BHRfS_M")) held.0 in
     let c = drop 32 block in
     let x = 4096 * to in
     let moved = put_field 8 block 48 x in
@@ -147,12 +132,12 @@ mirrors_read block s place device to len is below there =
     ap (little_number 2) (sym (drop-drop 164 32 moved) ∙ ap (drop 164) is_covered ∙ sym (drop-drop 140 24 covered) ∙ ap (drop 140) rest ∙ drop-drop 140 24 c ∙ drop-drop 164 32 block) in
     let sealed_is : mirror_bytes to block ≡ copy =
     ap (λ k. sealed_by k moved) (ap known_kind type_moved ∙ kind.1) ∙ ap (λ (z : List ℕ). kind_sum kind.0 z ++ z) is_covered in
-    let behind : drop 32 copy ≡ covered = drop_at sum covered 32 (sum_length kind.0 covered) in
+    let behind : drop 32 copy ≡ covered = drop_at sum covered 32 (length-kind_sum kind.0 covered) in
     let reads : super_in copy ≡ record s { bytenr = x } = ap super_layout.read behind ∙ moved_reads c x long fits ∙ ap (λ (v : Super). record v { bytenr = x }) read.1 in
     let type_is : csum_type_of copy ≡ csum_type_of block =
     ap (little_number 2) (sym (drop-drop 164 32 copy) ∙ ap (drop 164) behind ∙ sym (drop-drop 140 24 covered) ∙ ap (drop 140) rest ∙ drop-drop 140 24 c ∙ drop-drop 164 32 block) in
     let names_kind : known_kind (csum_type_of copy) ≡ Some kind.0 = ap known_kind type_is ∙ kind.1 in
-    let has_magic : has_bytes_at copy 64 (codes "_BHRfS_M") ≡ true =
+    let has_magic : has_bytes_at copy SUPER_MAGIC_OFFSET (codes "_BHRfS_M") ≡ true =
     ap (λ (z : List ℕ). starts_with nat_eq z (codes "_BHRfS_M")) (sym (drop-drop 32 32 copy) ∙ ap (drop 32) behind ∙ sym (drop-drop 8 24 covered) ∙ ap (drop 8) rest ∙ drop-drop 8 24 c ∙ drop-drop 32 32 block) ∙ magic.1 in
     let first : is_super copy to device ≡ true = ap (λ (b : Bool). nat_lt to device && b) has_magic ∙ ap (λ (b : Bool). b && true) (lt-ltb to device there) in
     let second : is_some (known_kind (csum_type_of copy)) ≡ true = ap is_some names_kind in

@@ -1,22 +1,6 @@
 -- A superblock that is written is read again.
-use Rattle.std.proofs.Common.{◌≡◌, ℕ, Bool, true, ◌&&◌, List, [], ◌∷◌, ◌++◌, length, drop, replicate, codes, nat_eq, nat_lt, Ok, Some, is_some, refl, ap, sym, ◌∙◌, eq-eqb}
-use Rattle.std.proofs.lemmas.Bool.{lt-ltb}
-use Rattle.std.proofs.lemmas.List.{drop_at, drop-drop}
-use Rattle.std.specs.List.{starts_with}
-use Rattle.byteorder.specs.Endian.{little_number, little_bytes}
-use Rattle.refusals.specs.vol_block.Volume.{field}
-use Rattle.refusals.specs.vol_block.Format.{has_bytes_at}
-use Rattle.csum_kinds.specs.Kind.{kind_sum}
-use Rattle.refusals.specs.declared.refusal.BtrRefusal.{BtrRefusal}
-use Rattle.btr_space_items.specs.btr_keys.Layout.{spelling}
-use Rattle.btr_space_items.proofs.btr_keys.Layouts.{Reads, start, ◌▹◌, u8_reads, u16_reads, u32_reads, u64_reads, array_reads, part_reads}
+use Rattle.btr_super.proofs.Imports.{◌≡◌, ℕ, Bool, true, ◌&&◌, List, [], ◌∷◌, ◌++◌, length, drop, replicate, codes, nat_eq, nat_lt, Ok, Some, is_some, refl, ap, sym, ◌∙◌, eq-eqb, lt-ltb, drop_at, drop-drop, starts_with, SUPER_MAGIC_OFFSET, little_number, little_bytes, field, has_bytes_at, kind_sum, BtrRefusal, spelling, Reads, start, ◌▹◌, u8_reads, u16_reads, u32_reads, u64_reads, array_reads, part_reads, Super, known_kind, csum_type_of, has_sum, sealed_by, super_layout, make_super, super_in, super_bytes, is_super, block_rules, field_rules, failing, unless_refused, super_of, SupersReadBack, length-kind_sum}
 use Rattle.btr_space_items.proofs.Records.{device_reads}
-use Rattle.btr_super.specs.declared.superblock.Super.{Super}
-use Rattle.btr_super.specs.Sums.{known_kind, csum_type_of, has_sum, sealed_by}
-use Rattle.btr_super.specs.Super.{super_layout, make_super, super_in, super_bytes}
-use Rattle.btr_super.specs.Rules.{is_super, block_rules, field_rules, failing, unless_refused, super_of}
-use Rattle.btr_super.specs.Laws.{SupersReadBack}
-use Rattle.btr_super.proofs.Answers.{sum_length}
 use Rattle.btr_super.proofs.Constants.{◌▹▹◌}
 
 pub super_reads : Reads super_layout (λ s. s)
@@ -53,7 +37,8 @@ super_reads =
     ▹ array_reads {n = 256} {get = λ s. s.label}
     ▹ u64_reads {get = λ s. s.cache_generation}
     ▹ u64_reads {get = λ s. s.uuid_tree_generation}
-    ▹▹ replicate 240 0
+    ▹ array_reads {n = 16} {get = λ s. s.metadata_uuid}
+    ▹▹ replicate 224 0
     ▹ array_reads {n = 2048} {get = λ s. s.sys_chunk_array}
     ▹ array_reads {n = 672} {get = λ s. s.backup_roots}
     ▹▹ replicate 565 0
@@ -73,7 +58,7 @@ magic_there id rest bytenr flags len = ap (λ (z : List ℕ). starts_with nat_eq
 
 magic_in : (s : Super) → super_layout.fits s → has_bytes_at (spelling super_layout s) 32 (codes "_BHRfS_M") ≡ true
 unfolding super_layout
-magic_in s fits = magic_there s.fsid _ s.bytenr s.flags fits.0.0.0.0.0.0.0.0.0.0.0.0.0.0.0.0.0.0.0.0.0.0.0.0.0.0.0.0.0.0.1
+magic_in s fits = magic_there s.fsid _ s.bytenr s.flags fits.0.0.0.0.0.0.0.0.0.0.0.0.0.0.0.0.0.0.0.0.0.0.0.0.0.0.0.0.0.0.0.1
 
 pub starts_with_front : (front rest : List ℕ) → starts_with nat_eq (front ++ rest) front ≡ true
 starts_with_front [] rest = refl
@@ -91,11 +76,11 @@ supers_read_back s kind place device fits known there fields =
     let type_is : field 2 covered 164 ≡ s.csum_type = type_in covered ∙ ap (λ (v : Super). v.csum_type) (super_reads.back s [] fits) in
     let kind_is : known_kind (field 2 covered 164) ≡ Some kind = ap known_kind type_is ∙ known in
     let is_block : super_bytes s ≡ block = ap (λ k. sealed_by k (replicate 32 0 ++ covered)) kind_is in
-    let behind : drop 32 block ≡ covered = drop_at sum covered 32 (sum_length kind covered) in
+    let behind : drop 32 block ≡ covered = drop_at sum covered 32 (length-kind_sum kind covered) in
     let reads : super_in block ≡ s = ap super_layout.read behind ∙ super_reads.back s [] fits in
     let named : csum_type_of block ≡ field 2 covered 164 = ap (little_number 2) (sym (drop-drop 164 32 block) ∙ ap (drop 164) behind) in
     let names_kind : known_kind (csum_type_of block) ≡ Some kind = ap known_kind named ∙ kind_is in
-    let magic : has_bytes_at block 64 (codes "_BHRfS_M") ≡ true =
+    let magic : has_bytes_at block SUPER_MAGIC_OFFSET (codes "_BHRfS_M") ≡ true =
     ap (λ (z : List ℕ). starts_with nat_eq z (codes "_BHRfS_M")) (sym (drop-drop 32 32 block) ∙ ap (drop 32) behind) ∙ magic_in s fits in
     let first : is_super block place device ≡ true = ap (λ (b : Bool). nat_lt place device && b) magic ∙ ap (λ (b : Bool). b && true) (lt-ltb place device there) in
     let second : is_some (known_kind (csum_type_of block)) ≡ true = ap is_some names_kind in

@@ -1,5 +1,8 @@
 -- The rules of a superblock that is read, each a test and what is answered where it fails, in their order.
 use Rattle.std.specs.Prelude.{ℕ, ◌+◌, ◌-◌, ◌*◌, ◌%◌, ◌^◌, ◌==◌, nat_lt, nat_le, Bool, ◌&&◌, ◌||◌, if◌then◌else◌, bit_and, List, [], ◌∷◌, ◌++◌, codes, is_some, Result, Ok, Err}
+use Rattle.btrfs_format.specs.declared.block.TheConstants.{SUPER_INFO_OFFSET, SUPER_MAGIC_OFFSET}
+use Rattle.btrfs_format.specs.declared.feature.TheConstants.{BIG_METADATA, COMPRESS_LZO, COMPRESS_ZSTD, DEFAULT_SUBVOL, EXTENDED_IREF, METADATA_UUID, MIXED_BACKREF, NO_HOLES, SIMPLE_QUOTA, SKINNY_METADATA}
+use Rattle.btrfs_format.specs.declared.size.TheConstants.{SYSTEM_CHUNK_ARRAY_SIZE}
 use Rattle.refusals.specs.declared.refusal.BtrRefusal.{BtrRefusal}
 use Rattle.refusals.specs.declared.refusal.BtrRefusal.TheVariants.{BadBtrfs, Unsupported, LogPending}
 use Rattle.refusals.specs.declared.rule.BtrRule.TheVariants.{SuperCsum, SuperField}
@@ -11,11 +14,11 @@ use Rattle.btr_super.specs.Super.{super_in}
 
 -- whatever the place is, a refusal names the address of the first superblock
 abbrev pub bad_field : BtrRefusal
-bad_field = BadBtrfs 65536 SuperField
+bad_field = BadBtrfs SUPER_INFO_OFFSET SuperField
 
 -- the device has such a block, and the block has the magic of Btrfs
 abbrev pub is_super : List ℕ → ℕ → ℕ → Bool
-is_super block place device = nat_lt place device && has_bytes_at block 64 (codes "_BHRfS_M")
+is_super block place device = nat_lt place device && has_bytes_at block SUPER_MAGIC_OFFSET (codes "_BHRfS_M")
 
 -- its address is its own, the trees have at most seven levels above their leaves, the bootstrap array has its room, and
 -- the volume lies on the device, in whole blocks, of which there are at most 2^36
@@ -23,36 +26,12 @@ abbrev pub has_fields : Super → ℕ → ℕ → Bool
 has_fields s place device =
     (s.bytenr == 4096 * place)
     && (nat_le s.root_level 7 && (nat_le s.chunk_root_level 7 && (nat_le s.log_root_level 7
-    && (nat_le s.sys_chunk_array_size 2048
+    && (nat_le s.sys_chunk_array_size SYSTEM_CHUNK_ARRAY_SIZE
     && (nat_le s.total_bytes (4096 * device) && (nat_le s.total_bytes (2 ^ 48) && (s.total_bytes % 4096 == 0)))))))
 
 -- the bits of the incompatible features that are read
-abbrev pub mixed_backrefs : ℕ
-mixed_backrefs = 0x1
-
-abbrev pub default_subvolume : ℕ
-default_subvolume = 0x2
-
-abbrev pub compress_lzo : ℕ
-compress_lzo = 0x8
-
-abbrev pub compress_zstd : ℕ
-compress_zstd = 0x10
-
-abbrev pub big_metadata : ℕ
-big_metadata = 0x20
-
-abbrev pub extended_inode_refs : ℕ
-extended_inode_refs = 0x40
-
-abbrev pub skinny_metadata : ℕ
-skinny_metadata = 0x100
-
-abbrev pub no_holes : ℕ
-no_holes = 0x200
-
 abbrev pub read_bits : ℕ
-read_bits = mixed_backrefs + default_subvolume + compress_lzo + compress_zstd + big_metadata + extended_inode_refs + skinny_metadata + no_holes
+read_bits = MIXED_BACKREF + DEFAULT_SUBVOL + COMPRESS_LZO + COMPRESS_ZSTD + BIG_METADATA + EXTENDED_IREF + SKINNY_METADATA + NO_HOLES + METADATA_UUID + SIMPLE_QUOTA
 
 -- the bits of other features, in a field of 64 bits
 abbrev pub unread_bits : ℕ → ℕ
@@ -66,7 +45,7 @@ abbrev pub block_rules : List ℕ → ℕ → ℕ → List (Bool × BtrRefusal)
 block_rules block place device =
     (is_super block place device, bad_field)
     ∷ (is_some (known_kind (csum_type_of block)), Unsupported ChecksumType (csum_type_of block))
-    ∷ (has_sum (known_kind (csum_type_of block)) block, BadBtrfs 65536 SuperCsum)
+    ∷ (has_sum (known_kind (csum_type_of block)) block, BadBtrfs SUPER_INFO_OFFSET SuperCsum)
     ∷ []
 
 -- it has no feature that is not read

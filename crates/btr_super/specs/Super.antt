@@ -1,5 +1,6 @@
 -- The superblock, as the Btrfs on-disk format documentation has it (struct btrfs_super_block).
-use Rattle.std.specs.Prelude.{ℕ, ◌*◌, List, ◌++◌, drop, codes, replicate}
+use Rattle.std.specs.Prelude.{ℕ, ◌*◌, ◌==◌, bit_and, if◌then◌else◌, List, ◌++◌, drop, codes, replicate}
+use Rattle.btrfs_format.specs.declared.feature.TheConstants.{METADATA_UUID}
 use Rattle.refusals.specs.vol_block.Volume.{put_field}
 use Rattle.btr_space_items.specs.btr_keys.Layout.{Layout, made_by, ◌▸◌, u8, u16, u32, u64, array, part, spelling}
 use Rattle.btr_space_items.specs.Device.{device_layout}
@@ -8,8 +9,8 @@ use Rattle.btr_super.specs.declared.superblock.Super.{Super}
 use Rattle.btr_super.specs.Constant.{◌▸▸◌}
 use Rattle.btr_super.specs.Sums.{sealed}
 
-abbrev pub make_super : List ℕ → ℕ → ℕ → ℕ → ℕ → ℕ → ℕ → ℕ → ℕ → ℕ → ℕ → ℕ → ℕ → ℕ → ℕ → ℕ → ℕ → ℕ → ℕ → ℕ → ℕ → ℕ → ℕ → ℕ → ℕ → Device → List ℕ → ℕ → ℕ → List ℕ → List ℕ → Super
-make_super fsid bytenr flags generation root chunk_root log_root log_root_transid total_bytes bytes_used root_dir_objectid num_devices sectorsize nodesize leafsize stripesize sys_chunk_array_size chunk_root_generation compat compat_ro incompat csum_type root_level chunk_root_level log_root_level dev_item label cache_generation uuid_tree_generation sys_chunk_array backup_roots =
+abbrev pub make_super : List ℕ → ℕ → ℕ → ℕ → ℕ → ℕ → ℕ → ℕ → ℕ → ℕ → ℕ → ℕ → ℕ → ℕ → ℕ → ℕ → ℕ → ℕ → ℕ → ℕ → ℕ → ℕ → ℕ → ℕ → ℕ → Device → List ℕ → ℕ → ℕ → List ℕ → List ℕ → List ℕ → Super
+make_super fsid bytenr flags generation root chunk_root log_root log_root_transid total_bytes bytes_used root_dir_objectid num_devices sectorsize nodesize leafsize stripesize sys_chunk_array_size chunk_root_generation compat compat_ro incompat csum_type root_level chunk_root_level log_root_level dev_item label cache_generation uuid_tree_generation metadata_uuid sys_chunk_array backup_roots =
     record {
       fsid = fsid;
       bytenr = bytenr;
@@ -40,6 +41,7 @@ make_super fsid bytenr flags generation root chunk_root log_root log_root_transi
       label = label;
       cache_generation = cache_generation;
       uuid_tree_generation = uuid_tree_generation;
+      metadata_uuid = metadata_uuid;
       sys_chunk_array = sys_chunk_array;
       backup_roots = backup_roots;
     }
@@ -78,7 +80,8 @@ super_layout =
     ▸ array 256 (λ s. s.label)
     ▸ u64 (λ s. s.cache_generation)
     ▸ u64 (λ s. s.uuid_tree_generation)
-    ▸▸ replicate 240 0
+    ▸ array 16 (λ s. s.metadata_uuid)
+    ▸▸ replicate 224 0
     ▸ array 2048 (λ s. s.sys_chunk_array)
     ▸ array 672 (λ s. s.backup_roots)
     ▸▸ replicate 565 0
@@ -94,3 +97,8 @@ super_bytes s = sealed (replicate 32 0 ++ spelling super_layout s)
 -- the same superblock at another place, a number of a block: with its address in bytes, and its checksum
 abbrev pub mirror_bytes : ℕ → List ℕ → List ℕ
 mirror_bytes place block = sealed (put_field 8 block 48 (4096 * place))
+
+-- The identifier that the nodes of the volume have: the file system's, unless the feature METADATA_UUID says that this was changed
+-- behind them; it is then in a field of its own.
+abbrev pub node_fsid : Super → List ℕ
+node_fsid s = if bit_and s.incompat METADATA_UUID == 0 then s.fsid else s.metadata_uuid

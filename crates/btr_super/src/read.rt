@@ -15,40 +15,29 @@ ghost use Rattle.btr_super.specs.Rules.{
 };
 
 use crate::sums::{has_sum, sum_kind};
-use crate::superblock::{MAGIC, Super};
+use crate::superblock::Super;
+use btrfs_format::block::{MAGIC, SUPER_INFO_OFFSET, SUPER_MAGIC_OFFSET};
+use btrfs_format::feature::{
+    BIG_METADATA, COMPRESS_LZO, COMPRESS_ZSTD, DEFAULT_SUBVOL, EXTENDED_IREF, METADATA_UUID,
+    MIXED_BACKREF, NO_HOLES, SIMPLE_QUOTA, SKINNY_METADATA,
+};
+use btrfs_format::size::SYSTEM_CHUNK_ARRAY_SIZE;
 use refusals::{Block, BlockNo, BtrRefusal, BtrRule, Feature, u16_at};
 
-/// The address of the first superblock in bytes, which each refusal names.
-const ADDRESS: u64 = 65536;
-
 /// The bits of the incompatible features that are read.
-const MIXED_BACKREFS: u64 = 0x1;
-
-const DEFAULT_SUBVOLUME: u64 = 0x2;
-
-const COMPRESS_LZO: u64 = 0x8;
-
-const COMPRESS_ZSTD: u64 = 0x10;
-
-const BIG_METADATA: u64 = 0x20;
-
-const EXTENDED_INODE_REFS: u64 = 0x40;
-
-const SKINNY_METADATA: u64 = 0x100;
-
-const NO_HOLES: u64 = 0x200;
-
-const READ: u64 = MIXED_BACKREFS
-    | DEFAULT_SUBVOLUME
+const READ: u64 = MIXED_BACKREF
+    | DEFAULT_SUBVOL
     | COMPRESS_LZO
     | COMPRESS_ZSTD
     | BIG_METADATA
-    | EXTENDED_INODE_REFS
+    | EXTENDED_IREF
     | SKINNY_METADATA
-    | NO_HOLES;
+    | NO_HOLES
+    | METADATA_UUID
+    | SIMPLE_QUOTA;
 
 const BAD_FIELD: BtrRefusal = BtrRefusal::BadBtrfs {
-    address: ADDRESS,
+    address: SUPER_INFO_OFFSET,
     rule: BtrRule::SuperField,
 };
 
@@ -102,7 +91,7 @@ impl Super {
             && self.root_level <= 7
             && self.chunk_root_level <= 7
             && self.log_root_level <= 7
-            && self.sys_chunk_array_size <= 2048
+            && self.sys_chunk_array_size <= SYSTEM_CHUNK_ARRAY_SIZE as u32
             && self.total_bytes / 4096 <= device
             && self.total_bytes <= 1 << 48
             && self.total_bytes % 4096 == 0
@@ -135,7 +124,7 @@ fn check_block(block: &Block, place: BlockNo, device: u64) -> Result<(), BtrRefu
     };
     if !has_sum(kind, &block.bytes) {
         return Err(BtrRefusal::BadBtrfs {
-            address: ADDRESS,
+            address: SUPER_INFO_OFFSET,
             rule: BtrRule::SuperCsum,
         });
     }
@@ -143,15 +132,15 @@ fn check_block(block: &Block, place: BlockNo, device: u64) -> Result<(), BtrRefu
 }
 
 fn is_super(block: &[u8], place: BlockNo, device: u64) -> bool
-    requires { 64 ≤ length block.now }
+    requires { SUPER_MAGIC_OFFSET ≤ length block.now }
     ensures { result ≡ is_super block.now place device }
 {
     place < device && has_magic(block)
 }
 
 fn has_magic(block: &[u8]) -> bool
-    requires { 64 ≤ length block.now }
-    ensures { result ≡ has_bytes_at block.now 64 (codes "_BHRfS_M") }
+    requires { SUPER_MAGIC_OFFSET ≤ length block.now }
+    ensures { result ≡ has_bytes_at block.now SUPER_MAGIC_OFFSET (codes "_BHRfS_M") }
 {
-    block[64..].starts_with(MAGIC)
+    block[SUPER_MAGIC_OFFSET..].starts_with(MAGIC)
 }

@@ -1,6 +1,8 @@
 ghost use Rattle.std.specs.Prelude.{◌≡◌, ◌≤◌, drop, length, Some};
-ghost use Rattle.btr_super.specs.Sums.{known_kind, kind_number, has_sum, behind_sum, sealed};
+ghost use Rattle.btr_super.specs.Sums.{known_kind, csum_number, has_sum, behind_sum, sealed};
 
+use btrfs_format::feature::{CSUM_TYPE_CRC32, CSUM_TYPE_SHA256};
+use btrfs_format::size::CSUM_SIZE;
 use csum_kinds::{SumKind, kind_sum};
 use refusals::{Block, u16_at};
 
@@ -9,26 +11,28 @@ pub fn sum_kind(csum_type: u16) -> Option<SumKind>
     ensures { result ≡ known_kind csum_type }
 {
     match csum_type {
-        0 => Some(SumKind::Crc32c),
+        CSUM_TYPE_CRC32 => Some(SumKind::Crc32c),
+        CSUM_TYPE_SHA256 => Some(SumKind::Sha256),
         _ => None,
     }
 }
 
 /// What the superblock's field `csum_type` is for a kind of checksum.
 pub fn csum_type(kind: SumKind) -> u16
-    ensures { result ≡ kind_number kind }
+    ensures { result ≡ csum_number kind }
 {
     match kind {
-        SumKind::Crc32c => 0,
+        SumKind::Crc32c => CSUM_TYPE_CRC32,
+        SumKind::Sha256 => CSUM_TYPE_SHA256,
     }
 }
 
 /// Whether a block begins with its checksum.
 pub(crate) fn has_sum(kind: SumKind, block: &[u8]) -> bool
-    requires { 32 ≤ length block.now }
+    requires { CSUM_SIZE ≤ length block.now }
     ensures { result ≡ has_sum (Some kind) block.now }
 {
-    let sum = kind_sum(kind, &block[32..]);
+    let sum = kind_sum(kind, &block[CSUM_SIZE..]);
     block.starts_with(&sum)
 }
 
@@ -43,9 +47,9 @@ pub(crate) fn seal(block: &mut Block)
 }
 
 fn put_sum(kind: SumKind, block: &mut [u8])
-    requires { 32 ≤ length block.old }
-    ensures { block.new ≡ behind_sum kind (drop 32 block.old) }
+    requires { CSUM_SIZE ≤ length block.old }
+    ensures { block.new ≡ behind_sum kind (drop CSUM_SIZE block.old) }
 {
-    let sum = kind_sum(kind, &block[32..]);
-    block[..32].copy_from_slice(&sum);
+    let sum = kind_sum(kind, &block[CSUM_SIZE..]);
+    block[..CSUM_SIZE].copy_from_slice(&sum);
 }

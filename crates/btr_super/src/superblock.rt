@@ -1,10 +1,12 @@
 ghost use Rattle.std.specs.Prelude.{◌≡◌, ◌<◌, ◌≤◌, ◌^◌, ◌++◌, replicate, length};
 ghost use Rattle.btr_space_items.specs.btr_keys.Layout.{spelling};
 ghost use Rattle.btr_space_items.specs.Device.{device_bytes};
-ghost use Rattle.btr_super.specs.Super.{super_layout, super_in, super_bytes, mirror_bytes};
+ghost use Rattle.btr_super.specs.Super.{super_layout, super_in, super_bytes, mirror_bytes, node_fsid};
 
 use crate::sums::seal;
 use btr_space_items::Device;
+use btrfs_format::block::MAGIC;
+use btrfs_format::feature::METADATA_UUID;
 use refusals::{Block, BlockNo, Field, array_at, put_fields, put_u64, u16_at, u32_at, u64_at};
 
 /// The superblock of a Btrfs volume: block 16 and the copies of it, as the Btrfs on-disk format documentation has it.
@@ -68,14 +70,13 @@ pub struct Super {
     pub cache_generation: u64,
     /// The transaction of the tree of identifiers.
     pub uuid_tree_generation: u64,
+    /// With the feature METADATA_UUID the identifier that the nodes have; else not used.
+    pub metadata_uuid: [u8; 16],
     /// The bootstrap array: keys and bodies of the system chunks, one after the other.
     pub sys_chunk_array: [u8; 2048],
     /// Four older sets of roots.
     pub backup_roots: [u8; 672],
 }
-
-/// The bytes by which a superblock is known.
-pub(crate) const MAGIC: &[u8] = b"_BHRfS_M";
 
 impl Super {
     /// The superblock that a block is, whatever its rules say.
@@ -113,8 +114,21 @@ impl Super {
             label: array_at(bytes, 299),
             cache_generation: u64_at(bytes, 555),
             uuid_tree_generation: u64_at(bytes, 563),
+            metadata_uuid: array_at(bytes, 571),
             sys_chunk_array: array_at(bytes, 811),
             backup_roots: array_at(bytes, 2859),
+        }
+    }
+
+    /// The identifier that the nodes of the volume have: the file system's, or where that was changed later the one that
+    /// the volume was made with.
+    pub fn node_fsid(&self) -> [u8; 16]
+        ensures { result ≡ node_fsid self.now }
+    {
+        if self.incompat & METADATA_UUID == 0 {
+            self.fsid
+        } else {
+            self.metadata_uuid
         }
     }
 
@@ -168,7 +182,8 @@ impl Super {
                 Field::Bytes(&self.label),
                 Field::U64(self.cache_generation),
                 Field::U64(self.uuid_tree_generation),
-                Field::Zeros(240),
+                Field::Bytes(&self.metadata_uuid),
+                Field::Zeros(224),
                 Field::Bytes(&self.sys_chunk_array),
                 Field::Bytes(&self.backup_roots),
                 Field::Zeros(565),

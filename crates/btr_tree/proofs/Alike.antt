@@ -1,33 +1,10 @@
 -- A tree on two disks, or by two maps, that have the same nodes.
-use Rattle.std.proofs.Common.{◌≡◌, ℕ, zero, suc, Bool, List, [], ◌∷◌, ◌++◌, if◌then◌else◌, map, None, refl, ◌∙◌, ap, subst}
-use Rattle.std.specs.List.{All, flat_map}
-use Rattle.std.proofs.lemmas.List.Elements.{All-nil, All-cons, All-head, All-tail}
-use Rattle.btr_node.specs.outside.History.{Image}
-use Rattle.btr_node.specs.refusals.declared.refusal.BtrRefusal.{BtrRefusal}
-use Rattle.btr_node.specs.refusals.declared.rule.BtrRule.{BtrRule}
+use Rattle.btr_tree.proofs.Imports.{◌≡◌, ℕ, zero, suc, Bool, List, [], ◌∷◌, ◌++◌, if◌then◌else◌, map, None, refl, ◌∙◌, ap, subst, flat_map, All-head, All-tail, Image, BtrRefusal, BtrRule, items_in, children_in, Child, Form, NodePointer, MapRange, is_mapped, node_at, want, content_damages, node_damages, TreeEvent, node, leaf_events, unless_damaged, node_events, nodes_in, walk_events, may_be_bare, items_in_events, tree_items, pointer_damages, at_address, node_faults, order_damages, when_sound, bare_item, nodes_in-append, to}
+use Rattle.std.specs.List.{All}
 use Rattle.btr_node.specs.refusals.declared.rule.BtrRule.TheVariants.{Unmapped}
-use Rattle.btr_node.specs.Leaf.{items_in}
-use Rattle.btr_node.specs.Inner.{children_in}
-use Rattle.btr_node.specs.declared.child.Child.{Child}
-use Rattle.btr_reader_walk.specs.declared.tree.Form.{Form}
-use Rattle.btr_reader_walk.specs.declared.tree.Pointer.{Pointer}
-use Rattle.btr_reader_walk.specs.declared.map.MapRange.{MapRange}
-use Rattle.btr_reader_walk.specs.Map.{is_mapped, node_at}
-use Rattle.btr_reader_walk.specs.Node.{want, content_damages, node_damages}
-use Rattle.btr_reader_walk.specs.Events.{Event, node, leaf_events, unless_damaged, node_events, nodes_in, tree_events, may_be_bare, items_in_events}
-use Rattle.btr_reader_walk.specs.Tree.{tree_items, pointer_damages, at_address, node_faults, order_damages, when_sound, bare_item}
-use Rattle.btr_reader_walk.proofs.Events.{nodes_in-append}
-use Rattle.btr_reader_walk.proofs.Subtrees.{to}
+use Rattle.btr_tree.proofs.Wholes.{all_first, all_second}
 
-all_first : {X : Type 0} (P : X → Type 0) (xs ys : List X) → All P (xs ++ ys) → All P xs
-all_first P [] ys all = All-nil P
-all_first P (x ∷ xs) ys all = All-cons P x xs (All-head P x (xs ++ ys) all) (all_first P xs ys (All-tail P x (xs ++ ys) all))
-
-all_second : {X : Type 0} (P : X → Type 0) (xs ys : List X) → All P (xs ++ ys) → All P ys
-all_second P [] ys all = all
-all_second P (x ∷ xs) ys all = all_second P xs ys (All-tail P x (xs ++ ys) all)
-
-children_same : (P : Pointer → Type 0) (f g : Child → List Event) → ((c : Child) → All P (nodes_in (f c)) → g c ≡ f c) → (children : List Child)
+children_same : (P : NodePointer → Type 0) (f g : Child → List TreeEvent) → ((c : Child) → All P (nodes_in (f c)) → g c ≡ f c) → (children : List Child)
     → All P (nodes_in (flat_map f children)) → flat_map g children ≡ flat_map f children
 children_same P f g each [] all = refl
 children_same P f g each (c ∷ cs) all =
@@ -35,18 +12,18 @@ children_same P f g each (c ∷ cs) all =
     ap (λ z. z ++ flat_map g cs) (each c (all_first P (nodes_in (f c)) (nodes_in (flat_map f cs)) parts))
     ∙ ap (λ z. f c ++ z) (children_same P f g each cs (all_second P (nodes_in (f c)) (nodes_in (flat_map f cs)) parts))
 
-unless_same : (P : Pointer → Type 0) (d : List BtrRule) (xs ys : List Event) → (All P (nodes_in xs) → ys ≡ xs) → All P (nodes_in (unless_damaged d xs))
+unless_same : (P : NodePointer → Type 0) (d : List BtrRule) (xs ys : List TreeEvent) → (All P (nodes_in xs) → ys ≡ xs) → All P (nodes_in (unless_damaged d xs))
     → unless_damaged d ys ≡ unless_damaged d xs
 unless_same P [] xs ys same all = same all
 unless_same P (rule ∷ rules) xs ys same all = refl
 
 -- the nodes that a tree has by one disk and map have the same bytes by the other, and are mapped there too
-module _ (image : Image) (ranges : List MapRange) (other : Image) (others : List MapRange) (form : Form) (P : Pointer → Type 0) (node_same : (p : Pointer) → P p → node_at other others form.nodesize p.address ≡ node_at image ranges form.nodesize p.address) (mapped_same : (p : Pointer) → P p → is_mapped others form.nodesize p.address ≡ is_mapped ranges form.nodesize p.address) where
+module _ (image : Image) (ranges : List MapRange) (other : Image) (others : List MapRange) (form : Form) (P : NodePointer → Type 0) (node_same : (p : NodePointer) → P p → node_at other others form.nodesize p.address ≡ node_at image ranges form.nodesize p.address) (mapped_same : (p : NodePointer) → P p → is_mapped others form.nodesize p.address ≡ is_mapped ranges form.nodesize p.address) where
   module _ (owner : ℕ) (bare : Bool) where
-    abbrev breaks : Bool → Pointer → List ℕ → List BtrRule
+    abbrev breaks : Bool → NodePointer → List ℕ → List BtrRule
     breaks b p bytes = if b then content_damages (want form owner p) bare bytes else Unmapped ∷ []
 
-    damages_same : (p : Pointer) → P p → node_damages other others form owner bare p ≡ node_damages image ranges form owner bare p
+    damages_same : (p : NodePointer) → P p → node_damages other others form owner bare p ≡ node_damages image ranges form owner bare p
     unfolding node_damages
     damages_same p is =
         ap (λ (b : Bool). breaks b p (node_at other others form.nodesize p.address)) (mapped_same p is) ∙ ap (breaks (is_mapped ranges form.nodesize p.address) p) (node_same p is)
@@ -58,32 +35,32 @@ module _ (image : Image) (ranges : List MapRange) (other : Image) (others : List
         ap (λ (d : List BtrRule). node (to a zero g) ∷ unless_damaged d (leaf_events a (items_in (node_at other others form.nodesize a)))) (damages_same (to a zero g) same)
         ∙ ap (λ (bytes : List ℕ). node (to a zero g) ∷ unless_damaged (node_damages image ranges form owner bare (to a zero g)) (leaf_events a (items_in bytes))) (node_same (to a zero g) same)
     events_same (suc level) a g all =
-        let p : Pointer = to a (suc level) g in
-        let old : Child → List Event = λ c. node_events image ranges form owner bare level c.address c.generation in
-        let new : Child → List Event = λ c. node_events other others form owner bare level c.address c.generation in
+        let p : NodePointer = to a (suc level) g in
+        let old : Child → List TreeEvent = λ c. node_events image ranges form owner bare level c.address c.generation in
+        let new : Child → List TreeEvent = λ c. node_events other others form owner bare level c.address c.generation in
         let same = All-head P p _ all in
         let children : List Child = children_in (node_at image ranges form.nodesize a) in
         ap (λ (d : List BtrRule). node p ∷ unless_damaged d (flat_map new (children_in (node_at other others form.nodesize a)))) (damages_same p same)
         ∙ (ap (λ (bytes : List ℕ). node p ∷ unless_damaged (node_damages image ranges form owner bare p) (flat_map new (children_in bytes))) (node_same p same)
-        ∙ ap (λ (z : List Event). node p ∷ z)
+        ∙ ap (λ (z : List TreeEvent). node p ∷ z)
         (unless_same P (node_damages image ranges form owner bare p) (flat_map old children) (flat_map new children)
         (children_same P old new (λ c. events_same level c.address c.generation) children)
         (All-tail P p _ all)))
 
-    faults_same : (ps : List Pointer) → All P ps → flat_map (pointer_damages other others form owner bare) ps ≡ flat_map (pointer_damages image ranges form owner bare) ps
+    faults_same : (ps : List NodePointer) → All P ps → flat_map (pointer_damages other others form owner bare) ps ≡ flat_map (pointer_damages image ranges form owner bare) ps
     faults_same [] all = refl
     faults_same (p ∷ ps) all =
         ap (λ (d : List BtrRule). at_address p.address d ++ flat_map (pointer_damages other others form owner bare) ps) (damages_same p (All-head P p ps all))
         ∙ ap (λ ds. pointer_damages image ranges form owner bare p ++ ds) (faults_same ps (All-tail P p ps all))
 
   -- the whole tree
-  pub events_alike : (root : Pointer) (owner : ℕ) → All P (nodes_in (tree_events image ranges form root owner)) → tree_events other others form root owner ≡ tree_events image ranges form root owner
+  pub events_alike : (root : NodePointer) (owner : ℕ) → All P (nodes_in (walk_events image ranges form root owner)) → walk_events other others form root owner ≡ walk_events image ranges form root owner
   events_alike root owner all = events_same owner (may_be_bare root) root.level root.address root.generation all
 
-  pub items_alike : (root : Pointer) (owner : ℕ) → All P (nodes_in (tree_events image ranges form root owner)) → tree_items other others form root owner ≡ tree_items image ranges form root owner
+  pub items_alike : (root : NodePointer) (owner : ℕ) → All P (nodes_in (walk_events image ranges form root owner)) → tree_items other others form root owner ≡ tree_items image ranges form root owner
   items_alike root owner all =
       let bare : Bool = may_be_bare root in
-      let old : List Event = tree_events image ranges form root owner in
+      let old : List TreeEvent = walk_events image ranges form root owner in
       let faults : node_faults other others form owner bare old ≡ node_faults image ranges form owner bare old = faults_same owner bare (nodes_in old) all in
-      ap (λ (es : List Event). when_sound (node_faults other others form owner bare es ++ order_damages None (items_in_events es)) (map bare_item (items_in_events es))) (events_alike root owner all)
+      ap (λ (es : List TreeEvent). when_sound (node_faults other others form owner bare es ++ order_damages None (items_in_events es)) (map bare_item (items_in_events es))) (events_alike root owner all)
       ∙ ap (λ (ds : List BtrRefusal). when_sound (ds ++ order_damages None (items_in_events old)) (map bare_item (items_in_events old))) faults

@@ -1,5 +1,5 @@
 -- Which node was not made, by the answer of the tree.
-use Rattle.std.proofs.Common.{◌≡◌, Result, Ok, Err, refl}
+use Rattle.btr_tree.proofs.Imports.{◌≡◌, Result, Ok, Err, refl}
 use Rattle.std.specs.Result.{IsErrAnd}
 use Rattle.btr_tree.specs.Answers.{tree_answer}
 use Rattle.btr_tree.specs.declared.answer.NodeAnswer.{NodeAnswer}

@@ -1,34 +1,13 @@
 -- From the leaves of a tree up to its root.
-use Rattle.std.proofs.Common.{◌≡◌, ℕ, zero, suc, ◌+◌, ◌^◌, ◌<◌, ◌≤◌, Bool, List, [], ◌∷◌, ◌++◌, length, map, get_or, refl, sym, ◌∙◌, ap, subst, arith, append_assoc, ⊎_elim}
-use Rattle.std.specs.List.{flat_map, sum}
-use Rattle.std.specs.Int.{div_ceil}
-use Rattle.std.proofs.Math.Nat.{pow-suc}
-use Rattle.std.proofs.lemmas.Bool.{cases_lt}
-use Rattle.std.proofs.lemmas.List.{append-nil, length_push}
-use Rattle.btr_node.specs.Inner.{first_keys}
-use Rattle.btr_node.specs.Leaf.{Item, keys_of}
-use Rattle.btr_node.specs.NodeSize.{IsNodeSize}
-use Rattle.btr_node.specs.Order.{Ascends, ascends}
-use Rattle.btr_node.specs.declared.child.Child.{Child}
-use Rattle.btr_reader_walk.specs.Laws.{IsSubtree, SubtreesAreTrees}
-use Rattle.btr_reader_walk.specs.Events.{may_be_bare, nodes_in, pointer_events}
-use Rattle.btr_reader_walk.specs.Map.{identity}
-use Rattle.btr_reader_walk.specs.Node.{child_pointer}
-use Rattle.btr_reader_walk.specs.declared.tree.Pointer.{Pointer}
-use Rattle.btr_tree.specs.Building.{Made, StandAt, pointer_to}
-use Rattle.btr_tree.specs.Packing.{fan_out, level_sizes}
-use Rattle.btr_tree.specs.Roots.{AreRoots, IsExtended, HasRoots, IsRaised, IsRoot, HasNodes, AreFirst, nodes_below, pointers_to, level_pointers}
-use Rattle.std.specs.List.Sorted.{IsPermutation}
-use Rattle.std.proofs.lemmas.List.Sorted.{IsPermutation-refl, IsPermutation-trans, IsPermutation-append_right, IsPermutation-append_comm}
-use Rattle.std.proofs.lemmas.List.Sums.{sum_by_push}
-use Rattle.btr_node.specs.outside.History.{Image}
+use Rattle.btr_tree.proofs.Imports.{◌≡◌, ℕ, zero, suc, ◌+◌, ◌^◌, ◌<◌, ◌≤◌, Bool, List, [], ◌∷◌, ◌++◌, length, map, get_or, refl, sym, ◌∙◌, ap, subst, arith, append_assoc, ⊎_elim, flat_map, sum, div_ceil, pow-suc, cases_lt, append-nil, length_push, first_keys, Item, keys_of, IsNodeSize, Ascends, ascends, Child, IsSubtree, SubtreesAreTrees, may_be_bare, nodes_in, pointer_events, identity, child_pointer, NodePointer, Made, StandAt, pointer_to, fan_out, level_sizes, IsWhole, AreRoots, IsExtended, HasSubtreeRoots, IsRaised, IsRoot, HasNodes, HasWholeNodes, AreFirst, nodes_below, pointers_to, level_pointers, IsPermutation, IsPermutation-refl, IsPermutation-trans, IsPermutation-append_right, IsPermutation-append_comm, sum_by_push, Image}
+use Rattle.std.specs.List.{All}
 use Rattle.btr_tree.proofs.Meeting.{below_one, levels_more}
 use Rattle.btr_tree.proofs.KeyOrder.{heads_ascend}
 use Rattle.btr_tree.proofs.RaisingLoop.{extended_none, stand_front}
 use Rattle.btr_tree.proofs.Sizes.{IsSmaller, smaller, sum-one, sum-more, sizes-one, sizes-more}
 
 -- the keys of roots ascend where those of all items do
-pub roots_ascend : (m : Made) (level : ℕ) (children : List Child) (items : List Item) → HasRoots m level children items → Ascends (keys_of items) → Ascends (first_keys children)
+pub roots_ascend : (m : Made) (level : ℕ) (children : List Child) (items : List Item) → HasSubtreeRoots m level children items → Ascends (keys_of items) → Ascends (first_keys children)
 roots_ascend m level children items has order =
     ap ascends has.roots.keys ∙ heads_ascend has.lists has.roots.full (ap (λ is. ascends (keys_of is)) has.items_are ∙ order)
 
@@ -53,13 +32,13 @@ pub record IsClimbing (old now : Made) (leaves children : List Child) (level : �
   pub few : length now.nodes ≤ length now.slots
   pub rest : length now.nodes + sum (level_sizes (suc depth) (fan_out old.form.nodesize) (length children))
       ≡ sum (level_sizes 256 (fan_out old.form.nodesize) (length leaves)) + length children
-  pub roots : (items : List Item) → HasRoots old 0 leaves items → HasRoots now level children items
+  pub roots : (items : List Item) → HasSubtreeRoots old 0 leaves items → HasSubtreeRoots now level children items
   -- the sizes of the levels below
   pub sizes : List ℕ
   pub levels : length sizes ≡ level
   pub sum_is : length now.nodes ≡ sum sizes + length children
   pub sizes_are : level_sizes 256 (fan_out old.form.nodesize) (length leaves) ≡ sizes ++ level_sizes (suc depth) (fan_out old.form.nodesize) (length children)
-  pub nodes : (items : List Item) → HasRoots old 0 leaves items → AreFirst old leaves → (image : Image) (bare : Bool) → StandAt image now.form.nodesize now.slots now.nodes
+  pub nodes : (items : List Item) → HasSubtreeRoots old 0 leaves items → AreFirst old leaves → (image : Image) (bare : Bool) → StandAt image now.form.nodesize now.slots now.nodes
       → IsPermutation (nodes_below image now bare level children) (level_pointers old.generation 0 0 old.slots (sizes ++ length children ∷ []))
 
 pub climbing_begins : (old : Made) (leaves : List Child) → 1 ≤ length leaves → length leaves ≤ 2 ^ 64 → length old.nodes ≡ length leaves → length old.nodes ≤ length old.slots
@@ -181,7 +160,7 @@ pub climbing_count : (old now : Made) (leaves children : List Child) (level : �
 climbing_count old now leaves children level so_far one = omega (arith, so_far.rest, sum-one so_far.depth (fan_out old.form.nodesize) (length children) one, so_far.some)
 
 -- one root meets the nodes of all levels
-pub climbing_nodes : (old now : Made) (leaves children : List Child) (level : ℕ) (items : List Item) (d : Child) → IsClimbing old now leaves children level → length children ≡ 1 → HasRoots old 0 leaves items → AreFirst old leaves
+pub climbing_nodes : (old now : Made) (leaves children : List Child) (level : ℕ) (items : List Item) (d : Child) → IsClimbing old now leaves children level → length children ≡ 1 → HasSubtreeRoots old 0 leaves items → AreFirst old leaves
     → HasNodes now (get_or children 0 d).address level (level_sizes 256 (fan_out old.form.nodesize) (length leaves))
 climbing_nodes old now leaves children level items d so_far one has first = λ image stand.
     let sizes : level_sizes 256 (fan_out old.form.nodesize) (length leaves) ≡ so_far.sizes ++ length children ∷ [] =
@@ -195,17 +174,28 @@ climbing_nodes old now leaves children level items d so_far one has first = λ i
     (subst (λ (x : Made). IsPermutation (nodes_below image now bare level children) (level_pointers x.generation 0 0 x.slots (so_far.sizes ++ length children ∷ [])))
     (sym (ap (λ (x : Made). let y : Made = record old { generation = x.generation; slots = x.slots } in y) so_far.extended.is)) met))
   where
-    one_met : (children : List Child) → HasRoots now level children items → length children ≡ 1 → (image : Image) (bare : Bool)
+    one_met : (children : List Child) → HasSubtreeRoots now level children items → length children ≡ 1 → (image : Image) (bare : Bool)
         → nodes_below image now bare level children ≡ nodes_in (pointer_events image identity now.form now.owner bare (pointer_to now.generation level (get_or children 0 d).address))
     one_met [] has one image bare = absurd (omega arith)
     one_met (c ∷ (e ∷ children)) has one image bare = absurd (omega arith)
     one_met (c ∷ []) has one image bare =
         let is : child_pointer level c ≡ pointer_to now.generation level c.address =
-        ap (λ (g : ℕ). let p : Pointer = record { address = c.address; level = level; generation = g } in p) (has.roots.one_generation 0 c (omega arith)) in
-        below_one image now bare level c ∙ ap (λ (p : Pointer). nodes_in (pointer_events image identity now.form now.owner bare p)) is
+        ap (λ (g : ℕ). let p : NodePointer = record { address = c.address; level = level; generation = g } in p) (has.roots.one_generation 0 c (omega arith)) in
+        below_one image now bare level c ∙ ap (λ (p : NodePointer). nodes_in (pointer_events image identity now.form now.owner bare p)) is
+
+-- and they are whole
+pub whole_of : (m : Made) (level : ℕ) (children : List Child) (items : List Item) (d : Child) → length children ≡ 1 → HasSubtreeRoots m level children items → HasWholeNodes m (get_or children 0 d).address level
+whole_of m level [] items d one has = absurd (omega arith)
+whole_of m level (c ∷ (e ∷ children)) items d one has = absurd (omega arith)
+whole_of m level (c ∷ []) items d one has = λ image stand.
+    let root : NodePointer = pointer_to m.generation level c.address in
+    let bare : Bool = may_be_bare root in
+    let same : child_pointer level c ≡ root = ap (λ (g : ℕ). let p : NodePointer = record { address = c.address; level = level; generation = g } in p) (has.roots.one_generation 0 c (omega arith)) in
+    subst (All (IsWhole image identity m.form m.owner m.chunk_tree)) (below_one image m bare level c ∙ ap (λ (p : NodePointer). nodes_in (pointer_events image identity m.form m.owner bare p)) same)
+    (has.roots.whole image bare stand).nodes
 
 -- one root is the root of the tree
-pub root_of : (law : SubtreesAreTrees) (m : Made) (level : ℕ) (children : List Child) (items : List Item) (d : Child) → length children ≡ 1 → HasRoots m level children items → Ascends (keys_of items)
+pub root_of : (law : SubtreesAreTrees) (m : Made) (level : ℕ) (children : List Child) (items : List Item) (d : Child) → length children ≡ 1 → HasSubtreeRoots m level children items → Ascends (keys_of items)
     → IsRoot m (get_or children 0 d).address level items
 root_of law m level [] items d one has order = absurd (omega arith)
 root_of law m level (c ∷ (e ∷ children)) items d one has order = absurd (omega arith)
@@ -215,12 +205,12 @@ root_of law m level (c ∷ []) items d one has order = by_lists has.lists has.ro
     by_lists [] roots are = absurd (omega (arith, ap length roots.keys))
     by_lists (l ∷ (k ∷ lists)) roots are = absurd (omega (arith, ap length roots.keys))
     by_lists (l ∷ []) roots are = λ image stand.
-        let root : Pointer = pointer_to m.generation level c.address in
-        let same : child_pointer level c ≡ root = ap (λ (g : ℕ). let p : Pointer = record { address = c.address; level = level; generation = g } in p) (roots.one_generation 0 c (omega arith)) in
+        let root : NodePointer = pointer_to m.generation level c.address in
+        let same : child_pointer level c ≡ root = ap (λ (g : ℕ). let p : NodePointer = record { address = c.address; level = level; generation = g } in p) (roots.one_generation 0 c (omega arith)) in
         let below = (roots.subtrees image (may_be_bare root) stand).0 in
         let below' : IsSubtree image identity m.form m.owner (may_be_bare root) root items =
         subst (λ is. IsSubtree image identity m.form m.owner (may_be_bare root) root is) (sym (append-nil l) ∙ are)
-        (subst (λ (p : Pointer). IsSubtree image identity m.form m.owner (may_be_bare root) p l) same below) in
+        (subst (λ (p : NodePointer). IsSubtree image identity m.form m.owner (may_be_bare root) p l) same below) in
         law image identity m.form m.owner root items below' order
 
 pub wide_fan : (n : ℕ) → IsNodeSize n → 121 ≤ fan_out n

@@ -1,18 +1,5 @@
 -- The last leaf is made, and the levels above the leaves.
-use Rattle.std.proofs.Common.{◌≡◌, ℕ, ◌<◌, Bool, List, [], ◌∷◌, ◌++◌, length, Some, None, Result, Ok, Err, sym, ◌∙◌, ap, subst, arith, append_assoc, length-append}
-use Rattle.std.specs.Prelude.{MatchOption, IfOk}
-use Rattle.std.specs.List.{flat_map}
-use Rattle.std.proofs.lemmas.List.{length_push}
-use Rattle.btr_node.specs.outside.History.{Image}
-use Rattle.btr_node.specs.Draft.{node_bytes}
-use Rattle.btr_node.specs.Leaf.{Item, items_in}
-use Rattle.btr_node.specs.declared.child.Child.{Child}
-use Rattle.btr_reader_walk.specs.Laws.{LeavesGiveItems}
-use Rattle.btr_tree.specs.Building.{ReadsBack, Goes, HasBack, taken, whole}
-use Rattle.btr_tree.specs.Builder.{Building, Standing, Holds, IsIdle, IsInHand, all_made, leaf_closed}
-use Rattle.btr_tree.specs.Counting.{tree_nodes, nodes_above}
-use Rattle.btr_tree.specs.Roots.{IsForest, HasForest, IsClimbed, IsCompleted, lengths_of}
-use Rattle.btr_tree.specs.declared.climb.Root.{Root}
+use Rattle.btr_tree.proofs.Imports.{◌≡◌, ℕ, ◌<◌, Bool, List, [], ◌∷◌, ◌++◌, length, Some, None, Result, Ok, Err, sym, ◌∙◌, ap, subst, arith, append_assoc, length-append, MatchOption, IfOk, flat_map, length_push, Image, node_bytes, Item, items_in, Child, LeavesGiveItems, NodeReadsBack, Goes, HasBack, taken, with_written, Building, Standing, Holds, IsIdle, IsInHand, all_made, leaf_closed, tree_nodes, nodes_above, IsForest, HasForest, IsClimbed, IsCompleted, lengths_of, Root}
 use Rattle.btr_tree.proofs.Completing.{closed_made, closed_forest, closed_count, completed}
 use Rattle.btr_tree.proofs.Leaves.{empty_nodes}
 
@@ -20,7 +7,7 @@ pub if_ok_map : {T E : Type 0} (r : Result T E) (P Q : T → Type 0) → ((x : T
 if_ok_map (Ok x) P Q turn h = turn x h
 if_ok_map (Err e) P Q turn h = tt
 
-module _ (law : LeavesGiveItems) (b : Building) (child : Child) (some : b.hand ≡ Some child) (read : ReadsBack b.made.draft (node_bytes b.made.draft)) where
+module _ (law : LeavesGiveItems) (b : Building) (child : Child) (some : b.hand ≡ Some child) (read : NodeReadsBack b.made.draft (node_bytes b.made.draft)) where
   in_hand : (front : List (List ℕ)) → Standing (all_made b front) → IsInHand (all_made b front) child
   in_hand front standing = subst (λ h. MatchOption h (IsIdle (all_made b front)) (IsInHand (all_made b front))) some standing.hand
 
@@ -63,7 +50,7 @@ module _ (law : LeavesGiveItems) (b : Building) (child : Child) (some : b.hand �
         stands = r.stands;
         now = λ standing.
             completed law (all_made b front) child standing (in_hand front standing) read (all_made new r.back) root
-            (subst (λ ns. IsClimbed (record b.made { written = 0; nodes = ns }) (b.children ++ child ∷ []) (whole new.made r.back) root) (sym (assoc front)) r.now);
+            (subst (λ ns. IsClimbed (record b.made { written = 0; nodes = ns }) (b.children ++ child ∷ []) (with_written new.made r.back) root) (sym (assoc front)) r.now);
       }
 
 -- no slot is left for the leaf of a tree without items

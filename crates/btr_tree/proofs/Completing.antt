@@ -1,23 +1,10 @@
 -- A tree is complete.
-use Rattle.std.proofs.Common.{◌≡◌, ℕ, ◌+◌, ◌≤◌, ◌++◌, ◌∷◌, [], List, length, sym, ◌∙◌, ap, subst, arith}
-use Rattle.std.specs.List.{flat_map}
-use Rattle.std.proofs.lemmas.List.{length_push}
-use Rattle.btr_node.specs.Draft.{node_bytes}
-use Rattle.btr_node.specs.Leaf.{items_in}
-use Rattle.btr_node.specs.NodeSize.{IsNodeSize}
-use Rattle.btr_node.specs.declared.child.Child.{Child}
-use Rattle.btr_reader_walk.specs.Laws.{LeavesGiveItems, SubtreesAreTrees}
-use Rattle.btr_tree.specs.Building.{Made, AreSlots, begun_at, with_node, ReadsBack}
-use Rattle.btr_tree.specs.Builder.{Building, pushed, leaf_closed, IsInHand, IsNextSlot, Standing}
-use Rattle.btr_tree.specs.Counting.{tree_nodes, nodes_above}
-use Rattle.btr_tree.specs.Packing.{capacity, leaves, tree_levels}
-use Rattle.btr_tree.specs.Roots.{IsForest, IsClimbed, IsCompleted, IsRoot, HasNodes, lengths_of}
-use Rattle.btr_tree.specs.declared.climb.Root.{Root}
+use Rattle.btr_tree.proofs.Imports.{◌≡◌, ℕ, ◌+◌, ◌≤◌, ◌++◌, ◌∷◌, [], List, length, sym, ◌∙◌, ap, subst, arith, flat_map, length_push, node_bytes, items_in, IsNodeSize, Child, LeavesGiveItems, SubtreesAreTrees, Made, AreSlots, begun_at, with_node, NodeReadsBack, Building, pushed, leaf_closed, IsInHand, IsNextSlot, Standing, tree_nodes, nodes_above, capacity, packed_leaves, tree_levels, IsForest, IsClimbed, IsCompleted, IsRoot, HasNodes, HasWholeNodes, lengths_of, Root}
 use Rattle.btr_tree.proofs.Climbing.{extended_then}
-use Rattle.btr_tree.proofs.Leaves.{leaf_roots, leaves_first, empty_met, leaf_count, packed_count, packed_same, empty_nodes, empty_root, extended_node}
+use Rattle.btr_tree.proofs.Leaves.{leaf_roots, leaves_first, empty_met, empty_whole, leaf_count, packed_count, packed_same, empty_nodes, empty_root, extended_node}
 use Rattle.btr_tree.proofs.Standing.{next_is}
 
-module _ (law : LeavesGiveItems) (b : Building) (child : Child) (so_far : Standing b) (hand : IsInHand b child) (read : ReadsBack b.made.draft (node_bytes b.made.draft)) where
+module _ (law : LeavesGiveItems) (b : Building) (child : Child) (so_far : Standing b) (hand : IsInHand b child) (read : NodeReadsBack b.made.draft (node_bytes b.made.draft)) where
   abbrev closed : Building
   closed = leaf_closed b child
 
@@ -30,7 +17,7 @@ module _ (law : LeavesGiveItems) (b : Building) (child : Child) (so_far : Standi
   pub closed_forest : IsForest closed.made 0 closed.children
   closed_forest = record { items = pushed b; roots = leaf_roots law b child so_far hand read; order = so_far.order }
 
-  closed_leaves : length closed.children ≡ length (leaves b.made.form.nodesize (lengths_of (pushed b)))
+  closed_leaves : length closed.children ≡ length (packed_leaves b.made.form.nodesize (lengths_of (pushed b)))
   closed_leaves = sym closed_made ∙ (sym (packed_count law b child so_far hand read) ∙ packed_same (capacity b.made.form.nodesize) (pushed b))
 
   pub closed_count : nodes_above b.made.form.nodesize (length closed.children) ≡ tree_nodes b.made.form.nodesize (lengths_of (pushed b))
@@ -48,11 +35,12 @@ module _ (law : LeavesGiveItems) (b : Building) (child : Child) (so_far : Standi
     nodes =
         subst (λ (n : ℕ). HasNodes new.made root.address root.level (tree_levels b.made.form.nodesize n)) closed_leaves
         (climbed.nodes (pushed b) (leaf_roots law b child so_far hand read) (leaves_first law b child so_far hand read));
+    whole = climbed.whole (pushed b) (leaf_roots law b child so_far hand read);
   }
 
 pub completed_empty : (give : LeavesGiveItems) (are : SubtreesAreTrees) (b new : Building) (root : Root) (a : ℕ) → IsNodeSize b.made.form.nodesize → AreSlots b.made.form.nodesize b.made.slots
     → b.made.nodes ≡ [] → b.made.draft.items ≡ [] → IsNextSlot b.made a
-    → ReadsBack (begun_at b.made 0 a).draft (node_bytes (begun_at b.made 0 a).draft)
+    → NodeReadsBack (begun_at b.made 0 a).draft (node_bytes (begun_at b.made 0 a).draft)
     → new.made ≡ with_node (begun_at b.made 0 a) (node_bytes (begun_at b.made 0 a).draft)
     → root.address ≡ a → root.level ≡ 0 → root.nodes ≡ length new.made.nodes → IsCompleted b new root
 completed_empty give are b new root a size slots none no_items at read is address level nodes =
@@ -72,8 +60,12 @@ completed_empty give are b new root a size slots none no_items at read is addres
           (subst (λ (x : ℕ). IsRoot new.made x 0 []) (sym address)
           (subst (λ (m : Made). IsRoot m a 0 []) (sym is) (empty_root give are b.made a size slots none at read))));
       nodes =
-          subst (λ is. HasNodes new.made root.address root.level (tree_levels b.made.form.nodesize (length (leaves b.made.form.nodesize (lengths_of is))))) (sym empty)
-          (subst (λ (l : ℕ). HasNodes new.made root.address l (tree_levels b.made.form.nodesize (length (leaves b.made.form.nodesize [])))) (sym level)
-          (subst (λ (x : ℕ). HasNodes new.made x 0 (tree_levels b.made.form.nodesize (length (leaves b.made.form.nodesize [])))) (sym address)
-          (subst (λ (m : Made). HasNodes m a 0 (tree_levels b.made.form.nodesize (length (leaves b.made.form.nodesize [])))) (sym is) (empty_met b.made a none at))));
+          subst (λ is. HasNodes new.made root.address root.level (tree_levels b.made.form.nodesize (length (packed_leaves b.made.form.nodesize (lengths_of is))))) (sym empty)
+          (subst (λ (l : ℕ). HasNodes new.made root.address l (tree_levels b.made.form.nodesize (length (packed_leaves b.made.form.nodesize [])))) (sym level)
+          (subst (λ (x : ℕ). HasNodes new.made x 0 (tree_levels b.made.form.nodesize (length (packed_leaves b.made.form.nodesize [])))) (sym address)
+          (subst (λ (m : Made). HasNodes m a 0 (tree_levels b.made.form.nodesize (length (packed_leaves b.made.form.nodesize [])))) (sym is) (empty_met b.made a none at))));
+      whole =
+          subst (λ (l : ℕ). HasWholeNodes new.made root.address l) (sym level)
+          (subst (λ (x : ℕ). HasWholeNodes new.made x 0) (sym address)
+          (subst (λ (m : Made). HasWholeNodes m a 0) (sym is) (empty_whole b.made a at read)));
     }

@@ -1,14 +1,5 @@
 -- One item more makes no fewer nodes.
-use Rattle.std.proofs.Common.{◌≡◌, ℕ, zero, suc, ◌+◌, ◌*◌, ◌<◌, ◌≤◌, List, [], ◌∷◌, ◌++◌, length, ap, arith, ⊎_elim}
-use Rattle.std.specs.List.{sum, sum_by}
-use Rattle.std.specs.Int.{div_ceil}
-use Rattle.std.proofs.Math.Nat.{mul_comm, mul-suc}
-use Rattle.std.proofs.lemmas.Bool.{cases_lt}
-use Rattle.std.proofs.lemmas.Grind.{div_ceil_times}
-use Rattle.std.proofs.lemmas.List.Sums.{sum_by_push}
-use Rattle.std.proofs.lemmas.Nat.{mul-le}
-use Rattle.btr_tree.specs.Laws.{NodesNeverFall}
-use Rattle.btr_tree.specs.Packing.{capacity, weight, packed_from, level_sizes, fan_out, leaves}
+use Rattle.btr_tree.proofs.Imports.{◌≡◌, ℕ, zero, suc, ◌+◌, ◌*◌, ◌<◌, ◌≤◌, List, [], ◌∷◌, ◌++◌, length, ap, arith, ⊎_elim, sum, sum_by, div_ceil, mul_comm, mul-suc, cases_lt, div_ceil_times, sum_by_push, mul-le, NodesNeverFall, capacity, weight, packed_from, level_sizes, fan_out, packed_leaves}
 use Rattle.btr_tree.proofs.Climbing.{wide_fan}
 use Rattle.btr_tree.proofs.Groups.{packed-fits, packed-next, packed-none}
 use Rattle.btr_tree.proofs.Sizes.{sizes-none, sum-one, sum-more}
@@ -111,5 +102,5 @@ levels_up (suc levels) fan n m some h =
 
 pub never_fall : NodesNeverFall
 never_fall = λ nodesize before after n size.
-    levels_up 256 (fan_out nodesize) (length (leaves nodesize (before ++ after))) (length (leaves nodesize (before ++ n ∷ after))) (omega (arith, wide_fan nodesize size))
+    levels_up 256 (fan_out nodesize) (length (packed_leaves nodesize (before ++ after))) (length (packed_leaves nodesize (before ++ n ∷ after))) (omega (arith, wide_fan nodesize size))
     (inserted (capacity nodesize) [] before after n)

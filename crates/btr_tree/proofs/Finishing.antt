@@ -1,17 +1,5 @@
 -- A tree is written whole.
-use Rattle.std.proofs.Common.{◌≡◌, ℕ, Bool, List, [], ◌++◌, length, IsTrue, sym, ◌∙◌, ap, subst, arith}
-use Rattle.std.proofs.lemmas.List.{append-nil}
-use Rattle.std.specs.List.Sorted.{IsPermutation}
-use Rattle.btr_node.specs.outside.History.{Image}
-use Rattle.btr_node.specs.Leaf.{Item}
-use Rattle.btr_reader_walk.specs.Events.{nodes_in, tree_events}
-use Rattle.btr_reader_walk.specs.Map.{identity}
-use Rattle.btr_tree.specs.Building.{Made, StandAt, Goes, HasBack, pointer_to, taken, whole}
-use Rattle.btr_tree.specs.Builder.{Building, Standing, Holds, pushed, all_made, HasTree}
-use Rattle.btr_tree.specs.Counting.{tree_nodes}
-use Rattle.btr_tree.specs.Packing.{leaves as leaves_by, tree_levels}
-use Rattle.btr_tree.specs.Roots.{IsCompleted, IsFinished, MeetsNodes, level_pointers, lengths_of}
-use Rattle.btr_tree.specs.declared.climb.Root.{Root}
+use Rattle.btr_tree.proofs.Imports.{◌≡◌, ℕ, Bool, List, [], ◌++◌, length, IsTrue, sym, ◌∙◌, ap, subst, arith, append-nil, IsPermutation, Image, Item, nodes_in, walk_events, identity, Made, StandAt, Goes, HasBack, pointer_to, taken, with_written, Building, Standing, Holds, pushed, all_made, HasTree, HasWhole, tree_nodes, packed_leaves as leaves_by, tree_levels, IsCompleted, IsFinished, MeetsNodes, level_pointers, lengths_of, Root}
 use Rattle.btr_tree.proofs.Going.{HasFront, goes_then}
 use Rattle.btr_tree.proofs.RaisingFronts.{whole_count}
 
@@ -29,19 +17,20 @@ module _ (tells : Bool) (first last : Image) (b new : Building) (final : Made) (
   abbrev there : (items : List Item) → (h : Holds b items) → HasBack tells first last b.made final (Makes b new root) h.front
   there items h = goes h.front h.count
 
-  done : (items : List Item) → (h : Holds b items) → IsCompleted (all_made b h.front) (record new { made = whole final (there items h).back }) root
+  done : (items : List Item) → (h : Holds b items) → IsCompleted (all_made b h.front) (record new { made = with_written final (there items h).back }) root
   done items h = (there items h).now h.standing
 
   pub finished : (items : List Item) → Holds b items → IsFinished b (record new { made = final }) root items
   finished items h =
-      let d : IsCompleted (all_made b h.front) (record new { made = whole final (there items h).back }) root = done items h in
-      let count : taken final ≡ length (whole final (there items h).back).nodes = whole_count final (there items h).back (there items h).count in
+      let d : IsCompleted (all_made b h.front) (record new { made = with_written final (there items h).back }) root = done items h in
+      let count : taken final ≡ length (with_written final (there items h).back).nodes = whole_count final (there items h).back (there items h).count in
       record {
         same = record {
           form = ap (λ (m : Made). m.form) d.extended.is;
           owner = ap (λ (m : Made). m.owner) d.extended.is;
           generation = ap (λ (m : Made). m.generation) d.extended.is;
           slots = ap (λ (m : Made). m.slots) d.extended.is;
+          chunk_tree = ap (λ (m : Made). m.chunk_tree) d.extended.is;
         };
         few = omega (arith, count, d.few);
         count = count ∙ (d.count ∙ ap (λ is. tree_nodes b.made.form.nodesize (lengths_of is)) h.pushed_is);
@@ -56,14 +45,19 @@ module _ (tells : Bool) (first last : Image) (b new : Building) (final : Made) (
 
   pub finished_tree : IsTrue tells → (items : List Item) → HasFront b first items → HasTree last b.made root.address root.level items
   finished_tree told items f =
-      let d : IsCompleted (all_made b f.holds.front) (record new { made = whole final (there items f.holds).back }) root = done items f.holds in
+      let d : IsCompleted (all_made b f.holds.front) (record new { made = with_written final (there items f.holds).back }) root = done items f.holds in
       subst (λ is. HasTree last b.made root.address root.level is) f.holds.pushed_is
       (subst (λ (m : Made). HasTree last m root.address root.level (pushed (all_made b f.holds.front))) d.extended.is (d.root_is last (all_stand told items f)))
 
   pub finished_nodes : IsTrue tells → (items : List Item) → HasFront b first items → MeetsNodes last b.made root.address root.level items
   finished_nodes told items f =
-      let d : IsCompleted (all_made b f.holds.front) (record new { made = whole final (there items f.holds).back }) root = done items f.holds in
+      let d : IsCompleted (all_made b f.holds.front) (record new { made = with_written final (there items f.holds).back }) root = done items f.holds in
       let sizes : List ℕ = tree_levels b.made.form.nodesize (length (leaves_by b.made.form.nodesize (lengths_of (pushed (all_made b f.holds.front))))) in
       subst (λ is. MeetsNodes last b.made root.address root.level is) f.holds.pushed_is
-      (subst (λ (m : Made). IsPermutation (nodes_in (tree_events last identity m.form (pointer_to m.generation root.level root.address) m.owner)) (level_pointers m.generation 0 0 m.slots sizes)) d.extended.is
+      (subst (λ (m : Made). IsPermutation (nodes_in (walk_events last identity m.form (pointer_to m.generation root.level root.address) m.owner)) (level_pointers m.generation 0 0 m.slots sizes)) d.extended.is
       (d.nodes last (all_stand told items f)))
+
+  pub finished_whole : IsTrue tells → (items : List Item) → HasFront b first items → HasWhole last b.made root.address root.level
+  finished_whole told items f =
+      let d : IsCompleted (all_made b f.holds.front) (record new { made = with_written final (there items f.holds).back }) root = done items f.holds in
+      subst (λ (m : Made). HasWhole last m root.address root.level) d.extended.is (d.whole last (all_stand told items f))

@@ -1,11 +1,5 @@
 -- The nodes that were written, and those that are held.
-use Rattle.std.proofs.Common.{◌≡◌, ℕ, ◌+◌, ◌<◌, ◌≤◌, Bool, List, [], ◌++◌, length, take, IsTrue, refl, sym, ◌∙◌, ap, subst, arith, length-append}
-use Rattle.std.proofs.lemmas.List.{append-nil}
-use Rattle.btr_node.specs.outside.History.{Image, History, WritesOnly}
-use Rattle.btr_node.proofs.outside.Crash.{writes_then, writes_weaker}
-use Rattle.btr_tree.specs.Building.{Made, StandAt, Goes, IsLater, taken, flushed}
-use Rattle.btr_tree.specs.Writing.{IsInSlots}
-use Rattle.std.proofs.lemmas.List.{length-take, get_or-take}
+use Rattle.btr_tree.proofs.Imports.{◌≡◌, ℕ, ◌+◌, ◌<◌, ◌≤◌, Bool, List, [], ◌++◌, length, take, IsTrue, refl, sym, ◌∙◌, ap, subst, arith, length-append, append-nil, length-take, get_or-take, Image, History, WritesOnly, writes_then, writes_weaker, Made, StandAt, Goes, IsLater, taken, flushed, IsInSlots}
 
 -- nothing was written
 pub goes_none : (tells : Bool) (image : Image) (m : Made) → Goes tells image image m m (λ x y. y ≡ x)

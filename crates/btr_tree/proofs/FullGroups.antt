@@ -1,13 +1,5 @@
 -- Each group is as full as the next entry lets it be.
-use Rattle.std.proofs.Common.{◌≡◌, ℕ, zero, suc, ◌+◌, ◌<◌, ◌≤◌, List, [], ◌∷◌, ◌++◌, length, get_or, refl, sym, ◌∙◌, ap, subst, arith, append_assoc, ⊎_elim}
-use Rattle.std.specs.Prelude.{All}
-use Rattle.std.specs.List.{concat}
-use Rattle.std.proofs.lemmas.Bool.{cases_lt}
-use Rattle.std.proofs.lemmas.List.Elements.{All-nil, All-cons, All-head, All-tail}
-use Rattle.std.proofs.lemmas.List.Sums.{sum_by_push}
-use Rattle.btr_tree.specs.Counting.{bytes_of}
-use Rattle.btr_tree.specs.Laws.{PackingIsFull}
-use Rattle.btr_tree.specs.Packing.{weight, packed_from}
+use Rattle.btr_tree.proofs.Imports.{◌≡◌, ℕ, zero, suc, ◌+◌, ◌<◌, ◌≤◌, List, [], ◌∷◌, ◌++◌, length, get_or, refl, sym, ◌∙◌, ap, subst, arith, append_assoc, ⊎_elim, All, concat, cases_lt, All-nil, All-cons, All-head, All-tail, sum_by_push, bytes_of, PackingIsFull, weight, packed_from}
 use Rattle.btr_tree.proofs.Groups.{packed-fits, packed-next, packed-none}
 
 -- groups where the first is begun

@@ -1,16 +1,5 @@
 -- A builder goes on, and nodes are written on the way.
-use Rattle.std.proofs.Common.{◌≡◌, ℕ, zero, suc, ◌+◌, ◌<◌, ◌≤◌, Option, Some, None, Bool, List, [], ◌∷◌, ◌++◌, length, map, take, get_or, IsTrue, refl, sym, ◌∙◌, ap, subst, arith, length-append}
-use Rattle.std.specs.List.{flat_map}
-use Rattle.std.specs.Prelude.{MatchOption}
-use Rattle.std.proofs.lemmas.List.{length-map, length-take, length_push}
-use Rattle.btr_node.specs.outside.History.{Image}
-use Rattle.btr_node.specs.Leaf.{Item, items_in}
-use Rattle.btr_node.specs.declared.child.Child.{Child}
-use Rattle.btr_reader_walk.specs.Map.{identity, node_at}
-use Rattle.btr_reader_walk.specs.declared.tree.Form.{Form}
-use Rattle.btr_tree.specs.Building.{Made, StandAt, Goes, HasBack, IsLater, slot, whole, nodes_on}
-use Rattle.btr_tree.specs.Builder.{Building, Standing, Stands, Holds, IsReady, IsPushed, HasPut, IsIdle, IsInHand, pushed, pushed_on, told_nodes, all_made, leaves_of}
-use Rattle.btr_tree.specs.Laws.{StandsBySlots}
+use Rattle.btr_tree.proofs.Imports.{◌≡◌, ℕ, zero, suc, ◌+◌, ◌<◌, ◌≤◌, Option, Some, None, Bool, List, [], ◌∷◌, ◌++◌, length, map, take, get_or, IsTrue, refl, sym, ◌∙◌, ap, subst, arith, length-append, flat_map, MatchOption, length-map, length-take, length_push, Image, Item, items_in, Child, identity, node_at, Form, Made, StandAt, Goes, HasBack, IsLater, slot, with_written, nodes_on, Building, Standing, Stands, Holds, IsReady, IsPushed, HasPut, IsIdle, IsInHand, pushed, pushed_on, told_nodes, all_made, leaves_of, StandsBySlots}
 use Rattle.btr_tree.proofs.OnDisk.{nodes_same}
 
 pub goes_then : (tells : Bool) (first second third : Image) (old mid new : Made) (R S T : Made → Made → Type 0) → ((m n o : Made) → R m n → S n o → T m o)
@@ -18,7 +7,7 @@ pub goes_then : (tells : Bool) (first second third : Image) (old mid new : Made)
 goes_then tells first second third old mid new R S T join before after = λ front count.
     let h : HasBack tells first second old mid R front = before front count in
     let r : HasBack tells second third mid new S h.back = after h.back h.count in
-    record { back = r.back; count = r.count; stands = λ t stand. r.stands t (h.stands t stand); now = join (whole old front) (whole mid h.back) (whole new r.back) h.now r.now }
+    record { back = r.back; count = r.count; stands = λ t stand. r.stands t (h.stands t stand); now = join (with_written old front) (with_written mid h.back) (with_written new r.back) h.now r.now }
 
 -- the nodes that a disk has at the first slots stand there
 on_stand : (image : Image) (size i n : ℕ) (slots : List ℕ) → i < length (nodes_on image size slots n) → node_at image identity size (slot slots i) ≡ get_or (nodes_on image size slots n) i []
@@ -105,10 +94,10 @@ later_fit old new items later fits = omega (arith, fits, ap (λ ss. length {A = 
 
 -- an item was put after room was made
 module _ (tells : Bool) (first second : Image) (b new : Building) (mid : Made) (item : Item) (room : Goes tells first second b.made mid (λ m n. n ≡ m)) (put : HasPut (record b { made = mid }) new item) where
-  put_now : (items : List Item) → (h : Holds b items) → Standing (record b { made = whole mid (room h.front h.count).back })
+  put_now : (items : List Item) → (h : Holds b items) → Standing (record b { made = with_written mid (room h.front h.count).back })
   put_now items h = subst (λ (m : Made). Standing (record b { made = m })) (sym (room h.front h.count).now) h.standing
 
-  put_there : (items : List Item) → (h : Holds b items) → IsPushed (record b { made = whole mid (room h.front h.count).back }) (all_made new (room h.front h.count).back) item
+  put_there : (items : List Item) → (h : Holds b items) → IsPushed (record b { made = with_written mid (room h.front h.count).back }) (all_made new (room h.front h.count).back) item
   put_there items h = put.put (room h.front h.count).back (room h.front h.count).count (put_now items h)
 
   pub put_holds : (items : List Item) → Holds b items → Holds new (items ++ item ∷ [])

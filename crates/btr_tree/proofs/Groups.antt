@@ -1,11 +1,5 @@
 -- Entries in groups, one entry more.
-use Rattle.std.proofs.Common.{◌≡◌, ℕ, ◌+◌, ◌-◌, ◌<◌, ◌≤◌, List, [], ◌∷◌, ◌++◌, length, get_or, refl, sym, ◌∙◌, ap, arith, append_assoc, length-append, zero-add, ⊎_elim}
-use Rattle.std.specs.List.{sum_by}
-use Rattle.std.proofs.lemmas.Bool.{cases_lt, le-leb, lt-leb}
-use Rattle.std.proofs.lemmas.List.{get_or_at, length_push}
-use Rattle.std.proofs.lemmas.List.Sums.{sum_by_push}
-use Rattle.btr_tree.specs.Packing.{packed_from, packed, weight, capacity, leaves}
-use Rattle.btr_tree.specs.Counting.{Tally, Counted, bytes_of}
+use Rattle.btr_tree.proofs.Imports.{◌≡◌, ℕ, ◌+◌, ◌-◌, ◌<◌, ◌≤◌, List, [], ◌∷◌, ◌++◌, length, get_or, refl, sym, ◌∙◌, ap, arith, append_assoc, length-append, zero-add, ⊎_elim, sum_by, cases_lt, le-leb, lt-leb, get_or_at, length_push, sum_by_push, packed_from, packed, weight, capacity, packed_leaves, Tally, Counted, bytes_of}
 
 -- an entry that fits goes into the group that is begun
 pub packed-fits : {E : Type 0} (size : E → ℕ) (room : ℕ) (begun : List E) (e : E) (es : List E) → sum_by size begun + size e ≤ room
@@ -90,12 +84,12 @@ pub counts_fit : (tally : Tally) (lengths : List ℕ) (n : ℕ) → Counted tall
     → Counted (record { nodesize = tally.nodesize; leaves = tally.leaves; fill = tally.fill + weight n; bytes = tally.bytes + weight n }) (lengths ++ n ∷ [])
 counts_fit tally lengths n known fits =
     let found = ends_in weight (capacity tally.nodesize) [] lengths in
-    let fill : bytes_of found.1 ≡ tally.fill = sym (known.begun ∙ ap bytes_of (last_is (leaves tally.nodesize lengths) found.0 found.1 found.2)) in
-    let more : leaves tally.nodesize (lengths ++ n ∷ []) ≡ found.0 ++ (found.1 ++ n ∷ []) ∷ [] =
+    let fill : bytes_of found.1 ≡ tally.fill = sym (known.begun ∙ ap bytes_of (last_is (packed_leaves tally.nodesize lengths) found.0 found.1 found.2)) in
+    let more : packed_leaves tally.nodesize (lengths ++ n ∷ []) ≡ found.0 ++ (found.1 ++ n ∷ []) ∷ [] =
     one_more_fits weight (capacity tally.nodesize) lengths found.1 found.0 n found.2 (omega arith) in
     record {
       count = omega (arith, known.count, ap length found.2, length_push found.0 found.1, ap length more, length_push found.0 (found.1 ++ n ∷ []));
-      begun = sym (ap bytes_of (last_is (leaves tally.nodesize (lengths ++ n ∷ [])) found.0 (found.1 ++ n ∷ []) more) ∙ (sum_by_push weight found.1 n ∙ omega arith));
+      begun = sym (ap bytes_of (last_is (packed_leaves tally.nodesize (lengths ++ n ∷ [])) found.0 (found.1 ++ n ∷ []) more) ∙ (sum_by_push weight found.1 n ∙ omega arith));
       total = omega (arith, known.total, sum_by_push weight lengths n);
     }
 
@@ -104,11 +98,11 @@ pub counts_next : (tally : Tally) (lengths : List ℕ) (n : ℕ) → Counted tal
     → Counted (record { nodesize = tally.nodesize; leaves = tally.leaves + 1; fill = weight n; bytes = tally.bytes + weight n }) (lengths ++ n ∷ [])
 counts_next tally lengths n known next =
     let found = ends_in weight (capacity tally.nodesize) [] lengths in
-    let fill : bytes_of found.1 ≡ tally.fill = sym (known.begun ∙ ap bytes_of (last_is (leaves tally.nodesize lengths) found.0 found.1 found.2)) in
-    let more : leaves tally.nodesize (lengths ++ n ∷ []) ≡ (found.0 ++ found.1 ∷ []) ++ (n ∷ []) ∷ [] =
+    let fill : bytes_of found.1 ≡ tally.fill = sym (known.begun ∙ ap bytes_of (last_is (packed_leaves tally.nodesize lengths) found.0 found.1 found.2)) in
+    let more : packed_leaves tally.nodesize (lengths ++ n ∷ []) ≡ (found.0 ++ found.1 ∷ []) ++ (n ∷ []) ∷ [] =
     one_more_next weight (capacity tally.nodesize) lengths found.1 found.0 n found.2 (omega arith) in
     record {
       count = omega (arith, known.count, ap length found.2, length_push found.0 found.1, ap length more, length_push (found.0 ++ found.1 ∷ []) (n ∷ []));
-      begun = sym (ap bytes_of (last_is (leaves tally.nodesize (lengths ++ n ∷ [])) (found.0 ++ found.1 ∷ []) (n ∷ []) more) ∙ zero-add (weight n));
+      begun = sym (ap bytes_of (last_is (packed_leaves tally.nodesize (lengths ++ n ∷ [])) (found.0 ++ found.1 ∷ []) (n ∷ []) more) ∙ zero-add (weight n));
       total = omega (arith, known.total, sum_by_push weight lengths n);
     }

@@ -1,22 +1,7 @@
 -- What a builder holds, and what a disk has of it.
-use Rattle.std.proofs.Common.{◌≡◌, ℕ, ◌+◌, ◌<◌, ◌≤◌, true, false, List, [], ◌∷◌, ◌++◌, length, Some, None, refl, sym, ◌∙◌, ap, subst, arith, append_assoc, length-append}
-use Rattle.std.specs.Prelude.{MatchOption}
-use Rattle.std.specs.List.{flat_map, slice_get}
-use Rattle.std.proofs.lemmas.List.{length-map, length_push}
-use Rattle.btr_node.specs.outside.History.{Image}
-use Rattle.btr_node.specs.btr_keys.declared.key.Key.{Key}
-use Rattle.btr_node.specs.Draft.{node_bytes, room}
-use Rattle.btr_node.specs.Leaf.{Item, items_in, keys_of}
-use Rattle.btr_node.specs.NodeSize.{IsNodeSize}
-use Rattle.btr_node.specs.Order.{Ascends, ascends, is_before_first}
-use Rattle.btr_node.specs.declared.child.Child.{Child}
-use Rattle.btr_node.proofs.Rows.{both, joined}
-use Rattle.btr_reader_walk.specs.declared.tree.Form.{Form}
-use Rattle.btr_tree.specs.Building.{Made, AreSlots, IsFresh, ReadsBack, taken, whole, with_item, begun_at, nodes_on}
-use Rattle.btr_tree.specs.Builder.{Building, Standing, Stands, Holds, HasPut, IsIdle, IsInHand, IsNextTaken, pushed, pushed_on, told_nodes, all_made, leaf_begun, leaf_closed, leaves_of}
+use Rattle.btr_tree.proofs.Imports.{◌≡◌, ℕ, ◌+◌, ◌<◌, ◌≤◌, true, false, List, [], ◌∷◌, ◌++◌, length, Some, None, refl, sym, ◌∙◌, ap, subst, arith, append_assoc, length-append, MatchOption, flat_map, slice_get, length-map, length_push, map-append, ITEM_SIZE, Image, Key, node_bytes, room, Item, items_in, keys_of, IsNodeSize, Ascends, ascends, is_before_first, Child, both, joined, Form, Made, AreSlots, IsFresh, NodeReadsBack, taken, with_written, with_item, begun_at, nodes_on, Building, Standing, Stands, Holds, HasPut, IsIdle, IsInHand, IsNextTaken, pushed, pushed_on, told_nodes, all_made, leaf_begun, leaf_closed, leaves_of}
 use Rattle.btr_tree.proofs.RaisingFronts.{whole_count}
 use Rattle.btr_tree.proofs.Standing.{stands_new, fresh_whole, stands_first, stands_next, stands_fits, leaves_next, some_leaf, pushed_same}
-use Rattle.std.proofs.lemmas.List.{map-append}
 
 -- nothing was pushed
 module _ (m : Made) (form : Form) (owner generation : ℕ) (chunk_tree slots : List ℕ) (size : IsNodeSize form.nodesize) (right : AreSlots form.nodesize slots) (fresh : IsFresh form owner generation chunk_tree slots m) where
@@ -24,7 +9,7 @@ module _ (m : Made) (form : Form) (owner generation : ℕ) (chunk_tree slots : L
   begun children = record { made = m; children = children; hand = None; spent = false; done = false }
 
   new_standing : (front : List (List ℕ)) → front ≡ [] → Standing (all_made (begun []) front)
-  new_standing front none = stands_new (whole m front) form owner generation chunk_tree slots size right (fresh_whole m form owner generation chunk_tree slots front none fresh)
+  new_standing front none = stands_new (with_written m front) form owner generation chunk_tree slots size right (fresh_whole m form owner generation chunk_tree slots front none fresh)
 
   new_pushed : (front : List (List ℕ)) → front ≡ [] → pushed (all_made (begun []) front) ≡ []
   new_pushed front none = ap (λ ns. flat_map items_in (ns ++ m.nodes) ++ m.draft.items) none ∙ (ap (λ ns. flat_map items_in ns ++ m.draft.items) fresh.no_nodes ∙ fresh.no_items)
@@ -59,7 +44,7 @@ order_on first last key body all some end =
     ap ascends (map-append (λ (item : Item). item.0) (first ++ last) ((key, body) ∷ []) ∙ ap (λ ks. ks ++ key ∷ []) parts)
     ∙ ascends_on (keys_of first) (keys_of last) key (sym (ap ascends parts) ∙ all) (omega (arith, some, length-map last (λ (item : Item). item.0))) end
 
-next_whole : (m : Made) (a : ℕ) (front : List (List ℕ)) → length front ≡ m.written → IsNextTaken m a → slice_get m.slots (length (whole m front).nodes) ≡ Some a
+next_whole : (m : Made) (a : ℕ) (front : List (List ℕ)) → length front ≡ m.written → IsNextTaken m a → slice_get m.slots (length (with_written m front).nodes) ≡ Some a
 next_whole m a front count at = ap (slice_get m.slots) (sym (whole_count m front count)) ∙ at
 
 -- a first leaf is begun
@@ -82,7 +67,7 @@ put_first b new a key body none at small is =
     })
 
 -- an item goes into the leaf in hand
-pub put_fits : (b : Building) (made : Made) (child : Child) (key : Key) (body : List ℕ) → b.hand ≡ Some child → Ascends (keys_of b.made.draft.items ++ key ∷ []) → 25 + length body ≤ room b.made.draft
+pub put_fits : (b : Building) (made : Made) (child : Child) (key : Key) (body : List ℕ) → b.hand ≡ Some child → Ascends (keys_of b.made.draft.items ++ key ∷ []) → ITEM_SIZE + length body ≤ room b.made.draft
     → made ≡ with_item b.made key body → HasPut b (record b { made = made }) (key, body)
 put_fits b made child key body some order fits is =
     subst (λ (m : Made). HasPut b (record b { made = m }) (key, body)) (sym is)
@@ -98,8 +83,8 @@ put_fits b made child key body some order fits is =
     })
 
 -- the next leaf is begun
-pub put_next : (b new : Building) (child : Child) (a : ℕ) (key : Key) (body : List ℕ) → b.hand ≡ Some child → Ascends (keys_of b.made.draft.items ++ key ∷ []) → room b.made.draft < 25 + length body
-    → ReadsBack b.made.draft (node_bytes b.made.draft) → IsNextTaken (leaf_closed b child).made a → new ≡ leaf_begun (leaf_closed b child) a key body → HasPut b new (key, body)
+pub put_next : (b new : Building) (child : Child) (a : ℕ) (key : Key) (body : List ℕ) → b.hand ≡ Some child → Ascends (keys_of b.made.draft.items ++ key ∷ []) → room b.made.draft < ITEM_SIZE + length body
+    → NodeReadsBack b.made.draft (node_bytes b.made.draft) → IsNextTaken (leaf_closed b child).made a → new ≡ leaf_begun (leaf_closed b child) a key body → HasPut b new (key, body)
 put_next b new child a key body some order full read at is =
     subst (λ (x : Building). HasPut b x (key, body)) (sym is)
     (record {
@@ -130,7 +115,7 @@ first_short b item items holds none short =
     omega (arith, short, whole_count b.made holds.front holds.count, ap (λ ns. length {A = List ℕ} ns) idle.no_nodes, some_leaf b.made.form.nodesize (items ++ item ∷ []))
 
 -- nor for the next one
-pub next_short : (b : Building) (child : Child) (key : Key) (body : List ℕ) (items : List Item) → Holds b items → b.hand ≡ Some child → room b.made.draft < 25 + length body
+pub next_short : (b : Building) (child : Child) (key : Key) (body : List ℕ) (items : List Item) → Holds b items → b.hand ≡ Some child → room b.made.draft < ITEM_SIZE + length body
     → length b.made.slots ≤ taken (leaf_closed b child).made → length b.made.slots < leaves_of b.made.form.nodesize (items ++ (key, body) ∷ [])
 next_short b child key body items holds some full short =
     let x : Building = all_made b holds.front in

@@ -1,20 +1,7 @@
 -- The order of keys.
-use Rattle.std.proofs.Common.{◌≡◌, ◌⊎◌, ℕ, ◌<◌, ◌≤◌, true, false, List, [], ◌∷◌, ◌++◌, length, map, inl, inr, refl, sym, ◌∙◌, ap, arith, ⊎_elim}
-use Rattle.std.specs.Prelude.{All}
-use Rattle.std.specs.List.{flat_map}
+use Rattle.btr_tree.proofs.Imports.{◌≡◌, ◌⊎◌, ℕ, ◌<◌, ◌≤◌, true, false, List, [], ◌∷◌, ◌++◌, length, map, inl, inr, refl, sym, ◌∙◌, ap, arith, ⊎_elim, All, flat_map, is_lt, nat_cmp, ordering_then, nat_cmp_is, cases_order, both_ways, map-append, All-head, All-tail, Key, Item, keys_of, is_before, is_before_first, ascends, Ascends, second_ascends, both, joined, first_key}
 use Rattle.std.specs.declared.cmp.Ordering.{Ordering}
 use Rattle.std.specs.declared.cmp.Ordering.TheVariants.{Less, Equal, Greater}
-use Rattle.std.specs.Ordering.{is_lt, nat_cmp, ordering_then}
-use Rattle.std.specs.Cmp.{nat_cmp_is}
-use Rattle.std.proofs.lemmas.Bool.{cases_order, both_ways}
-use Rattle.std.proofs.lemmas.List.{map-append}
-use Rattle.std.proofs.lemmas.List.Elements.{All-head, All-tail}
-use Rattle.btr_node.specs.btr_keys.declared.key.Key.{Key}
-use Rattle.btr_node.specs.Leaf.{Item, keys_of}
-use Rattle.btr_node.specs.Order.{is_before, is_before_first, ascends, Ascends}
-use Rattle.btr_node.proofs.Ascending.{second_ascends}
-use Rattle.btr_node.proofs.Rows.{both, joined}
-use Rattle.btr_tree.specs.Builder.{first_key}
 
 -- by objectid, then by kind, then by offset
 abbrev Before : Key → Key → Type 0

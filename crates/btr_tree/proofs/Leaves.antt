@@ -1,60 +1,33 @@
 -- The leaves that were made are subtrees.
-use Rattle.std.proofs.Common.{◌≡◌, ℕ, suc, ◌+◌, ◌%◌, ◌^◌, ◌<◌, ◌≤◌, ◌||◌, ltb, Bool, true, List, [], ◌∷◌, ◌++◌, length, map, take, get_or, refl, sym, ◌∙◌, ap, subst, arith, ⊎_elim}
-use Rattle.std.specs.Prelude.{All}
-use Rattle.std.specs.List.{flat_map, sum_by}
-use Rattle.std.proofs.lemmas.Bool.{or_right, lt-ltb, cases_lt}
-use Rattle.std.proofs.lemmas.List.{append-nil, take_more, length-map, length_push, map-append}
-use Rattle.std.proofs.lemmas.List.Sums.{sum_by-cons}
-use Rattle.std.proofs.lemmas.List.Elements.{All-nil, All-cons, All-head, All-tail}
-use Rattle.btr_node.specs.outside.History.{Image}
-use Rattle.btr_node.specs.Draft.{node_bytes}
-use Rattle.btr_node.specs.Head.{count, behind_head}
-use Rattle.btr_node.specs.Inner.{first_keys}
-use Rattle.btr_node.specs.Leaf.{Item, IsLeaf, item_layout, heads_in, items_in}
-use Rattle.btr_node.specs.NodeSize.{IsNodeSize}
-use Rattle.btr_node.specs.Records.{records_in}
-use Rattle.btr_node.specs.declared.child.Child.{Child}
-use Rattle.btr_node.proofs.Rows.{length-records_in}
-use Rattle.btr_reader_walk.specs.Laws.{IsSubtree, AreSubtrees, LeavesGiveItems, SubtreesAreTrees}
-use Rattle.btr_reader_walk.specs.Map.{identity, is_mapped, node_at}
-use Rattle.btr_reader_walk.specs.Node.{want, child_pointer}
-use Rattle.btr_reader_walk.specs.declared.tree.Form.{Form}
-use Rattle.btr_reader_walk.specs.declared.tree.Pointer.{Pointer}
-use Rattle.btr_tree.specs.Building.{Made, AreSlots, slot, pointer_to, begun_at, with_node, ReadsBack}
-use Rattle.btr_tree.specs.Builder.{Building, pushed, first_key, child_of, children_of, IsInHand, IsNextSlot, Standing, item_size}
-use Rattle.btr_tree.specs.Counting.{tree_nodes}
-use Rattle.btr_tree.specs.Packing.{packed_from, packed, weight, capacity, level_sizes, leaves, tree_levels}
-use Rattle.btr_tree.specs.Roots.{HasRoots, IsExtended, IsRoot, HasNodes, AreFirst, nodes_below, pointers_to, level_pointers, lengths_of}
-use Rattle.btr_reader_walk.specs.Events.{may_be_bare, nodes_in, pointer_events}
-use Rattle.std.specs.List.Sorted.{IsPermutation}
-use Rattle.std.proofs.lemmas.List.Sorted.{IsPermutation-refl}
+use Rattle.btr_tree.proofs.Imports.{◌≡◌, ℕ, suc, ◌+◌, ◌%◌, ◌^◌, ◌<◌, ◌≤◌, ◌||◌, ltb, Bool, true, List, [], ◌∷◌, ◌++◌, length, map, take, get_or, refl, sym, ◌∙◌, ap, subst, arith, ⊎_elim, All, flat_map, sum_by, or_right, lt-ltb, cases_lt, append-nil, take_more, length-map, length_push, map-append, sum_by-cons, All-nil, All-cons, All-head, All-tail, ITEM_SIZE, Image, node_bytes, nritems, behind_head, first_keys, Item, IsBtrfsLeaf, item_layout, heads_in, items_in, IsNodeSize, records_in, Child, length-records_in, IsSubtree, AreSubtrees, LeavesGiveItems, SubtreesAreTrees, identity, is_mapped, node_at, want, child_pointer, Form, NodePointer, Made, AreSlots, slot, pointer_to, begun_at, with_node, NodeReadsBack, Building, pushed, first_key, child_of, children_of, IsInHand, IsNextSlot, Standing, item_size, tree_nodes, packed_from, packed, weight, capacity, level_sizes, packed_leaves, tree_levels, IsWhole, HasSubtreeRoots, IsExtended, IsRoot, HasNodes, HasWholeNodes, AreFirst, nodes_below, pointers_to, level_pointers, lengths_of, may_be_bare, nodes_in, pointer_events, IsPermutation, IsPermutation-refl}
 use Rattle.btr_tree.proofs.Meeting.{leaf_met}
 use Rattle.btr_tree.proofs.Groups.{packed-fits, packed-next, packed-none}
 use Rattle.btr_tree.proofs.Raising.{slot_mapped, stand_last}
-use Rattle.btr_tree.proofs.Standing.{leaves_more, children_more, full_more, lists_are, pushed_same, next_is}
+use Rattle.btr_tree.proofs.Wholes.{leaves_whole}
+use Rattle.btr_tree.proofs.Standing.{leaves_more, exact_more, children_more, full_more, lists_are, pushed_same, next_is}
 
 -- a leaf has as many items as it says
-count_is : (bytes : List ℕ) → length (items_in bytes) ≡ count bytes
+count_is : (bytes : List ℕ) → length (items_in bytes) ≡ nritems bytes
 unfolding items_in heads_in
-count_is bytes = length-map (records_in 25 item_layout (count bytes) (behind_head bytes)) _ ∙ length-records_in 25 item_layout (count bytes) (behind_head bytes)
+count_is bytes = length-map (records_in ITEM_SIZE item_layout (nritems bytes) (behind_head bytes)) _ ∙ length-records_in ITEM_SIZE item_layout (nritems bytes) (behind_head bytes)
 
 leaves_subtrees : (law : LeavesGiveItems) (image : Image) (form : Form) (owner generation : ℕ) (bare : Bool) (slots : List ℕ) (nodes : List (List ℕ)) → IsNodeSize form.nodesize
     → All (λ a. a % form.nodesize ≡ 0) slots → All (λ a. a < 2 ^ 64) slots → length nodes ≤ length slots
     → ((i : ℕ) → i < length nodes → node_at image identity form.nodesize (slot slots i) ≡ get_or nodes i [])
-    → ((i : ℕ) → i < length nodes → IsLeaf (want form owner (pointer_to generation 0 (slot slots i))) (get_or nodes i []))
+    → ((i : ℕ) → i < length nodes → IsBtrfsLeaf (want form owner (pointer_to generation 0 (slot slots i))) (get_or nodes i []))
     → All (λ items. 1 ≤ length items) (map items_in nodes)
     → AreSubtrees image identity form owner bare (map (child_pointer 0) (children_of generation slots (map items_in nodes))) (map items_in nodes)
 leaves_subtrees law image form owner generation bare [] [] size aligned small few stand leaf full = tt
 leaves_subtrees law image form owner generation bare [] (n ∷ nodes) size aligned small few stand leaf full = absurd (omega arith)
 leaves_subtrees law image form owner generation bare (a ∷ slots) [] size aligned small few stand leaf full = tt
 leaves_subtrees law image form owner generation bare (a ∷ slots) (n ∷ nodes) size aligned small few stand leaf full =
-    let p : Pointer = pointer_to generation 0 a in
+    let p : NodePointer = pointer_to generation 0 a in
     let node : node_at image identity form.nodesize a ≡ n = stand 0 (omega arith) in
     let mapped : is_mapped identity form.nodesize a ≡ true = slot_mapped form.nodesize a size (All-head (λ b. b % form.nodesize ≡ 0) a slots aligned) (All-head (λ b. b < 2 ^ 64) a slots small) in
-    let here : IsLeaf (want form owner p) (node_at image identity form.nodesize a) = subst (IsLeaf (want form owner p)) (sym node) (leaf 0 (omega arith)) in
+    let here : IsBtrfsLeaf (want form owner p) (node_at image identity form.nodesize a) = subst (IsBtrfsLeaf (want form owner p)) (sym node) (leaf 0 (omega arith)) in
     let many : 1 ≤ length (items_in n) = All-head (λ items. 1 ≤ length items) (items_in n) (map items_in nodes) full in
-    let some : (bare || ltb 0 (count (node_at image identity form.nodesize a))) ≡ true =
-    or_right bare (ltb 0 (count (node_at image identity form.nodesize a))) (lt-ltb 0 (count (node_at image identity form.nodesize a)) (omega (arith, count_is n, many, ap count node))) in (
+    let some : (bare || ltb 0 (nritems (node_at image identity form.nodesize a))) ≡ true =
+    or_right bare (ltb 0 (nritems (node_at image identity form.nodesize a))) (lt-ltb 0 (nritems (node_at image identity form.nodesize a)) (omega (arith, count_is n, many, ap nritems node))) in (
       subst (λ is. IsSubtree image identity form owner bare p is) (ap items_in node) (law image identity form owner bare p mapped here some),
       leaves_subtrees law image form owner generation bare slots nodes size (All-tail (λ b. b % form.nodesize ≡ 0) a slots aligned) (All-tail (λ b. b < 2 ^ 64) a slots small) (omega arith)
           (λ i h. stand (suc i) (omega arith)) (λ i h. leaf (suc i) (omega arith)) (All-tail (λ items. 1 ≤ length items) (items_in n) (map items_in nodes) full),
@@ -92,7 +65,7 @@ first_met image form owner generation bare (a ∷ slots) (l ∷ lists) few =
     ∙ ap (λ ps. pointer_to generation 0 a ∷ ps) (first_met image form owner generation bare slots lists (omega arith))
 
 -- once the last leaf is made
-module _ (law : LeavesGiveItems) (b : Building) (child : Child) (so_far : Standing b) (hand : IsInHand b child) (read : ReadsBack b.made.draft (node_bytes b.made.draft)) where
+module _ (law : LeavesGiveItems) (b : Building) (child : Child) (so_far : Standing b) (hand : IsInHand b child) (read : NodeReadsBack b.made.draft (node_bytes b.made.draft)) where
   abbrev m : Made
   m = with_node b.made (node_bytes b.made.draft)
 
@@ -102,9 +75,9 @@ module _ (law : LeavesGiveItems) (b : Building) (child : Child) (so_far : Standi
   few_lists : length (map items_in m.nodes) ≤ length m.slots
   few_lists = omega (arith, few, length-map m.nodes items_in)
 
-  pub leaf_roots : HasRoots m 0 (b.children ++ child ∷ []) (pushed b)
+  pub leaf_roots : HasSubtreeRoots m 0 (b.children ++ child ∷ []) (pushed b)
   leaf_roots =
-      subst (λ cs. HasRoots m 0 cs (pushed b)) (sym (children_more b child so_far hand read))
+      subst (λ cs. HasSubtreeRoots m 0 cs (pushed b)) (sym (children_more b child so_far hand read))
       (record {
         lists = map items_in m.nodes;
         roots = record {
@@ -114,6 +87,7 @@ module _ (law : LeavesGiveItems) (b : Building) (child : Child) (so_far : Standi
           subtrees = λ image bare stand.
               leaves_subtrees law image m.form m.owner m.generation bare m.slots m.nodes so_far.nodesize so_far.slots.aligned so_far.slots.small few stand (leaves_more b child so_far hand read)
               (full_more b child so_far hand read);
+          whole = λ image bare stand. leaves_whole image m bare m.slots m.nodes few stand (exact_more b child so_far hand read) (full_more b child so_far hand read);
         };
         items_are = flat_same m.nodes ∙ pushed_same b child so_far hand read;
       })
@@ -167,20 +141,35 @@ extended_node m bytes = record { more = bytes ∷ []; draft = m.draft; is = refl
 
 -- an empty leaf is the tree without items
 pub empty_root : (give : LeavesGiveItems) (are : SubtreesAreTrees) (m : Made) (a : ℕ) → IsNodeSize m.form.nodesize → AreSlots m.form.nodesize m.slots → m.nodes ≡ [] → IsNextSlot m a
-    → ReadsBack (begun_at m 0 a).draft (node_bytes (begun_at m 0 a).draft) → IsRoot (with_node (begun_at m 0 a) (node_bytes (begun_at m 0 a).draft)) a 0 []
+    → NodeReadsBack (begun_at m 0 a).draft (node_bytes (begun_at m 0 a).draft) → IsRoot (with_node (begun_at m 0 a) (node_bytes (begun_at m 0 a).draft)) a 0 []
 empty_root give are m a size slots none at read = λ image stand.
     let bytes : List ℕ = node_bytes (begun_at m 0 a).draft in
-    let p : Pointer = pointer_to m.generation 0 a in
+    let p : NodePointer = pointer_to m.generation 0 a in
     let next = next_is m a at in
     let aligned : a % m.form.nodesize ≡ 0 = subst (λ (x : ℕ). x % m.form.nodesize ≡ 0) next.0 (slots.aligned (length m.nodes) 0 next.1) in
     let small : a < 2 ^ 64 = subst (λ (x : ℕ). x < 2 ^ 64) next.0 (slots.small (length m.nodes) 0 next.1) in
     let node : node_at image identity m.form.nodesize a ≡ bytes = sym (ap (node_at image identity m.form.nodesize) next.0) ∙ stand_last image m.form.nodesize m.slots m.nodes bytes stand in
-    let leaf : IsLeaf (want m.form m.owner p) (node_at image identity m.form.nodesize a) = subst (IsLeaf (want m.form m.owner p)) (sym node) (read.leaf refl) in
+    let leaf : IsBtrfsLeaf (want m.form m.owner p) (node_at image identity m.form.nodesize a) = subst (IsBtrfsLeaf (want m.form m.owner p)) (sym node) (read.leaf refl) in
     let below = give image identity m.form m.owner true p (slot_mapped m.form.nodesize a size aligned small) leaf refl in
     are image identity m.form m.owner p [] (subst (λ is. IsSubtree image identity m.form m.owner true p is) (ap items_in node ∙ read.items refl) below) refl
 
+-- which is whole
+pub empty_whole : (m : Made) (a : ℕ) → IsNextSlot m a → NodeReadsBack (begun_at m 0 a).draft (node_bytes (begun_at m 0 a).draft)
+    → HasWholeNodes (with_node (begun_at m 0 a) (node_bytes (begun_at m 0 a).draft)) a 0
+empty_whole m a at read = λ image stand.
+    let bytes : List ℕ = node_bytes (begun_at m 0 a).draft in
+    let p : NodePointer = pointer_to m.generation 0 a in
+    let Node : NodePointer → Type 0 = IsWhole image identity m.form m.owner m.chunk_tree in
+    let node : node_at image identity m.form.nodesize a ≡ bytes =
+    sym (ap (node_at image identity m.form.nodesize) (next_is m a at).0) ∙ stand_last image m.form.nodesize m.slots m.nodes bytes stand in
+    let here : Node p = record {
+      exact = record { draft = (begun_at m 0 a).draft; right = read.right; nodesize_is = refl; want_is = refl; chunk_tree_is = refl; bytes_are = node };
+      firsts = λ h. absurd (omega (arith, h));
+    } in
+    subst (All Node) (sym (leaf_met image m.form m.owner true m.generation a)) (All-cons Node p [] here (All-nil Node))
+
 -- an empty tree has one node
-pub empty_met : (m : Made) (a : ℕ) → m.nodes ≡ [] → IsNextSlot m a → HasNodes (with_node (begun_at m 0 a) (node_bytes (begun_at m 0 a).draft)) a 0 (tree_levels m.form.nodesize (length (leaves m.form.nodesize [])))
+pub empty_met : (m : Made) (a : ℕ) → m.nodes ≡ [] → IsNextSlot m a → HasNodes (with_node (begun_at m 0 a) (node_bytes (begun_at m 0 a).draft)) a 0 (tree_levels m.form.nodesize (length (packed_leaves m.form.nodesize [])))
 unfolding packed_from level_sizes
 empty_met m a none at = λ image stand.
     let next = next_is m a at in

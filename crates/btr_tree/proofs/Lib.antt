@@ -6,6 +6,7 @@ pub mod Climbing
 pub mod ClimbingFronts
 pub mod Closing
 pub mod Completing
+pub mod Drafting
 pub mod Falling
 pub mod Finishing
 pub mod Fronts
@@ -13,8 +14,10 @@ pub mod FullGroups
 pub mod Going
 pub mod Groups
 pub mod Holding
+pub mod Imports
 pub mod KeyOrder
 pub mod Leaves
+pub mod LinuxForm
 pub mod Maps
 pub mod Meeting
 pub mod Numbered
@@ -25,3 +28,5 @@ pub mod RaisingFronts
 pub mod RaisingLoop
 pub mod Sizes
 pub mod Standing
+pub mod Wholes
+pub mod WholesAlike

@@ -1,19 +1,12 @@
 -- A tree by two maps that agree on its nodes.
-use Rattle.std.proofs.Common.{◌≡◌, ℕ, zero, suc, ◌+◌, ◌-◌, ◌*◌, ◌/◌, ◌%◌, ◌^◌, ◌<◌, leb, ltb, eqb, Bool, true, ◌&&◌, List, ◌++◌, Some, Option, refl, sym, ◌∙◌, ap, arith}
-use Rattle.std.specs.Prelude.{is_some}
-use Rattle.std.proofs.lemmas.Bool.{and_from, le-leb, lt-ltb}
-use Rattle.btr_node.specs.outside.History.{Image}
-use Rattle.btr_reader_walk.specs.declared.tree.Form.{Form}
-use Rattle.btr_reader_walk.specs.declared.tree.Pointer.{Pointer}
-use Rattle.btr_reader_walk.specs.declared.map.MapRange.{MapRange}
-use Rattle.btr_reader_walk.specs.Map.{place, holds, identity, are_mapped, is_mapped, block_of_place, blocks_at, node_at}
-use Rattle.btr_tree.specs.Laws.{GivesItself, MapsAgree}
+use Rattle.btr_tree.proofs.Imports.{◌≡◌, ℕ, zero, suc, ◌+◌, ◌-◌, ◌*◌, ◌/◌, ◌%◌, ◌^◌, ◌<◌, leb, ltb, eqb, Bool, true, ◌&&◌, List, ◌++◌, None, Some, Option, refl, sym, ◌∙◌, ap, arith, is_some, and_from, le-leb, lt-ltb, Image, Form, NodePointer, MapRange, place, holds, identity, are_mapped, is_mapped, block_of_place, blocks_at, node_at, GivesItself, MapsAgree}
 use Rattle.btr_tree.proofs.Alike.{events_alike, items_alike}
+use Rattle.btr_tree.proofs.WholesAlike.{whole_alike}
 
 -- an address by the map that gives each address itself
 identity_gives : (a : ℕ) → a < 2 ^ 64 → place identity a ≡ Some a
 identity_gives a small =
-    let inside : holds (record { logical = 0; length = 2 ^ 64; physical = 0 }) a ≡ true = and_from (leb 0 a) (ltb a (0 + 2 ^ 64)) (le-leb 0 a (omega arith)) (lt-ltb a (0 + 2 ^ 64) (omega arith)) in
+    let inside : holds (record { logical = 0; length = 2 ^ 64; physical = 0; mirror = None }) a ≡ true = and_from (leb 0 a) (ltb a (0 + 2 ^ 64)) (le-leb 0 a (omega arith)) (lt-ltb a (0 + 2 ^ 64) (omega arith)) in
     let at : 0 + (a - 0) ≡ a = omega arith in rw inside (ap Some at)
 
 module _ (image : Image) (ranges : List MapRange) where
@@ -39,17 +32,17 @@ module _ (image : Image) (ranges : List MapRange) where
       ∙ ap (λ bytes. block_of_place image (place identity a) ++ bytes) (blocks_same n (a + 4096) (further n a same))
 
   module _ (form : Form) where
-    abbrev P : Pointer → Type 0
+    abbrev P : NodePointer → Type 0
     P p = GivesItself ranges form.nodesize p.address
 
-    same_places : (p : Pointer) → P p → Same (form.nodesize / 4096) p.address
+    same_places : (p : NodePointer) → P p → Same (form.nodesize / 4096) p.address
     same_places p gives = λ j h. (gives j h).1 ∙ sym (identity_gives (p.address + 4096 * j) (gives j h).0)
 
-    node_same : (p : Pointer) → P p → node_at image ranges form.nodesize p.address ≡ node_at image identity form.nodesize p.address
+    node_same : (p : NodePointer) → P p → node_at image ranges form.nodesize p.address ≡ node_at image identity form.nodesize p.address
     unfolding node_at
     node_same p gives = blocks_same (form.nodesize / 4096) p.address (same_places p gives)
 
-    is_same : (p : Pointer) → P p → is_mapped ranges form.nodesize p.address ≡ is_mapped identity form.nodesize p.address
+    is_same : (p : NodePointer) → P p → is_mapped ranges form.nodesize p.address ≡ is_mapped identity form.nodesize p.address
     unfolding is_mapped
     is_same p gives = ap (λ (b : Bool). eqb (p.address % 4096) 0 && b) (mapped_same (form.nodesize / 4096) p.address (same_places p gives))
 
@@ -57,4 +50,6 @@ pub agree : MapsAgree
 agree = λ image ranges form root owner all. record {
   events = events_alike image identity image ranges form (P image ranges form) (node_same image ranges form) (is_same image ranges form) root owner all;
   items = items_alike image identity image ranges form (P image ranges form) (node_same image ranges form) (is_same image ranges form) root owner all;
+  whole = λ read chunk_tree are whole.
+      whole_alike image identity image ranges form (P image ranges form) (node_same image ranges form) (is_same image ranges form) root owner chunk_tree read all are whole;
 }

@@ -1,30 +1,8 @@
 -- The nodes that a walk meets.
-use Rattle.std.proofs.Common.{◌≡◌, ℕ, suc, ◌+◌, Bool, List, [], ◌∷◌, ◌++◌, length, map, refl, sym, ◌∙◌, ap, subst, arith, append_assoc}
-use Rattle.std.specs.List.{flat_map, sum}
-use Rattle.std.specs.List.Sorted.{IsPermutation}
-use Rattle.std.proofs.lemmas.List.{append-nil, map-append}
-use Rattle.std.proofs.lemmas.List.Concat.{flat_map-append}
-use Rattle.std.proofs.lemmas.List.Sorted.{IsPermutation-append_left, IsPermutation-append_right, IsPermutation-append_comm}
-use Rattle.std.proofs.lemmas.List.Sums.{sum_by-cons}
-use Rattle.btr_node.specs.outside.History.{Image}
-use Rattle.btr_node.specs.refusals.declared.refusal.BtrRefusal.{BtrRefusal}
-use Rattle.btr_node.specs.refusals.declared.rule.BtrRule.{BtrRule}
-use Rattle.btr_node.specs.Inner.{children_in}
-use Rattle.btr_node.specs.Leaf.{Item, items_in}
-use Rattle.btr_node.specs.declared.child.Child.{Child}
-use Rattle.btr_reader_walk.specs.declared.tree.Form.{Form}
-use Rattle.btr_reader_walk.specs.declared.tree.Pointer.{Pointer}
-use Rattle.btr_reader_walk.specs.Map.{identity, node_at}
-use Rattle.btr_reader_walk.specs.Node.{child_pointer, node_damages}
-use Rattle.btr_reader_walk.specs.Events.{Event, leaf_events, unless_damaged, node_events, nodes_in, pointer_events}
-use Rattle.btr_reader_walk.specs.Tree.{at_address}
-use Rattle.btr_reader_walk.specs.Laws.{IsSubtree}
-use Rattle.btr_reader_walk.proofs.Events.{nodes_in-append, leaf_nodes}
-use Rattle.btr_tree.specs.Building.{Made, pointer_to}
-use Rattle.btr_tree.specs.Roots.{nodes_below, pointers_to, level_pointers}
+use Rattle.btr_tree.proofs.Imports.{◌≡◌, ℕ, suc, ◌+◌, Bool, List, [], ◌∷◌, ◌++◌, length, map, refl, sym, ◌∙◌, ap, subst, arith, append_assoc, flat_map, sum, IsPermutation, append-nil, map-append, flat_map-append, IsPermutation-append_left, IsPermutation-append_right, IsPermutation-append_comm, sum_by-cons, Image, BtrRefusal, BtrRule, children_in, Item, items_in, Child, Form, NodePointer, identity, node_at, child_pointer, node_damages, TreeEvent, leaf_events, unless_damaged, node_events, nodes_in, pointer_events, at_address, IsSubtree, nodes_in-append, leaf_nodes, Made, pointer_to, nodes_below, pointers_to, level_pointers}
 
 module _ (image : Image) (form : Form) (owner : ℕ) (bare : Bool) where
-  abbrev met : Pointer → List Pointer
+  abbrev met : NodePointer → List NodePointer
   met p = nodes_in (pointer_events image identity form owner bare p)
 
   -- a leaf meets itself alone
@@ -36,7 +14,7 @@ module _ (image : Image) (form : Form) (owner : ℕ) (bare : Bool) where
       none [] = leaf_nodes a (items_in (node_at image identity form.nodesize a))
       none (rule ∷ rules) = refl
 
-  flat_nodes : (f : Child → List Event) (children : List Child) → nodes_in (flat_map f children) ≡ flat_map (λ c. nodes_in (f c)) children
+  flat_nodes : (f : Child → List TreeEvent) (children : List Child) → nodes_in (flat_map f children) ≡ flat_map (λ c. nodes_in (f c)) children
   flat_nodes f [] = refl
   flat_nodes f (c ∷ cs) = nodes_in-append (f c) (flat_map f cs) ∙ ap (λ ps. nodes_in (f c) ++ ps) (flat_nodes f cs)
 
@@ -58,8 +36,8 @@ module _ (image : Image) (form : Form) (owner : ℕ) (bare : Bool) where
       → met (pointer_to g (suc level) a) ≡ pointer_to g (suc level) a ∷ flat_map met (map (child_pointer level) part)
   unfolding node_events
   inner_met level g a items part is links =
-      let p : Pointer = pointer_to g (suc level) a in
-      let below : Child → List Event = λ c. node_events image identity form owner bare level c.address c.generation in
+      let p : NodePointer = pointer_to g (suc level) a in
+      let below : Child → List TreeEvent = λ c. node_events image identity form owner bare level c.address c.generation in
       ap (λ (d : List BtrRule). p ∷ nodes_in (unless_damaged d (flat_map below (children_in (node_at image identity form.nodesize a))))) (no_damage level g a items is)
       ∙ ap (λ ps. p ∷ ps) (ap (λ cs. nodes_in (flat_map below cs)) links ∙ (flat_nodes below part ∙ over_pointers level part))
 
@@ -75,7 +53,7 @@ perm_more ps bs cs p =
 
 pub below_append : (image : Image) (m : Made) (bare : Bool) (level : ℕ) (xs ys : List Child) → nodes_below image m bare level (xs ++ ys) ≡ nodes_below image m bare level xs ++ nodes_below image m bare level ys
 below_append image m bare level xs ys =
-    let met : Pointer → List Pointer = λ p. nodes_in (pointer_events image identity m.form m.owner bare p) in
+    let met : NodePointer → List NodePointer = λ p. nodes_in (pointer_events image identity m.form m.owner bare p) in
     ap (flat_map met) (map-append (child_pointer level) xs ys) ∙ flat_map-append met (map (child_pointer level) xs) (map (child_pointer level) ys)
 
 pub below_one : (image : Image) (m : Made) (bare : Bool) (level : ℕ) (c : Child) → nodes_below image m bare level (c ∷ []) ≡ nodes_in (pointer_events image identity m.form m.owner bare (child_pointer level c))

@@ -1,15 +1,8 @@
 -- Items and slots that are numbered.
-use Rattle.std.proofs.Common.{◌≡◌, ℕ, zero, suc, ◌+◌, ◌*◌, ◌%◌, ◌<◌, ◌≤◌, ◌^◌, Bool, true, false, List, [], ◌∷◌, ◌++◌, map, nat_cmp, Ordering, Less, is_lt, All, IsTrue, refl, sym, ◌∙◌, ap, subst, arith}
-use Rattle.std.specs.List.{range_with_len}
-use Rattle.std.specs.Cmp.{nat_cmp_is}
-use Rattle.std.specs.Ordering.{ordering_then}
+use Rattle.btr_tree.proofs.Imports.{◌≡◌, ℕ, zero, suc, ◌+◌, ◌*◌, ◌%◌, ◌<◌, ◌≤◌, ◌^◌, Bool, true, false, List, [], ◌∷◌, ◌++◌, map, Ordering, Less, IsTrue, refl, sym, ◌∙◌, ap, subst, arith, range_with_len, nat_cmp_is, ordering_then, Key, Item, keys_of, ascends, is_before, Ascends, joined, AreSlots, Building, Holds, IsSameBuilding, all_made}
+use Rattle.std.proofs.Common.{nat_cmp, is_lt, All}
 use Rattle.std.proofs.lemmas.List.FromFn.{get_or-map-range_with_len, length-map-range_with_len, map-range_with_len_more}
-use Rattle.btr_node.specs.btr_keys.declared.key.Key.{Key}
-use Rattle.btr_node.specs.Leaf.{Item, keys_of}
-use Rattle.btr_node.specs.Order.{ascends, is_before, Ascends}
-use Rattle.btr_node.proofs.Rows.{joined}
-use Rattle.btr_tree.specs.Building.{AreSlots}
-use Rattle.btr_tree.specs.Builder.{Building, Holds, IsSameTree, all_made}
+use Rattle.btrfs_format.specs.declared.key.TheConstants.{INODE_ITEM}
 use Rattle.btr_tree.proofs.Standing.{hand_order}
 
 -- what holds of each value of a function holds of each in a list of these
@@ -37,7 +30,7 @@ pub slots_within : (n blocks : ℕ) → n + 16 ≤ blocks → All (λ a. a + 409
 slots_within n blocks long = all_row slot_in_a_row (λ a. a + 4096 ≤ 4096 * blocks) n (λ k lt. omega (arith, lt, long))
 
 abbrev pub numbered_key : ℕ → Key
-numbered_key k = record { objectid = k; kind = 1; offset = 0 }
+numbered_key k = record { objectid = k; kind = INODE_ITEM; offset = 0 }
 
 abbrev pub numbered_item : List ℕ → ℕ → Item
 numbered_item body k = (numbered_key k, body)
@@ -51,7 +44,7 @@ numbered_ascend body a (suc zero) = refl
 numbered_ascend body a (suc (suc n)) =
     joined (is_before (numbered_key a) (numbered_key (a + 1))) (ascends (keys_of (map (numbered_item body) (range_with_len (a + 1) (suc n))))) (next_before a) (numbered_ascend body (a + 1) (suc n))
 
-pub one_more : (body : List ℕ) (n : ℕ) → map (λ k. (record { objectid = k; kind = 1; offset = 0 }, body)) (range_with_len 0 n) ++ (numbered_key n, body) ∷ [] ≡ map (numbered_item body) (range_with_len 0 (n + 1))
+pub one_more : (body : List ℕ) (n : ℕ) → map (λ k. (record { objectid = k; kind = INODE_ITEM; offset = 0 }, body)) (range_with_len 0 n) ++ (numbered_key n, body) ∷ [] ≡ map (numbered_item body) (range_with_len 0 (n + 1))
 one_more body n = sym (map-range_with_len_more (numbered_item body) 0 n n (omega arith))
 
 -- a builder that holds the items before number n may have it next
@@ -64,10 +57,11 @@ pub not_true : (b : Bool) → (IsTrue b → false ≡ true) → b ≡ false
 not_true true no_way = sym (no_way refl)
 not_true false no_way = refl
 
-pub same_twice : (a b c : Building) → IsSameTree a b → IsSameTree b c → IsSameTree a c
+pub same_twice : (a b c : Building) → IsSameBuilding a b → IsSameBuilding b c → IsSameBuilding a c
 same_twice a b c first second = record {
   form = second.form ∙ first.form;
   owner = second.owner ∙ first.owner;
   generation = second.generation ∙ first.generation;
   slots = second.slots ∙ first.slots;
+  chunk_tree = second.chunk_tree ∙ first.chunk_tree;
 }

@@ -1,18 +1,6 @@
 -- Nodes on a disk.
-use Rattle.std.proofs.Common.{◌≡◌, ◌≢◌, ℕ, zero, suc, ◌+◌, ◌-◌, ◌*◌, ◌/◌, ◌%◌, ◌^◌, ◌<◌, ◌≤◌, leb, ltb, true, List, [], ◌∷◌, ◌++◌, length, take, drop, set, get_or, Some, refl, sym, ◌∙◌, ap, subst, arith, ⊎_elim, get_or-set_same, get_or-set_other}
-use Rattle.std.proofs.Math.Nat.{mul-suc}
-use Rattle.std.proofs.lemmas.Bool.{cases_eq, and_from, le-leb, lt-ltb}
-use Rattle.std.proofs.lemmas.List.{take-append-drop, drop-drop, nil_from_length, length-drop}
-use Rattle.std.specs.List.{All, slice_get}
-use Rattle.std.proofs.lemmas.List.Elements.{All-head, All-tail}
-use Rattle.std.proofs.lemmas.Nat.{mul-le}
-use Rattle.std.proofs.lemmas.List.{length-take, get_or-take}
-use Rattle.std.proofs.lemmas.Option.{get_or_from_slice_get, slice_get_within}
-use Rattle.btr_node.specs.outside.History.{Image, block_at}
-use Rattle.btr_node.specs.NodeSize.{IsNodeSize}
-use Rattle.btr_reader_walk.specs.Map.{place, holds, identity, block_of_place, blocks_at, node_at}
-use Rattle.btr_tree.specs.Building.{pieces_of, AreSlots, slot, nodes_on}
-use Rattle.btr_tree.specs.Writing.{IsInNode, IsInSlots, HoldBytes}
+use Rattle.btr_tree.proofs.Imports.{◌≡◌, ◌≢◌, ℕ, zero, suc, ◌+◌, ◌-◌, ◌*◌, ◌/◌, ◌%◌, ◌^◌, ◌<◌, ◌≤◌, leb, ltb, true, List, [], ◌∷◌, ◌++◌, length, take, drop, set, get_or, None, Some, refl, sym, ◌∙◌, ap, subst, arith, ⊎_elim, get_or-set_same, get_or-set_other, mul-suc, cases_eq, and_from, le-leb, lt-ltb, take-append-drop, drop-drop, nil_from_length, length-drop, length-take, get_or-take, slice_get, All-head, All-tail, mul-le, get_or_from_slice_get, slice_get_within, Image, block_at, IsNodeSize, place, holds, identity, block_of_place, blocks_at, node_at, pieces_of, AreSlots, slot, nodes_on, IsInNode, IsInSlots, HoldBytes}
+use Rattle.std.specs.List.{All}
 
 -- one block more holds its bytes
 pub hold_more : (image : Image) (first j : ℕ) (bytes block : List ℕ) → first + j < length image → block ≡ take 4096 (drop (4096 * j) bytes)
@@ -29,7 +17,7 @@ hold_more image first j bytes block fits is so_far = λ i h.
 
 place_is : (a : ℕ) → a < 2 ^ 64 → place identity a ≡ Some (0 + (a - 0))
 place_is a small =
-    let inside : holds (record { logical = 0; length = 2 ^ 64; physical = 0 }) a ≡ true = and_from (leb 0 a) (ltb a (0 + 2 ^ 64)) (le-leb 0 a (omega arith)) (lt-ltb a (0 + 2 ^ 64) (omega arith)) in
+    let inside : holds (record { logical = 0; length = 2 ^ 64; physical = 0; mirror = None }) a ≡ true = and_from (leb 0 a) (ltb a (0 + 2 ^ 64)) (le-leb 0 a (omega arith)) (lt-ltb a (0 + 2 ^ 64) (omega arith)) in
     rw inside refl
 
 block_is : (image : Image) (a : ℕ) → a < 2 ^ 64 → block_of_place image (place identity a) ≡ block_at image (a / 4096)

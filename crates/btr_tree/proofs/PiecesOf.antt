@@ -1,8 +1,6 @@
 -- Pieces of one size.
-use Rattle.std.proofs.Common.{◌≡◌, ℕ, zero, suc, ◌+◌, ◌*◌, ◌≤◌, List, [], ◌∷◌, ◌++◌, length, take, drop, refl, ◌∙◌, ap, arith, length-drop}
-use Rattle.std.proofs.lemmas.List.{take-append-le, drop-append-le, take_all, nil_from_length}
-use Rattle.std.proofs.Math.Nat.{mul-suc}
-use Rattle.btr_tree.specs.Building.{pieces_of}
+use Rattle.btr_tree.proofs.Imports.{◌≡◌, ℕ, zero, suc, ◌+◌, ◌*◌, ◌≤◌, List, [], ◌∷◌, ◌++◌, length, take, drop, refl, ◌∙◌, ap, arith, take-append-le, drop-append-le, take_all, nil_from_length, mul-suc, pieces_of}
+use Rattle.std.proofs.Common.{length-drop}
 
 pub length-pieces_of : (size n : ℕ) (bytes : List ℕ) → length (pieces_of size n bytes) ≡ n
 length-pieces_of size zero bytes = refl

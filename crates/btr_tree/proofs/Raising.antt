@@ -1,29 +1,8 @@
 -- A level of a tree from the one below it.
-use Rattle.std.proofs.Common.{◌≡◌, ℕ, zero, suc, ◌+◌, ◌*◌, ◌/◌, ◌%◌, ◌^◌, ◌<◌, ◌≤◌, leb, ltb, eqb, Bool, true, List, [], ◌∷◌, ◌++◌, length, map, take, drop, get_or, refl, sym, ◌∙◌, ap, subst, arith, ⊎_elim}
-use Rattle.std.specs.Prelude.{All}
-use Rattle.std.specs.List.{flat_map}
-use Rattle.std.proofs.lemmas.Bool.{and_from, le-leb, lt-ltb, eq-eqb}
-use Rattle.std.proofs.lemmas.List.{take-append-drop, take_more, map-append, take-map, drop-map, length_push, get_or_append_left, get_or_push, get_or-take, get_or-drop, length-take, length-drop}
-use Rattle.btr_node.specs.outside.History.{Image}
-use Rattle.btr_node.specs.Inner.{IsInner, children_in, first_keys}
-use Rattle.btr_node.specs.Leaf.{Item}
-use Rattle.btr_node.specs.NodeSize.{IsNodeSize}
-use Rattle.btr_node.specs.Order.{Ascends, ascends}
-use Rattle.btr_node.specs.declared.child.Child.{Child}
-use Rattle.btr_node.proofs.Ascending.{first_ascends, second_ascends}
-use Rattle.btr_reader_walk.specs.Laws.{IsSubtree, AreSubtrees, ChildrenGiveItems}
-use Rattle.btr_node.specs.btr_keys.declared.key.Key.{Key}
-use Rattle.std.proofs.lemmas.Option.{get_or_from_slice_get, slice_get_within}
+use Rattle.btr_tree.proofs.Imports.{◌≡◌, ℕ, zero, suc, ◌+◌, ◌*◌, ◌/◌, ◌%◌, ◌^◌, ◌<◌, ◌≤◌, leb, ltb, eqb, Bool, true, List, [], ◌∷◌, ◌++◌, length, map, take, drop, get_or, None, refl, sym, ◌∙◌, ap, subst, arith, ⊎_elim, All, flat_map, and_from, le-leb, lt-ltb, eq-eqb, take-append-drop, take_more, map-append, take-map, drop-map, length_push, get_or_append_left, get_or_push, get_or-take, get_or-drop, length-take, length-drop, Image, IsBtrfsInner, children_in, first_keys, Item, IsNodeSize, Ascends, ascends, Child, first_ascends, second_ascends, IsSubtree, AreSubtrees, ChildrenGiveItems, Key, get_or_from_slice_get, slice_get_within, holds, identity, are_mapped, is_mapped, node_at, want, child_pointer, Form, NodePointer, Made, AreSlots, slot, StandAt, pointer_to, IsParent, first_key, AreRoots, nodes_below, AreWhole, nodes_in, pointer_events, IsExact, IsWhole, HasFirstKey, first_key_in, All-nil, All-cons}
 use Rattle.btr_tree.proofs.Standing.{all_push}
-use Rattle.btr_reader_walk.specs.Map.{holds, identity, are_mapped, is_mapped, node_at}
-use Rattle.btr_reader_walk.specs.Node.{want, child_pointer}
-use Rattle.btr_reader_walk.specs.declared.tree.Form.{Form}
-use Rattle.btr_reader_walk.specs.declared.tree.Pointer.{Pointer}
-use Rattle.btr_tree.specs.Building.{Made, AreSlots, slot, StandAt, pointer_to, IsParent}
-use Rattle.btr_tree.specs.Builder.{first_key}
-use Rattle.btr_tree.specs.Roots.{AreRoots, nodes_below}
-use Rattle.btr_reader_walk.specs.Events.{nodes_in, pointer_events}
 use Rattle.btr_tree.proofs.Meeting.{inner_met, below_one}
+use Rattle.btr_tree.proofs.Wholes.{Node, First, first_child, whole_part, whole_append}
 
 -- the keys of the first children ascend, and of any part
 pub front_ascends : (part : List Child) (i : ℕ) (d : Child) → Ascends (first_keys part) → i < length part → Ascends (first_keys (take i part) ++ (get_or part i d).key ∷ [])
@@ -45,7 +24,7 @@ part_ascends children s n h =
 are_mapped_all : (n a : ℕ) → a + 4096 * n ≤ 2 ^ 64 → are_mapped identity n a ≡ true
 are_mapped_all zero a fits = refl
 are_mapped_all (suc n) a fits =
-    let inside : holds (record { logical = 0; length = 2 ^ 64; physical = 0 }) a ≡ true = and_from (leb 0 a) (ltb a (0 + 2 ^ 64)) (le-leb 0 a (omega arith)) (lt-ltb a (0 + 2 ^ 64) (omega arith)) in
+    let inside : holds (record { logical = 0; length = 2 ^ 64; physical = 0; mirror = None }) a ≡ true = and_from (leb 0 a) (ltb a (0 + 2 ^ 64)) (le-leb 0 a (omega arith)) (lt-ltb a (0 + 2 ^ 64) (omega arith)) in
     rw inside (are_mapped_all n (a + 4096) (omega arith))
 
 record Fits (n a : ℕ) : Type 0 where
@@ -79,23 +58,23 @@ pub stand_last : (image : Image) (n : ℕ) (slots : List ℕ) (nodes : List (Lis
 stand_last image n slots nodes bytes stand = stand (length nodes) (omega (arith, length_push nodes bytes)) ∙ get_or_push nodes bytes [] (length nodes) refl
 
 module _ (image : Image) (form : Form) (owner : ℕ) (bare : Bool) where
-  abbrev Are : List Pointer → List (List Item) → Type 0
+  abbrev Are : List NodePointer → List (List Item) → Type 0
   Are = AreSubtrees image identity form owner bare
 
-  subtrees_push : (ps : List Pointer) (lists : List (List Item)) (p : Pointer) (items : List Item) → Are ps lists → IsSubtree image identity form owner bare p items → Are (ps ++ p ∷ []) (lists ++ items ∷ [])
+  subtrees_push : (ps : List NodePointer) (lists : List (List Item)) (p : NodePointer) (items : List Item) → Are ps lists → IsSubtree image identity form owner bare p items → Are (ps ++ p ∷ []) (lists ++ items ∷ [])
   subtrees_push [] [] p items are is = (is, tt)
   subtrees_push [] (l ∷ lists) p items are is = absurd are
   subtrees_push (q ∷ ps) [] p items are is = absurd are
   subtrees_push (q ∷ ps) (l ∷ lists) p items are is = (are.0, subtrees_push ps lists p items are.1 is)
 
-  subtrees_take : (n : ℕ) (ps : List Pointer) (lists : List (List Item)) → Are ps lists → Are (take n ps) (take n lists)
+  subtrees_take : (n : ℕ) (ps : List NodePointer) (lists : List (List Item)) → Are ps lists → Are (take n ps) (take n lists)
   subtrees_take zero ps lists are = tt
   subtrees_take (suc n) [] [] are = tt
   subtrees_take (suc n) [] (l ∷ lists) are = absurd are
   subtrees_take (suc n) (q ∷ ps) [] are = absurd are
   subtrees_take (suc n) (q ∷ ps) (l ∷ lists) are = (are.0, subtrees_take n ps lists are.1)
 
-  subtrees_drop : (n : ℕ) (ps : List Pointer) (lists : List (List Item)) → Are ps lists → Are (drop n ps) (drop n lists)
+  subtrees_drop : (n : ℕ) (ps : List NodePointer) (lists : List (List Item)) → Are ps lists → Are (drop n ps) (drop n lists)
   subtrees_drop zero ps lists are = are
   subtrees_drop (suc n) [] [] are = tt
   subtrees_drop (suc n) [] (l ∷ lists) are = absurd are
@@ -118,10 +97,11 @@ part_roots m level s n children lists roots = record {
       let at : get_or (take n (drop s children)) k d ≡ get_or children (s + k) d = get_or-take n (drop s children) k d few ∙ get_or-drop s children k d in
       subst (λ (c : Child). c.generation ≡ m.generation) (sym at) (roots.one_generation (s + k) d inside);
   subtrees = λ image bare stand.
-      let ps : List Pointer = map (child_pointer level) children in
+      let ps : List NodePointer = map (child_pointer level) children in
       let same : take n (drop s ps) ≡ map (child_pointer level) (take n (drop s children)) = ap (take n) (drop-map (child_pointer level) s children) ∙ take-map (child_pointer level) n (drop s children) in
       subst (λ qs. AreSubtrees image identity m.form m.owner bare qs (take n (drop s lists))) same
       (subtrees_take image m.form m.owner bare n (drop s ps) (drop s lists) (subtrees_drop image m.form m.owner bare s ps lists (roots.subtrees image bare stand)));
+  whole = λ image bare stand. whole_part image m bare level s n children (roots.whole image bare stand);
 }
 
 -- one more root
@@ -147,7 +127,7 @@ head_key (c ∷ part) ((i ∷ items) ∷ lists) d keys full some = (cc, omega ar
 
 module _ (law : ChildrenGiveItems) (m : Made) (level : ℕ) (part : List Child) (lists : List (List Item)) (child : Child) (new : Made) (size : IsNodeSize m.form.nodesize)
     (slots : AreSlots m.form.nodesize m.slots) (some : 1 ≤ length part) (roots : AreRoots m level part lists) (parent : IsParent m (suc level) part child new) where
-  abbrev p : Pointer
+  abbrev p : NodePointer
   p = pointer_to m.generation (suc level) parent.address
 
   abbrev grown : Made
@@ -168,7 +148,7 @@ module _ (law : ChildrenGiveItems) (m : Made) (level : ℕ) (part : List Child) 
   below_parent image bare stand =
       let node : node_at image identity m.form.nodesize parent.address ≡ parent.bytes =
       sym (ap (node_at image identity m.form.nodesize) slot_is) ∙ stand_last image m.form.nodesize m.slots m.nodes parent.bytes stand in
-      let inner : IsInner (want m.form m.owner p) (node_at image identity m.form.nodesize parent.address) = subst (IsInner (want m.form m.owner p)) (sym node) parent.inner in
+      let inner : IsBtrfsInner (want m.form m.owner p) (node_at image identity m.form.nodesize parent.address) = subst (IsBtrfsInner (want m.form m.owner p)) (sym node) parent.inner in
       let links : children_in (node_at image identity m.form.nodesize parent.address) ≡ part = ap children_in node ∙ parent.links in
       let are : AreSubtrees image identity m.form m.owner bare (map (child_pointer level) (children_in (node_at image identity m.form.nodesize parent.address))) lists =
       subst (λ cs. AreSubtrees image identity m.form m.owner bare (map (child_pointer level) cs) lists) (sym links)
@@ -184,7 +164,30 @@ module _ (law : ChildrenGiveItems) (m : Made) (level : ℕ) (part : List Child) 
       let met = inner_met image m.form m.owner bare level m.generation parent.address (flat lists) part (below_parent image bare stand) (ap children_in node ∙ parent.links) in
       let is : child_pointer (suc level) child ≡ p = ap (child_pointer (suc level)) parent.child_is in
       below_one image m bare (suc level) child
-      ∙ (ap (λ (q : Pointer). nodes_in (pointer_events image identity m.form m.owner bare q)) is ∙ (met ∙ ap (λ (q : Pointer). q ∷ nodes_below image m bare level part) (sym is)))
+      ∙ (ap (λ (q : NodePointer). nodes_in (pointer_events image identity m.form m.owner bare q)) is ∙ (met ∙ ap (λ (q : NodePointer). q ∷ nodes_below image m bare level part) (sym is)))
+
+  -- the parent is whole, as those below it
+  parent_whole : (image : Image) (bare : Bool) → StandAt image m.form.nodesize m.slots (m.nodes ++ parent.bytes ∷ []) → AreWhole image m bare (suc level) (child ∷ [])
+  parent_whole image bare stand =
+      let below : AreWhole image m bare level part = roots.whole image bare (stand_fewer image m.form.nodesize m.slots m.nodes parent.bytes stand) in
+      let node : node_at image identity m.form.nodesize parent.address ≡ parent.bytes =
+      sym (ap (node_at image identity m.form.nodesize) slot_is) ∙ stand_last image m.form.nodesize m.slots m.nodes parent.bytes stand in
+      let links : children_in (node_at image identity m.form.nodesize parent.address) ≡ part = ap children_in node ∙ parent.links in
+      let is : child_pointer (suc level) child ≡ p = ap (child_pointer (suc level)) parent.child_is in
+      let here : IsWhole image identity m.form m.owner m.chunk_tree p = record {
+        exact = subst (IsExact m.form.nodesize (want m.form m.owner p) m.chunk_tree) (sym node) parent.exact;
+        firsts = λ inner. subst (All (HasFirstKey image identity m.form.nodesize)) (sym links) below.firsts;
+      } in
+      let key : child.key ≡ first_key_in (node_at image identity m.form.nodesize child.address) =
+      ap (λ (c : Child). c.key) parent.child_is
+      ∙ (ap (λ cs. (get_or cs 0 child).key) (sym parent.links)
+      ∙ (sym (first_child parent.bytes child (omega (arith, some, ap length parent.links)))
+      ∙ sym (ap (λ (c : Child). first_key_in (node_at image identity m.form.nodesize c.address)) parent.child_is ∙ ap first_key_in node))) in
+      record {
+        nodes = subst (All (Node image m bare level)) (sym (parent_met image bare stand))
+            (All-cons (Node image m bare level) (child_pointer (suc level) child) (nodes_below image m bare level part) (subst (Node image m bare level) (sym is) here) below.nodes);
+        firsts = All-cons (First image m bare level) child [] key (All-nil (First image m bare level));
+      }
 
   one_root : IsOneRoot grown (suc level) child (flat lists)
   one_root =
@@ -193,7 +196,7 @@ module _ (law : ChildrenGiveItems) (m : Made) (level : ℕ) (part : List Child) 
         key = ap (λ (c : Child). c.key) parent.child_is ∙ head.0;
         some = head.1;
         subtree = λ image bare stand.
-            subst (λ (q : Pointer). IsSubtree image identity m.form m.owner bare q (flat lists)) (sym (ap (child_pointer (suc level)) parent.child_is)) (below_parent image bare stand);
+            subst (λ (q : NodePointer). IsSubtree image identity m.form m.owner bare q (flat lists)) (sym (ap (child_pointer (suc level)) parent.child_is)) (below_parent image bare stand);
       }
 
   pub roots_more : (parents : List Child) (plists : List (List Item)) → AreRoots m (suc level) parents plists → AreRoots new (suc level) (parents ++ child ∷ []) (plists ++ flat lists ∷ [])
@@ -209,4 +212,8 @@ module _ (law : ChildrenGiveItems) (m : Made) (level : ℕ) (part : List Child) 
             subst (λ qs. AreSubtrees image identity m.form m.owner bare qs (plists ++ flat lists ∷ [])) (sym (map-append (child_pointer (suc level)) parents (child ∷ [])))
             (subtrees_push image m.form m.owner bare (map (child_pointer (suc level)) parents) plists (child_pointer (suc level) child) (flat lists)
             (so_far.subtrees image bare (stand_fewer image m.form.nodesize m.slots m.nodes parent.bytes stand)) (one_root.subtree image bare stand));
+        whole = λ image bare stand.
+            let before : AreWhole image m bare (suc level) parents = so_far.whole image bare (stand_fewer image m.form.nodesize m.slots m.nodes parent.bytes stand) in
+            let all : AreWhole image m bare (suc level) (parents ++ child ∷ []) = whole_append image m bare (suc level) parents (child ∷ []) before (parent_whole image bare stand) in
+            record { nodes = all.nodes; firsts = all.firsts };
       })

@@ -1,29 +1,7 @@
 -- A level of a tree, one node after the other.
-use Rattle.std.proofs.Common.{◌≡◌, ℕ, zero, suc, ◌+◌, ◌-◌, ◌*◌, ◌<◌, ◌≤◌, min, Bool, List, [], ◌∷◌, ◌++◌, length, map, take, drop, get_or, Some, None, refl, sym, ◌∙◌, ap, subst, arith, append_assoc, length-append, ⊎_elim}
-use Rattle.std.specs.List.{flat_map, slice_get}
-use Rattle.std.specs.Int.{div_ceil}
-use Rattle.std.proofs.Math.Nat.{mul-suc, mul_comm}
-use Rattle.std.proofs.lemmas.Bool.{cases_lt}
-use Rattle.std.proofs.lemmas.Grind.{div_ceil_times}
-use Rattle.std.proofs.lemmas.List.{append-nil, map-append, take_all, take_more, length-map, length-drop, length_push, get_or_append_left, get_or-drop}
-use Rattle.std.proofs.lemmas.List.Concat.{flat_map-append}
-use Rattle.std.proofs.lemmas.List.Elements.{All-nil}
-use Rattle.std.proofs.lemmas.Nat.{mul-le}
-use Rattle.std.proofs.lemmas.Option.{slice_get_within, slice_get-get_or, get_or_from_slice_get}
-use Rattle.btr_node.specs.outside.History.{Image}
-use Rattle.btr_node.specs.Leaf.{Item}
-use Rattle.btr_node.specs.NodeSize.{IsNodeSize}
-use Rattle.btr_node.specs.declared.child.Child.{Child}
-use Rattle.btr_reader_walk.specs.Laws.{ChildrenGiveItems}
-use Rattle.btr_tree.specs.Building.{Made, AreSlots, StandAt, IsParent, pointer_to}
-use Rattle.btr_tree.specs.Builder.{first_key}
-use Rattle.btr_tree.specs.Packing.{fan_out}
-use Rattle.btr_tree.specs.Roots.{AreRoots, IsExtended, HasRoots, IsRaised, nodes_below, pointers_to}
-use Rattle.btr_reader_walk.specs.Node.{child_pointer}
-use Rattle.btr_reader_walk.specs.declared.tree.Pointer.{Pointer}
-use Rattle.std.specs.List.Sorted.{IsPermutation}
-use Rattle.std.proofs.lemmas.List.Sorted.{IsPermutation-refl, IsPermutation-trans, IsPermutation-append_left}
+use Rattle.btr_tree.proofs.Imports.{◌≡◌, ℕ, zero, suc, ◌+◌, ◌-◌, ◌*◌, ◌<◌, ◌≤◌, min, Bool, List, [], ◌∷◌, ◌++◌, length, map, take, drop, get_or, Some, None, refl, sym, ◌∙◌, ap, subst, arith, append_assoc, length-append, ⊎_elim, flat_map, slice_get, div_ceil, mul-suc, mul_comm, cases_lt, div_ceil_times, append-nil, map-append, take_all, take_more, length-map, length-drop, length_push, get_or_append_left, get_or-drop, flat_map-append, All-nil, mul-le, slice_get_within, slice_get-get_or, get_or_from_slice_get, Image, Item, IsNodeSize, Child, ChildrenGiveItems, Made, AreSlots, StandAt, IsParent, pointer_to, first_key, fan_out, AreRoots, AreWhole, IsExtended, HasSubtreeRoots, IsRaised, nodes_below, pointers_to, child_pointer, NodePointer, IsPermutation, IsPermutation-refl, IsPermutation-trans, IsPermutation-append_left}
 use Rattle.btr_tree.proofs.Meeting.{perm_more, below_append}
+use Rattle.btr_tree.proofs.Wholes.{whole_none}
 use Rattle.btr_tree.proofs.Raising.{flat, flat-is, part_roots, roots_more, parent_met, stand_fewer}
 
 -- how many nodes hold so many children
@@ -48,7 +26,7 @@ stand_front image n slots nodes more stand = λ i h. stand i (omega (arith, leng
 pub roots_extended : (old new : Made) (level : ℕ) (children : List Child) (lists : List (List Item)) → IsExtended old new → AreRoots old level children lists → AreRoots new level children lists
 roots_extended old new level children lists ext roots =
     subst (λ (x : Made). AreRoots x level children lists) (sym ext.is)
-    (record { keys = roots.keys; full = roots.full; one_generation = roots.one_generation; subtrees = λ image bare stand. roots.subtrees image bare (stand_front image old.form.nodesize old.slots old.nodes ext.more stand) })
+    (record { keys = roots.keys; full = roots.full; one_generation = roots.one_generation; subtrees = λ image bare stand. roots.subtrees image bare (stand_front image old.form.nodesize old.slots old.nodes ext.more stand); whole = λ image bare stand. let all : AreWhole image old bare level children = roots.whole image bare (stand_front image old.form.nodesize old.slots old.nodes ext.more stand) in record { nodes = all.nodes; firsts = all.firsts } })
 
 pub extended_none : (old : Made) → IsExtended old old
 extended_none old = record { more = []; draft = old.draft; is = ap (λ ns. let x : Made = record old { nodes = ns } in x) (sym (append-nil old.nodes)) }
@@ -71,7 +49,7 @@ pub record IsRaising (old : Made) (children : List Child) (level : ℕ) (now : M
   pub tight : fan_out old.form.nodesize * length parents < length children + fan_out old.form.nodesize
   pub made : length now.nodes ≡ length old.nodes + length parents
   pub few : length now.nodes ≤ length now.slots
-  pub roots : (below : ℕ) (lists : List (List Item)) → level ≡ suc below → AreRoots old below children lists → HasRoots now level parents (flat (take start lists))
+  pub roots : (below : ℕ) (lists : List (List Item)) → level ≡ suc below → AreRoots old below children lists → HasSubtreeRoots now level parents (flat (take start lists))
   pub pointers : map (child_pointer level) parents ≡ pointers_to old.generation level (length old.nodes) (length parents) old.slots
   pub nodes : (below : ℕ) (lists : List (List Item)) → level ≡ suc below → AreRoots old below children lists → (image : Image) (bare : Bool) → StandAt image now.form.nodesize now.slots now.nodes
       → IsPermutation (nodes_below image now bare level parents) (map (child_pointer level) parents ++ nodes_below image now bare below (take start children))
@@ -107,7 +85,7 @@ raising_begins old children level wide few = record {
   few = few;
   roots = λ below lists is roots. record {
     lists = [];
-    roots = record { keys = refl; full = All-nil (λ (items : List Item). 1 ≤ length items); one_generation = All-nil (λ (c : Child). c.generation ≡ old.generation); subtrees = λ image bare stand. tt };
+    roots = record { keys = refl; full = All-nil (λ (items : List Item). 1 ≤ length items); one_generation = All-nil (λ (c : Child). c.generation ≡ old.generation); subtrees = λ image bare stand. tt; whole = λ image bare stand. whole_none image old bare level };
     items_are = sym flat_nothing;
   };
   pointers = refl;
@@ -146,7 +124,7 @@ pointers_more old now new level parents part child ext made so_far parent =
     ∙ (take_more (drop (length old.nodes) old.slots) n 0 (omega (arith, inside, length-drop (length old.nodes) old.slots)) ∙ ap (λ (a : ℕ). take n (drop (length old.nodes) old.slots) ++ a ∷ []) at) in
     map-append (child_pointer level) parents (child ∷ [])
     ∙ (ap (λ ps. ps ++ child_pointer level child ∷ []) so_far
-    ∙ (ap (λ (p : Pointer). pointers_to old.generation level (length old.nodes) n old.slots ++ p ∷ []) one
+    ∙ (ap (λ (p : NodePointer). pointers_to old.generation level (length old.nodes) n old.slots ++ p ∷ []) one
     ∙ sym (ap (map (pointer_to old.generation level)) taken ∙ map-append (pointer_to old.generation level) (take n (drop (length old.nodes) old.slots)) (parent.address ∷ []))))
 
 pub raising_goes_on : (law : ChildrenGiveItems) (old now new : Made) (children parents part : List Child) (level start end : ℕ) (child : Child)

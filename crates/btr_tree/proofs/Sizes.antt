@@ -1,13 +1,5 @@
 -- The sizes of the levels of a tree.
-use Rattle.std.proofs.Common.{◌≡◌, ℕ, zero, suc, ◌+◌, ◌-◌, ◌*◌, ◌^◌, ◌<◌, ◌≤◌, [], ◌∷◌, get_or, refl, sym, ◌∙◌, ap, arith, zero-add, ⊎_elim}
-use Rattle.std.specs.List.{sum}
-use Rattle.std.specs.Int.{div_ceil}
-use Rattle.std.proofs.lemmas.Bool.{cases_lt, le-leb, lt-leb}
-use Rattle.std.proofs.lemmas.Grind.{div_ceil_times}
-use Rattle.std.proofs.lemmas.List.Sums.{sum_by-cons}
-use Rattle.std.proofs.lemmas.Nat.{mul-le}
-use Rattle.std.proofs.Math.Nat.{pow-suc}
-use Rattle.btr_tree.specs.Packing.{level_sizes}
+use Rattle.btr_tree.proofs.Imports.{◌≡◌, ℕ, zero, suc, ◌+◌, ◌-◌, ◌*◌, ◌^◌, ◌<◌, ◌≤◌, [], ◌∷◌, get_or, refl, sym, ◌∙◌, ap, arith, zero-add, ⊎_elim, sum, div_ceil, cases_lt, le-leb, lt-leb, div_ceil_times, sum_by-cons, mul-le, pow-suc, level_sizes}
 
 pub sizes-one : (d fan n : ℕ) → n ≤ 1 → level_sizes (suc d) fan n ≡ n ∷ []
 unfolding level_sizes

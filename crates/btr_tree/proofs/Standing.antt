@@ -1,24 +1,5 @@
 -- What holds of a builder, one item on.
-use Rattle.std.proofs.Common.{◌≡◌, ℕ, ◌+◌, ◌<◌, ◌≤◌, false, List, [], ◌∷◌, ◌++◌, length, map, get_or, Bool, Option, Some, None, refl, sym, ◌∙◌, ap, subst, arith, append_assoc, ⊎_elim}
-use Rattle.std.specs.Prelude.{All, MatchOption}
-use Rattle.std.specs.List.{flat_map, sum_by}
-use Rattle.std.proofs.lemmas.Bool.{cases_lt}
-use Rattle.std.proofs.lemmas.List.{append-nil, map-append, length-map, get_or_append_left, get_or_push, length_push}
-use Rattle.std.proofs.lemmas.List.Concat.{flat_map-append}
-use Rattle.std.proofs.lemmas.List.Elements.{All-nil, All-cons, All-head, All-tail}
-use Rattle.std.proofs.lemmas.Option.{get_or_from_slice_get, slice_get_within}
-use Rattle.btr_node.specs.btr_keys.declared.key.Key.{Key}
-use Rattle.btr_node.specs.Draft.{node_bytes, room}
-use Rattle.btr_node.specs.Leaf.{Item, IsLeaf, items_in, keys_of}
-use Rattle.btr_node.specs.NodeSize.{IsNodeSize}
-use Rattle.btr_reader_walk.specs.declared.tree.Form.{Form}
-use Rattle.btr_node.specs.Order.{Ascends, ascends}
-use Rattle.btr_node.specs.declared.child.Child.{Child}
-use Rattle.btr_node.specs.declared.expect.Expect.{Expect}
-use Rattle.btr_node.proofs.Ascending.{second_ascends}
-use Rattle.btr_tree.specs.Building.{Made, whole, AreSlots, slot, expected_at, with_node, with_item, ReadsBack, IsFresh}
-use Rattle.btr_tree.specs.Builder.{Building, pushed, first_key, child_of, children_of, leaf_closed, leaf_begun, IsNextSlot, item_size, IsInHand, IsIdle, Standing, leaves_of}
-use Rattle.btr_tree.specs.Packing.{capacity, packed}
+use Rattle.btr_tree.proofs.Imports.{◌≡◌, ℕ, ◌+◌, ◌<◌, ◌≤◌, false, List, [], ◌∷◌, ◌++◌, length, map, get_or, Bool, Option, Some, None, refl, sym, ◌∙◌, ap, subst, arith, append_assoc, ⊎_elim, All, MatchOption, flat_map, sum_by, cases_lt, append-nil, map-append, length-map, get_or_append_left, get_or_push, length_push, flat_map-append, All-nil, All-cons, All-head, All-tail, get_or_from_slice_get, slice_get_within, ITEM_SIZE, Key, node_bytes, room, Item, IsBtrfsLeaf, items_in, keys_of, IsNodeSize, Form, Ascends, ascends, Child, Expect, second_ascends, Made, with_written, AreSlots, slot, expected_at, with_node, with_item, NodeReadsBack, IsFresh, Building, pushed, first_key, child_of, children_of, leaf_closed, leaf_begun, IsNextSlot, item_size, IsInHand, IsIdle, Standing, leaves_of, capacity, packed, IsExact}
 use Rattle.btr_tree.proofs.Groups.{packed-fits, packed-none, one_more_fits, one_more_next, ends_in}
 
 -- the keys of the leaf in hand, with the next
@@ -68,6 +49,7 @@ stands_first b a key body so_far idle at order small =
         want_is = ap (expected_at b.made 0) (sym next.0);
         size = refl;
         no_children = refl;
+        chunk_tree_is = refl;
         slot_left = next.1;
         some = omega arith;
         child_is = ap (λ (s : ℕ). let c : Child = record { key = key; address = s; generation = b.made.generation } in c) (sym next.0);
@@ -77,10 +59,11 @@ stands_first b a key body so_far idle at order small =
       children = so_far.children;
       packing = ap (packed item_size (capacity b.made.form.nodesize)) here ∙ (one ∙ sym (ap (λ ns. map items_in ns ++ ((key, body) ∷ []) ∷ []) idle.no_nodes));
       order = ap (λ items. ascends (keys_of items)) here;
+      exact = so_far.exact;
     }
 
 -- the leaf in hand is made
-module _ (b : Building) (child : Child) (so_far : Standing b) (hand : IsInHand b child) (read : ReadsBack b.made.draft (node_bytes b.made.draft)) where
+module _ (b : Building) (child : Child) (so_far : Standing b) (hand : IsInHand b child) (read : NodeReadsBack b.made.draft (node_bytes b.made.draft)) where
   abbrev pub bytes : List ℕ
   bytes = node_bytes b.made.draft
 
@@ -96,15 +79,33 @@ module _ (b : Building) (child : Child) (so_far : Standing b) (hand : IsInHand b
   pub pushed_same : flat_map items_in (b.made.nodes ++ bytes ∷ []) ≡ pushed b
   pushed_same = flat_map-append items_in b.made.nodes (bytes ∷ []) ∙ ap (λ items. flat_map items_in b.made.nodes ++ items) (append-nil (items_in bytes) ∙ items_are)
 
-  pub leaves_more : (i : ℕ) → i < length (b.made.nodes ++ bytes ∷ []) → IsLeaf (expected_at b.made 0 (slot b.made.slots i)) (get_or (b.made.nodes ++ bytes ∷ []) i [])
+  pub leaves_more : (i : ℕ) → i < length (b.made.nodes ++ bytes ∷ []) → IsBtrfsLeaf (expected_at b.made 0 (slot b.made.slots i)) (get_or (b.made.nodes ++ bytes ∷ []) i [])
   leaves_more i h =
       ⊎_elim
       (λ (before : i < length b.made.nodes).
-      subst (IsLeaf (expected_at b.made 0 (slot b.made.slots i))) (sym (get_or_append_left b.made.nodes (bytes ∷ []) [] i before)) (so_far.leaves i before))
+      subst (IsBtrfsLeaf (expected_at b.made 0 (slot b.made.slots i))) (sym (get_or_append_left b.made.nodes (bytes ∷ []) [] i before)) (so_far.leaves i before))
       (λ (last : length b.made.nodes ≤ i).
       let at : length b.made.nodes ≡ i = omega (arith, length_push b.made.nodes bytes) in
-      subst (IsLeaf (expected_at b.made 0 (slot b.made.slots i))) (sym (get_or_push b.made.nodes bytes [] i at))
-      (subst (λ (w : Expect). IsLeaf w bytes) (hand.want_is ∙ ap (λ (k : ℕ). expected_at b.made 0 (slot b.made.slots k)) at) (read.leaf level)))
+      subst (IsBtrfsLeaf (expected_at b.made 0 (slot b.made.slots i))) (sym (get_or_push b.made.nodes bytes [] i at))
+      (subst (λ (w : Expect). IsBtrfsLeaf w bytes) (hand.want_is ∙ ap (λ (k : ℕ). expected_at b.made 0 (slot b.made.slots k)) at) (read.leaf level)))
+      (cases_lt i (length b.made.nodes))
+
+  pub exact_more : (i : ℕ) → i < length (b.made.nodes ++ bytes ∷ [])
+      → IsExact b.made.form.nodesize (expected_at b.made 0 (slot b.made.slots i)) b.made.chunk_tree (get_or (b.made.nodes ++ bytes ∷ []) i [])
+  exact_more i h =
+      let Exact : ℕ → List ℕ → Type 0 = λ k ns. IsExact b.made.form.nodesize (expected_at b.made 0 (slot b.made.slots k)) b.made.chunk_tree ns in
+      ⊎_elim (λ (before : i < length b.made.nodes). subst (Exact i) (sym (get_or_append_left b.made.nodes (bytes ∷ []) [] i before)) (so_far.exact i before))
+      (λ (last : length b.made.nodes ≤ i).
+      let at : length b.made.nodes ≡ i = omega (arith, length_push b.made.nodes bytes) in
+      subst (Exact i) (sym (get_or_push b.made.nodes bytes [] i at))
+      (record {
+        draft = b.made.draft;
+        right = read.right;
+        nodesize_is = hand.size;
+        want_is = hand.want_is ∙ ap (λ (k : ℕ). expected_at b.made 0 (slot b.made.slots k)) at;
+        chunk_tree_is = hand.chunk_tree_is;
+        bytes_are = refl;
+      }))
       (cases_lt i (length b.made.nodes))
 
   pub children_more : b.children ++ child ∷ [] ≡ children_of b.made.generation b.made.slots (map items_in (b.made.nodes ++ bytes ∷ []))
@@ -120,7 +121,7 @@ module _ (b : Building) (child : Child) (so_far : Standing b) (hand : IsInHand b
 
   -- and the next one is begun
   pub stands_next : (a : ℕ) (key : Key) (body : List ℕ) → IsNextSlot (with_node b.made bytes) a → Ascends (keys_of (pushed b ++ (key, body) ∷ []))
-      → room b.made.draft < 25 + length body → Standing (leaf_begun (leaf_closed b child) a key body)
+      → room b.made.draft < ITEM_SIZE + length body → Standing (leaf_begun (leaf_closed b child) a key body)
   stands_next a key body at order full =
       let next = next_is (with_node b.made bytes) a at in
       let new : Building = leaf_begun (leaf_closed b child) a key body in
@@ -137,6 +138,7 @@ module _ (b : Building) (child : Child) (so_far : Standing b) (hand : IsInHand b
           want_is = ap (expected_at b.made 0) (sym next.0);
           size = refl;
           no_children = refl;
+          chunk_tree_is = refl;
           slot_left = next.1;
           some = omega arith;
           child_is = ap (λ (s : ℕ). let c : Child = record { key = key; address = s; generation = b.made.generation } in c) (sym next.0);
@@ -146,9 +148,10 @@ module _ (b : Building) (child : Child) (so_far : Standing b) (hand : IsInHand b
         children = children_more;
         packing = ap (packed item_size (capacity b.made.form.nodesize)) here ∙ (more ∙ ap (λ lists. lists ++ ((key, body) ∷ []) ∷ []) (sym lists_are));
         order = ap (λ items. ascends (keys_of items)) here ∙ order;
+        exact = exact_more;
       }
 
-pub leaves_next : (b : Building) (key : Key) (body : List ℕ) → Standing b → b.made.draft.children ≡ [] → b.made.draft.nodesize ≡ b.made.form.nodesize → room b.made.draft < 25 + length body
+pub leaves_next : (b : Building) (key : Key) (body : List ℕ) → Standing b → b.made.draft.children ≡ [] → b.made.draft.nodesize ≡ b.made.form.nodesize → room b.made.draft < ITEM_SIZE + length body
     → leaves_of b.made.form.nodesize (pushed b ++ (key, body) ∷ []) ≡ length b.made.nodes + 2
 leaves_next b key body so_far no_children size full =
     let done : List (List Item) = map items_in b.made.nodes in
@@ -165,7 +168,7 @@ first_same (i ∷ items) item some = refl
 
 -- an item goes into the leaf in hand
 pub stands_fits : (b : Building) (child : Child) (key : Key) (body : List ℕ) → Standing b → IsInHand b child → b.hand ≡ Some child → Ascends (keys_of (pushed b ++ (key, body) ∷ []))
-    → 25 + length body ≤ room b.made.draft → Standing (record b { made = with_item b.made key body })
+    → ITEM_SIZE + length body ≤ room b.made.draft → Standing (record b { made = with_item b.made key body })
 stands_fits b child key body so_far hand is order fits =
     let items : List Item = b.made.draft.items in
     let new : Building = record b { made = with_item b.made key body } in
@@ -183,6 +186,7 @@ stands_fits b child key body so_far hand is order fits =
             want_is = hand.want_is;
             size = hand.size;
             no_children = hand.no_children;
+            chunk_tree_is = hand.chunk_tree_is;
             slot_left = hand.slot_left;
             some = omega (arith, hand.some, length_push items (key, body));
             child_is = hand.child_is ∙ ap (λ (k : Key). let c : Child = record { key = k; address = slot b.made.slots (length b.made.nodes); generation = b.made.generation } in c) (first_same items (key, body) hand.some);
@@ -192,6 +196,7 @@ stands_fits b child key body so_far hand is order fits =
       children = so_far.children;
       packing = ap (packed item_size (capacity b.made.form.nodesize)) here ∙ more;
       order = ap (λ items. ascends (keys_of items)) here ∙ order;
+      exact = so_far.exact;
     }
 
 -- nothing was pushed
@@ -207,6 +212,7 @@ stands_new m form owner generation chunk_tree slots size right fresh = record {
   children = sym (ap (λ ns. children_of m.generation m.slots (map items_in ns)) fresh.no_nodes ∙ none m.slots);
   packing = rw (fresh.no_nodes, fresh.no_items) (packed-none item_size (capacity m.form.nodesize) []);
   order = rw (fresh.no_nodes, fresh.no_items) refl;
+  exact = λ i h. absurd (omega (arith, ap (λ ns. length ns) fresh.no_nodes));
 }
   where
     none : (slots : List ℕ) → children_of m.generation slots [] ≡ []
@@ -215,7 +221,7 @@ stands_new m form owner generation chunk_tree slots size right fresh = record {
 
 -- the same with no node in place of those that were written
 pub fresh_whole : (m : Made) (form : Form) (owner generation : ℕ) (chunk_tree slots : List ℕ) (front : List (List ℕ)) → front ≡ [] → IsFresh form owner generation chunk_tree slots m
-    → IsFresh form owner generation chunk_tree slots (whole m front)
+    → IsFresh form owner generation chunk_tree slots (with_written m front)
 fresh_whole m form owner generation chunk_tree slots front none fresh = record {
   form_is = fresh.form_is;
   owner_is = fresh.owner_is;
@@ -240,6 +246,7 @@ standing_spent b spent done s = record {
   children = s.children;
   packing = s.packing;
   order = s.order;
+  exact = s.exact;
 }
   where
     by_hand : (hand : Option Child) → MatchOption hand (IsIdle b) (IsInHand b) → MatchOption hand (IsIdle (record b { spent = spent; done = done })) (IsInHand (record b { spent = spent; done = done }))
@@ -249,6 +256,7 @@ standing_spent b spent done s = record {
       want_is = hand.want_is;
       size = hand.size;
       no_children = hand.no_children;
+      chunk_tree_is = hand.chunk_tree_is;
       slot_left = hand.slot_left;
       some = hand.some;
       child_is = hand.child_is;

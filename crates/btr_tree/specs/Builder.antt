@@ -2,17 +2,19 @@
 use Rattle.std.specs.Prelude.{◌≡◌, ℕ, ◌+◌, ◌≤◌, ◌<◌, Bool, true, List, [], ◌∷◌, ◌++◌, length, map, slice_index_or, Option, Some, MatchOption}
 use Rattle.std.specs.List.{slice_get}
 use Rattle.std.specs.List.{All, flat_map}
+use Rattle.btrfs_format.specs.declared.size.TheConstants.{ITEM_SIZE}
 use Rattle.btr_node.specs.outside.History.{Image}
 use Rattle.btr_node.specs.btr_keys.declared.key.Key.{Key}
 use Rattle.btr_node.specs.Draft.{node_bytes}
-use Rattle.btr_node.specs.Leaf.{Item, IsLeaf, items_in, keys_of}
+use Rattle.btr_node.specs.Leaf.{Item, IsBtrfsLeaf, items_in, keys_of}
 use Rattle.btr_node.specs.NodeSize.{IsNodeSize}
 use Rattle.btr_node.specs.Order.{Ascends}
 use Rattle.btr_node.specs.declared.child.Child.{Child}
 use Rattle.btr_reader_walk.specs.Map.{identity}
 use Rattle.btr_reader_walk.specs.Tree.{tree_items}
-use Rattle.btr_tree.specs.Building.{Made, AreSlots, slot, taken, whole, nodes_on, pointer_to, expected_at, begun_at, with_node, with_item}
+use Rattle.btr_tree.specs.Building.{Made, AreSlots, slot, taken, with_written, nodes_on, pointer_to, expected_at, begun_at, with_node, with_item}
 use Rattle.btr_tree.specs.Packing.{capacity, packed}
+use Rattle.btr_tree.specs.Whole.{IsExact, IsWholeTree}
 
 -- the nodes, and of the level that is being made the children that its nodes are for the level above
 pub record Building : Type 0 where
@@ -66,7 +68,7 @@ IsNextTaken m address = slice_get m.slots (taken m) ≡ Some address
 
 -- the bytes that an item takes in a leaf
 abbrev pub item_size : Item → ℕ
-item_size item = 25 + length item.1
+item_size item = ITEM_SIZE + length item.1
 
 -- the leaf in hand, which is this child
 pub record IsInHand (b : Building) (child : Child) : Type 0 where
@@ -74,6 +76,7 @@ pub record IsInHand (b : Building) (child : Child) : Type 0 where
   pub want_is : b.made.draft.want ≡ expected_at b.made 0 (slot b.made.slots (length b.made.nodes))
   pub size : b.made.draft.nodesize ≡ b.made.form.nodesize
   pub no_children : b.made.draft.children ≡ []
+  pub chunk_tree_is : b.made.draft.chunk_tree ≡ b.made.chunk_tree
   pub slot_left : length b.made.nodes < length b.made.slots
   pub some : 1 ≤ length b.made.draft.items
   pub child_is : child ≡ child_of b.made.generation (slot b.made.slots (length b.made.nodes)) b.made.draft.items
@@ -83,22 +86,24 @@ pub record IsIdle (b : Building) : Type 0 where
   pub no_nodes : b.made.nodes ≡ []
   pub no_items : b.made.draft.items ≡ []
 
--- What holds of all that was made after each push: each leaf that was made is on the grammar of its slot, the children are those
--- of the leaves, the leaves and the one in hand are those that packing the items in order gives, and keys ascend over all.
+-- What holds of all that was made after each push: each leaf that was made is on the grammar of its slot and exactly the bytes
+-- of its draft, the children are those of the leaves, the leaves and the one in hand are those that packing the items in order
+-- gives, and keys ascend over all.
 pub record Standing (b : Building) : Type 0 where
   pub nodesize : IsNodeSize b.made.form.nodesize
   pub slots : AreSlots b.made.form.nodesize b.made.slots
   pub few : length b.made.nodes ≤ length b.made.slots
   pub hand : MatchOption b.hand (IsIdle b) (IsInHand b)
-  pub leaves : (i : ℕ) → i < length b.made.nodes → IsLeaf (expected_at b.made 0 (slot b.made.slots i)) (slice_index_or b.made.nodes i [])
+  pub leaves : (i : ℕ) → i < length b.made.nodes → IsBtrfsLeaf (expected_at b.made 0 (slot b.made.slots i)) (slice_index_or b.made.nodes i [])
   pub full : All (λ items. 1 ≤ length items) (map items_in b.made.nodes)
   pub children : b.children ≡ children_of b.made.generation b.made.slots (map items_in b.made.nodes)
   pub packing : packed item_size (capacity b.made.form.nodesize) (pushed b) ≡ map items_in b.made.nodes ++ b.made.draft.items ∷ []
   pub order : Ascends (keys_of (pushed b))
+  pub exact : (i : ℕ) → i < length b.made.nodes → IsExact b.made.form.nodesize (expected_at b.made 0 (slot b.made.slots i)) b.made.chunk_tree (slice_index_or b.made.nodes i [])
 
 -- all that was made, where the nodes that were written are these
 abbrev pub all_made : Building → List (List ℕ) → Building
-all_made b front = record b { made = whole b.made front }
+all_made b front = record b { made = with_written b.made front }
 
 -- The builder holds the last of these items, and the first ones are in nodes that were written.
 pub record Holds (b : Building) (items : List Item) : Type 0 where
@@ -135,11 +140,12 @@ pub record HasPut (old new : Building) (item : Item) : Type 0 where
   pub put : (front : List (List ℕ)) → length front ≡ old.made.written → Standing (all_made old front) → IsPushed (all_made old front) (all_made new front) item
 
 -- the tree and its slots stay
-pub record IsSameTree (old new : Building) : Type 0 where
+pub record IsSameBuilding (old new : Building) : Type 0 where
   pub form : new.made.form ≡ old.made.form
   pub owner : new.made.owner ≡ old.made.owner
   pub generation : new.made.generation ≡ old.made.generation
   pub slots : new.made.slots ≡ old.made.slots
+  pub chunk_tree : new.made.chunk_tree ≡ old.made.chunk_tree
 
 -- how many leaves items take
 abbrev pub leaves_of : ℕ → List Item → ℕ
@@ -148,3 +154,7 @@ leaves_of nodesize items = length (packed item_size (capacity nodesize) items)
 -- The tree of these items stands on a disk, under a root with this address and level.
 abbrev pub HasTree : Image → Made → ℕ → ℕ → List Item → Type 0
 HasTree image m address level items = tree_items image identity m.form (pointer_to m.generation level address) m.owner ≡ Some items
+
+-- Each node of the tree under this root is exactly the bytes of its draft, and each child's key is the child's first key.
+abbrev pub HasWhole : Image → Made → ℕ → ℕ → Type 0
+HasWhole image m address level = IsWholeTree image identity m.form m.owner m.chunk_tree (pointer_to m.generation level address)

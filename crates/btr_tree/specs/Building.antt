@@ -4,16 +4,17 @@ use Rattle.std.specs.List.{slice_get}
 use Rattle.std.specs.List.{All, AllPairs}
 use Rattle.btr_node.specs.outside.History.{Image}
 use Rattle.btr_node.specs.btr_keys.declared.key.Key.{Key}
-use Rattle.btr_node.specs.Draft.{Draft, started_for}
-use Rattle.btr_node.specs.Inner.{IsInner, children_in}
-use Rattle.btr_node.specs.Leaf.{IsLeaf, items_in}
+use Rattle.btr_node.specs.Draft.{Draft, IsDraft, started_for}
+use Rattle.btr_node.specs.Inner.{IsBtrfsInner, children_in}
+use Rattle.btr_node.specs.Leaf.{IsBtrfsLeaf, items_in}
 use Rattle.btr_node.specs.NodeSize.{IsNodeSize}
 use Rattle.btr_node.specs.declared.child.Child.{Child}
 use Rattle.btr_node.specs.declared.expect.Expect.{Expect}
 use Rattle.btr_reader_walk.specs.Map.{identity, node_at}
 use Rattle.btr_reader_walk.specs.Node.{want}
 use Rattle.btr_reader_walk.specs.declared.tree.Form.{Form}
-use Rattle.btr_reader_walk.specs.declared.tree.Pointer.{Pointer}
+use Rattle.btr_reader_walk.specs.declared.tree.NodePointer.{NodePointer}
+use Rattle.btr_tree.specs.Whole.{IsExact}
 
 -- the first n pieces of this size
 abbrev pub pieces_of : ℕ → ℕ → List ℕ → List (List ℕ)
@@ -39,8 +40,8 @@ abbrev pub taken : Made → ℕ
 taken m = m.written + length m.nodes
 
 -- all that was made, where the nodes that were written are these
-abbrev pub whole : Made → List (List ℕ) → Made
-whole m front = record m { written = 0; nodes = front ++ m.nodes }
+abbrev pub with_written : Made → List (List ℕ) → Made
+with_written m front = record m { written = 0; nodes = front ++ m.nodes }
 
 -- no slot that was taken is given back
 pub record IsLater (old new : Made) : Type 0 where
@@ -49,7 +50,7 @@ pub record IsLater (old new : Made) : Type 0 where
   pub grown : taken old ≤ taken new
 
 -- the pointer to a node that a tree of this generation has
-abbrev pub pointer_to : ℕ → ℕ → ℕ → Pointer
+abbrev pub pointer_to : ℕ → ℕ → ℕ → NodePointer
 pointer_to generation level address = record { address = address; level = level; generation = generation }
 
 -- what the parent of a node will say of it
@@ -89,21 +90,22 @@ pub record HasBack (tells : Bool) (before after : Image) (old new : Made) (R : M
   pub back : List (List ℕ)
   pub count : length back ≡ new.written
   pub stands : IsTrue tells → StandAt before old.form.nodesize old.slots front → StandAt after new.form.nodesize new.slots back
-  pub now : R (whole old front) (whole new back)
+  pub now : R (with_written old front) (with_written new back)
 
 -- this holds between all that was made before and all that is made now, whatever the nodes are that were written before
 abbrev pub Goes : Bool → Image → Image → Made → Made → (Made → Made → Type 0) → Type 0
 Goes tells before after old new R = (front : List (List ℕ)) → length front ≡ old.written → HasBack tells before after old new R front
 
--- What the fields keep: at most 16 nodes are held, each has a slot, and there is room for 16.
-pub record IsStock (nodesize writersize written held room : ℕ) (bytes slots : List ℕ) : Type 0 where
+-- What the fields keep: at most 16 nodes are held, each has a slot, there is room for 16, and the node in hand can be written.
+pub record IsStock (nodesize written held room : ℕ) (draft : Draft) (bytes slots : List ℕ) : Type 0 where
   pub size : IsNodeSize nodesize
-  pub same : writersize ≡ nodesize
+  pub same : draft.nodesize ≡ nodesize
   pub whole : length bytes ≡ nodesize * held
   pub few : written + held ≤ length slots
   pub small : length slots < 2 ^ 64
   pub batch : held ≤ 16
   pub room_is : 16 * nodesize ≤ room
+  pub right : IsTrue draft.started → IsDraft draft
 
 -- nothing is made yet
 pub record IsFresh (form : Form) (owner generation : ℕ) (chunk_tree slots : List ℕ) (m : Made) : Type 0 where
@@ -124,13 +126,14 @@ with_item m key body = record m { draft = record m.draft { items = m.draft.items
 abbrev pub with_child : Made → Child → Made
 with_child m child = record m { draft = record m.draft { children = m.draft.children ++ child ∷ [] } }
 
--- the bytes of a node are on the grammar, with what was put in
-pub record ReadsBack (draft : Draft) (bytes : List ℕ) : Type 0 where
+-- the bytes of a node are on the grammar, with what was put in, which could be written
+pub record NodeReadsBack (draft : Draft) (bytes : List ℕ) : Type 0 where
   pub size : length bytes ≡ draft.nodesize
-  pub leaf : draft.want.level ≡ 0 → IsLeaf draft.want bytes
+  pub leaf : draft.want.level ≡ 0 → IsBtrfsLeaf draft.want bytes
   pub items : draft.want.level ≡ 0 → items_in bytes ≡ draft.items
-  pub inner : 1 ≤ draft.want.level → IsInner draft.want bytes
+  pub inner : 1 ≤ draft.want.level → IsBtrfsInner draft.want bytes
   pub links : 1 ≤ draft.want.level → children_in bytes ≡ draft.children
+  pub right : IsDraft draft
 
 -- the children begin an inner node in hand
 abbrev pub filled : Made → ℕ → ℕ → List Child → Made
@@ -150,8 +153,9 @@ pub record IsParentAt (n : ℕ) (old : Made) (level : ℕ) (part : List Child) (
   pub draft : Draft
   pub next : slice_get old.slots n ≡ Some address
   pub is : new ≡ record old { nodes = old.nodes ++ bytes ∷ []; draft = draft }
-  pub inner : IsInner (expected_at old level address) bytes
+  pub inner : IsBtrfsInner (expected_at old level address) bytes
   pub links : children_in bytes ≡ part
+  pub exact : IsExact old.form.nodesize (expected_at old level address) old.chunk_tree bytes
   pub child_is : child ≡ record { key = (slice_index_or part 0 child).key; address = address; generation = old.generation }
 
 -- the same at the next slot, where no node was written

@@ -3,7 +3,7 @@ use Rattle.std.specs.Prelude.{◌≡◌, ℕ, ◌+◌, ◌-◌, ◌*◌, ◌/◌
 use Rattle.std.specs.List.{sum, sum_by}
 use Rattle.std.specs.Int.{div_ceil}
 use Rattle.btr_node.specs.NodeSize.{IsNodeSize}
-use Rattle.btr_tree.specs.Packing.{capacity, weight, leaves, tree_levels}
+use Rattle.btr_tree.specs.Packing.{capacity, weight, packed_leaves, tree_levels}
 
 -- What is kept of the items of a tree: the size of its nodes, how many leaves there are, how many bytes the last of these
 -- holds, and how many all of them hold.
@@ -23,21 +23,21 @@ last_of groups = slice_index_or groups (length groups - 1) []
 
 -- the tally is that of items of these lengths
 pub record Counted (tally : Tally) (lengths : List ℕ) : Type 0 where
-  pub count : tally.leaves ≡ length (leaves tally.nodesize lengths)
-  pub begun : tally.fill ≡ bytes_of (last_of (leaves tally.nodesize lengths))
+  pub count : tally.leaves ≡ length (packed_leaves tally.nodesize lengths)
+  pub begun : tally.fill ≡ bytes_of (last_of (packed_leaves tally.nodesize lengths))
   pub total : tally.bytes ≡ bytes_of lengths
 
 -- how many nodes the tree has, by the number of its leaves
 abbrev pub nodes_above : ℕ → ℕ → ℕ
-nodes_above nodesize leaves = sum (tree_levels nodesize leaves)
+nodes_above nodesize packed_leaves = sum (tree_levels nodesize packed_leaves)
 
 -- how many nodes a tree of items of these lengths has
 abbrev pub tree_nodes : ℕ → List ℕ → ℕ
-tree_nodes nodesize lengths = nodes_above nodesize (length (leaves nodesize lengths))
+tree_nodes nodesize lengths = nodes_above nodesize (length (packed_leaves nodesize lengths))
 
 -- how many of them are of this level, 0 for leaves
 abbrev pub nodes_of_level : ℕ → List ℕ → ℕ → ℕ
-nodes_of_level nodesize lengths level = slice_index (tree_levels nodesize (length (leaves nodesize lengths))) level
+nodes_of_level nodesize lengths level = slice_index (tree_levels nodesize (length (packed_leaves nodesize lengths))) level
 
 -- No tree of items that take so many bytes has more leaves. Two neighbours hold more than a leaf's room together, since
 -- the first item of the second did not fit into the first.

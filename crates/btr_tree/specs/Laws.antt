@@ -1,17 +1,19 @@
--- What packing is, and what keeps a tree that is written.
+-- What packing is, what a tree that was written looks like, and what keeps it.
 use Rattle.std.specs.Prelude.{◌≡◌, ℕ, ◌+◌, ◌*◌, ◌/◌, ◌^◌, ◌≤◌, ◌<◌, List, [], ◌∷◌, ◌++◌, Some, length, take, slice_index, slice_index_or}
 use Rattle.std.specs.List.{All, concat}
 use Rattle.btr_node.specs.outside.History.{Image, block_at}
+use Rattle.btr_node.specs.Leaf.{Item}
 use Rattle.btr_node.specs.NodeSize.{IsNodeSize}
 use Rattle.btr_reader_walk.specs.declared.map.MapRange.{MapRange}
 use Rattle.btr_reader_walk.specs.declared.tree.Form.{Form}
-use Rattle.btr_reader_walk.specs.declared.tree.Pointer.{Pointer}
-use Rattle.btr_reader_walk.specs.Events.{tree_events, nodes_in}
+use Rattle.btr_reader_walk.specs.declared.tree.NodePointer.{NodePointer}
+use Rattle.btr_reader_walk.specs.Events.{walk_events, nodes_in}
 use Rattle.btr_reader_walk.specs.Map.{place, identity}
 use Rattle.btr_reader_walk.specs.Tree.{tree_items}
 use Rattle.btr_tree.specs.Builder.{Building, Stands, pushed_on}
 use Rattle.btr_tree.specs.Counting.{bytes_of, tree_nodes}
 use Rattle.btr_tree.specs.Packing.{weight, packed}
+use Rattle.btr_tree.specs.Whole.{IsWholeTree, HasLinuxForm}
 use Rattle.btr_tree.specs.Writing.{IsInSlots}
 
 -- The groups are the lengths in their order. Each fits, no group but the first is empty, and the first of each later group
@@ -37,17 +39,28 @@ abbrev pub GivesItself : List MapRange → ℕ → ℕ → Type 0
 GivesItself ranges nodesize a = (j : ℕ) → j < nodesize / 4096 → (a + 4096 * j < 2 ^ 64) × (place ranges (a + 4096 * j) ≡ Some (a + 4096 * j))
 
 -- the tree is the same by both maps
-pub record IsSameBy (image : Image) (ranges others : List MapRange) (form : Form) (root : Pointer) (owner : ℕ) : Type 0 where
-  pub events : tree_events image ranges form root owner ≡ tree_events image others form root owner
+pub record IsSameBy (image : Image) (ranges others : List MapRange) (form : Form) (root : NodePointer) (owner : ℕ) : Type 0 where
+  pub events : walk_events image ranges form root owner ≡ walk_events image others form root owner
   pub items : tree_items image ranges form root owner ≡ tree_items image others form root owner
+  -- where it is sound and was written whole by the others, so it is by these
+  pub whole : (read : List Item) (chunk_tree : List ℕ) → tree_items image others form root owner ≡ Some read
+      → IsWholeTree image others form owner chunk_tree root → IsWholeTree image ranges form owner chunk_tree root
 
 -- A tree that is read by the map that gives each address itself is the same by each map that gives the addresses of its
 -- nodes themselves.
 abbrev pub MapsAgree : Type 0
 MapsAgree =
-    (image : Image) (ranges : List MapRange) (form : Form) (root : Pointer) (owner : ℕ)
-    → All (λ p. GivesItself ranges form.nodesize p.address) (nodes_in (tree_events image identity form root owner))
+    (image : Image) (ranges : List MapRange) (form : Form) (root : NodePointer) (owner : ℕ)
+    → All (λ p. GivesItself ranges form.nodesize p.address) (nodes_in (walk_events image identity form root owner))
     → IsSameBy image ranges identity form root owner
+
+-- Each node of a tree that was written whole has the flag "written" and today's revision; the data of a leaf are packed, and
+-- the key beside each pointer is the first key of the child.
+abbrev pub NodesHaveLinuxForm : Type 0
+NodesHaveLinuxForm =
+    (image : Image) (ranges : List MapRange) (form : Form) (owner : ℕ) (chunk_tree : List ℕ) (root : NodePointer)
+    → IsWholeTree image ranges form owner chunk_tree root
+    → All (HasLinuxForm image ranges form.nodesize) (nodes_in (walk_events image ranges form root owner))
 
 -- Whether a builder stands on a disk, and which items were pushed, depends on no block but those of the slots that were
 -- taken.

@@ -13,4 +13,5 @@ pub mod Counting
 pub mod Laws
 pub mod Packing
 pub mod Roots
+pub mod Whole
 pub mod Writing

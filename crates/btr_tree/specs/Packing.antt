@@ -3,18 +3,19 @@
 use Rattle.std.specs.Prelude.{ℕ, zero, suc, ◌+◌, ◌-◌, ◌/◌, nat_le, List, [], ◌∷◌, ◌++◌, if◌then◌else◌}
 use Rattle.std.specs.List.{sum_by}
 use Rattle.std.specs.Int.{div_ceil}
+use Rattle.btrfs_format.specs.declared.size.TheConstants.{HEADER_SIZE, ITEM_SIZE, KEY_PTR_SIZE}
 
 -- The bytes that a node has for items or children: all behind its head of 101 bytes.
 abbrev pub capacity : ℕ → ℕ
-capacity nodesize = nodesize - 101
+capacity nodesize = nodesize - HEADER_SIZE
 
 -- how many children of 33 bytes an inner node has room for
 abbrev pub fan_out : ℕ → ℕ
-fan_out nodesize = capacity nodesize / 33
+fan_out nodesize = capacity nodesize / KEY_PTR_SIZE
 
 -- the bytes that an item with this length takes in a leaf: those of its head, and its own
 abbrev pub weight : ℕ → ℕ
-weight n = 25 + n
+weight n = ITEM_SIZE + n
 
 -- Entries in groups of which each fits in a room, where one group is begun: an entry goes into the group that is begun
 -- while it has room, and else begins the next one.
@@ -34,9 +35,9 @@ level_sizes zero fan n = []
 level_sizes (suc levels) fan n = n ∷ (if nat_le n 1 then [] else level_sizes levels fan (div_ceil n fan))
 
 -- the leaves of a tree of items with these lengths
-abbrev pub leaves : ℕ → List ℕ → List (List ℕ)
-leaves nodesize lengths = packed weight (capacity nodesize) lengths
+abbrev pub packed_leaves : ℕ → List ℕ → List (List ℕ)
+packed_leaves nodesize lengths = packed weight (capacity nodesize) lengths
 
 -- How many nodes each level of the tree has, leaves first. A level's number is a byte.
 abbrev pub tree_levels : ℕ → ℕ → List ℕ
-tree_levels nodesize leaves = level_sizes 256 (fan_out nodesize) leaves
+tree_levels nodesize packed_leaves = level_sizes 256 (fan_out nodesize) packed_leaves

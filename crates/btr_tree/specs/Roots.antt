@@ -13,13 +13,23 @@ use Rattle.btr_reader_walk.specs.Laws.{AreSubtrees}
 use Rattle.btr_reader_walk.specs.Map.{identity}
 use Rattle.btr_reader_walk.specs.Node.{child_pointer}
 use Rattle.btr_reader_walk.specs.Tree.{tree_items}
-use Rattle.btr_reader_walk.specs.Events.{nodes_in, pointer_events, tree_events}
-use Rattle.btr_reader_walk.specs.declared.tree.Pointer.{Pointer}
-use Rattle.btr_tree.specs.Building.{Made, StandAt, taken, whole, pointer_to}
-use Rattle.btr_tree.specs.Builder.{Building, pushed, first_key, IsSameTree}
+use Rattle.btr_reader_walk.specs.Events.{nodes_in, pointer_events, walk_events}
+use Rattle.btr_reader_walk.specs.declared.tree.NodePointer.{NodePointer}
+use Rattle.btr_tree.specs.Building.{Made, StandAt, taken, with_written, pointer_to}
+use Rattle.btr_tree.specs.Builder.{Building, pushed, first_key, IsSameBuilding, HasWhole}
 use Rattle.btr_tree.specs.Counting.{tree_nodes}
-use Rattle.btr_tree.specs.Packing.{fan_out, leaves as leaves_by, tree_levels}
+use Rattle.btr_tree.specs.Packing.{fan_out, packed_leaves as leaves_by, tree_levels}
+use Rattle.btr_tree.specs.Whole.{IsWhole, HasFirstKey}
 use Rattle.btr_tree.specs.declared.climb.Root.{Root}
+
+-- the nodes that a walk meets below these children, each child before those below it
+abbrev pub nodes_below : Image → Made → Bool → ℕ → List Child → List NodePointer
+nodes_below image m bare level children = flat_map (λ p. nodes_in (pointer_events image identity m.form m.owner bare p)) (map (child_pointer level) children)
+
+-- the nodes below these children are whole, and their keys are the first ones of their nodes
+pub record AreWhole (image : Image) (m : Made) (bare : Bool) (level : ℕ) (children : List Child) : Type 0 where
+  pub nodes : All (IsWhole image identity m.form m.owner m.chunk_tree) (nodes_below image m bare level children)
+  pub firsts : All (HasFirstKey image identity m.form.nodesize) children
 
 -- Each child is the root of a subtree that has these items and some at all, on every disk on which the nodes stand.
 pub record AreRoots (m : Made) (level : ℕ) (children : List Child) (lists : List (List Item)) : Type 0 where
@@ -28,18 +38,15 @@ pub record AreRoots (m : Made) (level : ℕ) (children : List Child) (lists : Li
   pub one_generation : All (λ child. child.generation ≡ m.generation) children
   pub subtrees : (image : Image) (bare : Bool) → StandAt image m.form.nodesize m.slots m.nodes
       → AreSubtrees image identity m.form m.owner bare (map (child_pointer level) children) lists
-
--- the nodes that a walk meets below these children, each child before those below it
-abbrev pub nodes_below : Image → Made → Bool → ℕ → List Child → List Pointer
-nodes_below image m bare level children = flat_map (λ p. nodes_in (pointer_events image identity m.form m.owner bare p)) (map (child_pointer level) children)
+  pub whole : (image : Image) (bare : Bool) → StandAt image m.form.nodesize m.slots m.nodes → AreWhole image m bare level children
 
 -- nodes of one level at so many slots behind the first ones
-abbrev pub pointers_to : ℕ → ℕ → ℕ → ℕ → List ℕ → List Pointer
+abbrev pub pointers_to : ℕ → ℕ → ℕ → ℕ → List ℕ → List NodePointer
 pointers_to generation level skip n slots = map (pointer_to generation level) (take n (drop skip slots))
 
 -- The nodes of a tree by its levels, which have these sizes: those of a level take the slots behind those of the levels
 -- below it.
-abbrev pub level_pointers : ℕ → ℕ → ℕ → List ℕ → List ℕ → List Pointer
+abbrev pub level_pointers : ℕ → ℕ → ℕ → List ℕ → List ℕ → List NodePointer
 level_pointers generation level skip slots [] = []
 level_pointers generation level skip slots (n ∷ sizes) = pointers_to generation level skip n slots ++ level_pointers generation (suc level) (skip + n) slots sizes
 
@@ -50,7 +57,7 @@ pub record IsExtended (old new : Made) : Type 0 where
   pub is : new ≡ record old { nodes = old.nodes ++ more; draft = draft }
 
 -- the roots of subtrees of the next level, with the same items
-pub record HasRoots (m : Made) (level : ℕ) (children : List Child) (items : List Item) : Type 0 where
+pub record HasSubtreeRoots (m : Made) (level : ℕ) (children : List Child) (items : List Item) : Type 0 where
   pub lists : List (List Item)
   pub roots : AreRoots m level children lists
   pub items_are : flat_map (λ is. is) lists ≡ items
@@ -61,15 +68,15 @@ pub record IsRaised (old : Made) (children : List Child) (level : ℕ) (new : Ma
   pub count : length parents ≡ div_ceil (length children) (fan_out old.form.nodesize)
   pub made : length new.nodes ≡ length old.nodes + length parents
   pub few : length new.nodes ≤ length new.slots
-  pub roots : (below : ℕ) (items : List Item) → level ≡ suc below → HasRoots old below children items → HasRoots new level parents items
+  pub roots : (below : ℕ) (items : List Item) → level ≡ suc below → HasSubtreeRoots old below children items → HasSubtreeRoots new level parents items
   pub pointers : map (child_pointer level) parents ≡ pointers_to old.generation level (length old.nodes) (length parents) old.slots
-  pub nodes : (below : ℕ) (items : List Item) → level ≡ suc below → HasRoots old below children items → (image : Image) (bare : Bool) → StandAt image new.form.nodesize new.slots new.nodes
+  pub nodes : (below : ℕ) (items : List Item) → level ≡ suc below → HasSubtreeRoots old below children items → (image : Image) (bare : Bool) → StandAt image new.form.nodesize new.slots new.nodes
       → IsPermutation (nodes_below image new bare level parents) (map (child_pointer level) parents ++ nodes_below image new bare below children)
 
 -- roots of subtrees whose keys ascend
 pub record IsForest (m : Made) (level : ℕ) (children : List Child) : Type 0 where
   pub items : List Item
-  pub roots : HasRoots m level children items
+  pub roots : HasSubtreeRoots m level children items
   pub order : Ascends (keys_of items)
 
 -- the tree of a root has these items, on every disk on which the nodes stand
@@ -82,7 +89,11 @@ IsRoot m address level items =
 abbrev pub HasNodes : Made → ℕ → ℕ → List ℕ → Type 0
 HasNodes m address level sizes =
     (image : Image) → StandAt image m.form.nodesize m.slots m.nodes
-    → IsPermutation (nodes_in (tree_events image identity m.form (pointer_to m.generation level address) m.owner)) (level_pointers m.generation 0 0 m.slots sizes)
+    → IsPermutation (nodes_in (walk_events image identity m.form (pointer_to m.generation level address) m.owner)) (level_pointers m.generation 0 0 m.slots sizes)
+
+-- the nodes of the tree of a root are whole, on every disk on which the nodes stand
+abbrev pub HasWholeNodes : Made → ℕ → ℕ → Type 0
+HasWholeNodes m address level = (image : Image) → StandAt image m.form.nodesize m.slots m.nodes → HasWhole image m address level
 
 -- the leaves are met at the first slots
 abbrev pub AreFirst : Made → List Child → Type 0
@@ -96,8 +107,9 @@ pub record IsClimbed (old : Made) (leaves : List Child) (new : Made) (root : Roo
   pub few : length new.nodes ≤ length new.slots
   pub count : length new.nodes ≡ sum (tree_levels old.form.nodesize (length leaves))
   pub nodes_are : root.nodes ≡ length new.nodes
-  pub root_is : (items : List Item) → HasRoots old 0 leaves items → Ascends (keys_of items) → IsRoot new root.address root.level items
-  pub nodes : (items : List Item) → HasRoots old 0 leaves items → AreFirst old leaves → HasNodes new root.address root.level (tree_levels old.form.nodesize (length leaves))
+  pub root_is : (items : List Item) → HasSubtreeRoots old 0 leaves items → Ascends (keys_of items) → IsRoot new root.address root.level items
+  pub nodes : (items : List Item) → HasSubtreeRoots old 0 leaves items → AreFirst old leaves → HasNodes new root.address root.level (tree_levels old.form.nodesize (length leaves))
+  pub whole : (items : List Item) → HasSubtreeRoots old 0 leaves items → HasWholeNodes new root.address root.level
 
 -- the lengths of the bodies of items
 abbrev pub lengths_of : List Item → List ℕ
@@ -111,23 +123,24 @@ pub record IsCompleted (old new : Building) (root : Root) : Type 0 where
   pub nodes_are : root.nodes ≡ length new.made.nodes
   pub root_is : IsRoot new.made root.address root.level (pushed old)
   pub nodes : HasNodes new.made root.address root.level (tree_levels old.made.form.nodesize (length (leaves_by old.made.form.nodesize (lengths_of (pushed old)))))
+  pub whole : HasWholeNodes new.made root.address root.level
 
 -- On a disk, a walk of the tree under this root meets the nodes that packing the items gives: each once and at its slot,
 -- the leaves at the first ones and each level behind those below it, and no other.
 abbrev pub MeetsNodes : Image → Made → ℕ → ℕ → List Item → Type 0
 MeetsNodes image m address level items =
-    IsPermutation (nodes_in (tree_events image identity m.form (pointer_to m.generation level address) m.owner))
+    IsPermutation (nodes_in (walk_events image identity m.form (pointer_to m.generation level address) m.owner))
     (level_pointers m.generation 0 0 m.slots (tree_levels m.form.nodesize (length (leaves_by m.form.nodesize (lengths_of items)))))
 
 -- The leaves were made, which are these children, with some nodes in place of those that were written.
 pub record HasForest (m : Made) (leaves : List Child) : Type 0 where
   pub front : List (List ℕ)
   pub count : length front ≡ m.written
-  pub forest : IsForest (whole m front) 0 leaves
+  pub forest : IsForest (with_written m front) 0 leaves
 
 -- The tree of these items was written: its nodes are as many as packing the items gives.
 pub record IsFinished (old new : Building) (root : Root) (items : List Item) : Type 0 where
-  pub same : IsSameTree old new
+  pub same : IsSameBuilding old new
   pub few : taken new.made ≤ length new.made.slots
   pub count : taken new.made ≡ tree_nodes old.made.form.nodesize (lengths_of items)
   pub nodes_are : root.nodes ≡ taken new.made

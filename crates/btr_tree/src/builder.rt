@@ -6,10 +6,10 @@ ghost use Rattle.btr_node.specs.Draft.{node_bytes};
 ghost use Rattle.btr_node.specs.Leaf.{Item, keys_of};
 ghost use Rattle.btr_node.specs.NodeSize.{IsNodeSize};
 ghost use Rattle.btr_node.specs.Order.{Ascends};
-ghost use Rattle.btr_tree.specs.Building.{AreSlots, IsFresh, IsLater, Goes, taken, whole, ReadsBack};
+ghost use Rattle.btr_tree.specs.Building.{AreSlots, IsFresh, IsLater, Goes, taken, with_written, NodeReadsBack};
 ghost use Rattle.btr_tree.specs.Counting.{nodes_above, tree_nodes};
 ghost use Rattle.btr_tree.specs.Roots.{HasForest, IsClimbed, IsCompleted, IsFinished, MeetsNodes, lengths_of};
-ghost use Rattle.btr_tree.specs.Builder.{pushed, pushed_on, Standing, Stands, Holds, IsReady, HasPut, IsPushed, all_made, leaf_closed, leaf_begun, IsNextTaken, IsSameTree, HasTree, leaves_of};
+ghost use Rattle.btr_tree.specs.Builder.{pushed, pushed_on, Standing, Stands, Holds, IsReady, HasPut, IsPushed, all_made, leaf_closed, leaf_begun, IsNextTaken, IsSameBuilding, HasTree, HasWhole, leaves_of};
 
 use crate::answer::NodeAnswer;
 use crate::climb::{Root, climb};
@@ -17,12 +17,10 @@ use crate::nodes::Nodes;
 use crate::{Slots, TreeAnswer};
 use btr_node::{Access, Child, Disk, Ids, Key, Memory, SumKind};
 use btr_reader_walk::{Form, leaves_give_items, subtrees_are_trees};
+use btrfs_format::size::ITEM_SIZE;
 use std::alloc::Global;
 use std::marker::Model;
 use std::mem::replace;
-
-/// The bytes of an item's head in a leaf.
-const ITEM_SIZE: usize = 25;
 
 /// Writes a tree: items go into leaves in the order of their keys, each leaf as full as the next item lets it be, and the
 /// levels above are made in the end. The nodes take slots in that order. At most 16 nodes are held until they are written,
@@ -107,7 +105,7 @@ impl TreeBuilder {
         ensures pushed { IsTrue D.tells → OnOk result (pushed_on self.new (reads (D.history disk.new)) ≡ pushed_on self.old (reads (D.history disk.old)) ++ (key, body.now) ∷ []) }
         ensures holds { (items : List Item) → Holds self.old items → OnOk result (Holds self.new (items ++ (key, body.now) ∷ [])) }
         ensures ready { OnOk result (IsReady self.new) }
-        ensures same { OnOk result (IsSameTree self.old self.new) }
+        ensures same { OnOk result (IsSameBuilding self.old self.new) }
         ensures spent { IsTrue self.new.spent ↔ IsErr result }
         ensures going { self.new.done ≡ false }
         ensures out { (items : List Item) → Holds self.old items → result ≡ Err TreeAnswer.OutOfSlots
@@ -139,6 +137,7 @@ impl TreeBuilder {
         requires in_range { All (λ a. a + self.old.made.form.nodesize ≤ 4096 * D.size disk.old) self.old.made.slots }
         ensures tree { IsTrue D.tells → IfOk result (λ root. HasTree (reads (D.history disk.new)) self.old.made root.address root.level (pushed_on self.old (reads (D.history disk.old)))) }
         ensures nodes { IsTrue D.tells → IfOk result (λ root. MeetsNodes (reads (D.history disk.new)) self.old.made root.address root.level (pushed_on self.old (reads (D.history disk.old)))) }
+        ensures whole { IsTrue D.tells → IfOk result (λ root. HasWhole (reads (D.history disk.new)) self.old.made root.address root.level) }
         ensures finished { (items : List Item) → Holds self.old items → IfOk result (λ root. IsFinished self.old self.new root items) }
         ensures spent { IsTrue self.new.spent ↔ IsErr result }
         ensures done { IsTrue self.new.done ↔ IsOk result }
@@ -175,7 +174,7 @@ impl TreeBuilder {
         ensures stands { IsTrue D.tells → OnOk result (Stands self.new (reads (D.history disk.new))) }
         ensures pushed { IsTrue D.tells → OnOk result (pushed_on self.new (reads (D.history disk.new)) ≡ pushed_on self.old (reads (D.history disk.old)) ++ (key, body.now) ∷ []) }
         ensures holds { (items : List Item) → Holds self.old items → OnOk result (Holds self.new (items ++ (key, body.now) ∷ [])) }
-        ensures same { OnOk result (IsSameTree self.old self.new) }
+        ensures same { OnOk result (IsSameBuilding self.old self.new) }
         ensures done { self.new.done ≡ self.old.done }
         ensures out { (items : List Item) → Holds self.old items → result ≡ Err TreeAnswer.OutOfSlots
             → length self.old.made.slots < leaves_of self.old.made.form.nodesize (items ++ (key, body.now) ∷ []) }
@@ -200,6 +199,7 @@ impl TreeBuilder {
         requires in_range { All (λ a. a + self.old.made.form.nodesize ≤ 4096 * D.size disk.old) self.old.made.slots }
         ensures tree { IsTrue D.tells → IfOk result (λ root. HasTree (reads (D.history disk.new)) self.old.made root.address root.level (pushed_on self.old (reads (D.history disk.old)))) }
         ensures nodes { IsTrue D.tells → IfOk result (λ root. MeetsNodes (reads (D.history disk.new)) self.old.made root.address root.level (pushed_on self.old (reads (D.history disk.old)))) }
+        ensures whole { IsTrue D.tells → IfOk result (λ root. HasWhole (reads (D.history disk.new)) self.old.made root.address root.level) }
         ensures finished { (items : List Item) → Holds self.old items → IfOk result (λ root. IsFinished self.old self.new root items) }
         ensures out { (items : List Item) → Holds self.old items → result ≡ Err TreeAnswer.OutOfSlots
             → length self.old.made.slots < tree_nodes self.old.made.form.nodesize (lengths_of items) }
@@ -222,7 +222,7 @@ impl TreeBuilder {
         requires small { length body.now + 126 ≤ self.old.made.form.nodesize }
         requires batch { length self.old.made.nodes < 16 }
         ensures put { OnOk result (HasPut self.old self.new (key, body.now)) }
-        ensures same { OnOk result (IsSameTree self.old self.new) }
+        ensures same { OnOk result (IsSameBuilding self.old self.new) }
         ensures done { self.new.done ≡ self.old.done }
         ensures later { IsLater self.old.made self.new.made }
         ensures out { (items : List Item) → Holds self.old items → result ≡ Err NodeAnswer.OutOfSlots
@@ -326,7 +326,7 @@ impl TreeBuilder {
         ensures ok { OnOk result (self.new ≡ leaf_closed self.old child) }
         ensures done { self.new.done ≡ self.old.done }
         ensures later { IsLater self.old.made self.new.made }
-        ensures read { ReadsBack self.old.made.draft (node_bytes self.old.made.draft) }
+        ensures read { NodeReadsBack self.old.made.draft (node_bytes self.old.made.draft) }
     {
         self.nodes.seal();
         self.children.push(child)?;

@@ -5,13 +5,14 @@ ghost use Rattle.btr_tree.specs.Packing.{fan_out};
 
 use crate::bound::HEAD_SIZE;
 use crate::levels::{count_nodes, nodes_at};
+use btrfs_format::size::{ITEM_SIZE, KEY_PTR_SIZE};
 use std::marker::Model;
 
 /// The bytes of an item's head in a leaf.
-const ITEM_SIZE: u64 = 25;
+const HEAD_OF_ITEM: u64 = ITEM_SIZE as u64;
 
 /// The bytes of a child in an inner node.
-pub const CHILD_SIZE: u64 = 33;
+pub const CHILD_SIZE: u64 = KEY_PTR_SIZE as u64;
 
 /// The nodes that a tree takes, counted from the lengths of its items. It keeps no list of them.
 #[derive(Drop)]
@@ -50,12 +51,12 @@ impl Counter {
     /// Adds an item with a body of this length, behind those that were added.
     pub fn add(&mut self, length: usize)
         requires fits { length + 126 ≤ self.old.nodesize }
-        requires small { self.old.bytes + 25 + length < 2 ^ 60 }
+        requires small { self.old.bytes + ITEM_SIZE + length < 2 ^ 60 }
         ensures size { self.new.nodesize ≡ self.old.nodesize }
-        ensures bytes { self.new.bytes ≡ self.old.bytes + 25 + length }
+        ensures bytes { self.new.bytes ≡ self.old.bytes + ITEM_SIZE + length }
         ensures counted { (lengths : List ℕ) → Counted self.old lengths → Counted self.new (lengths ++ length ∷ []) }
     {
-        let weight = ITEM_SIZE + length as u64;
+        let weight = HEAD_OF_ITEM + length as u64;
         if self.nodesize as u64 - HEAD_SIZE < self.fill + weight {
             self.leaves += 1;
             self.fill = 0;

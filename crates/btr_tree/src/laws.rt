@@ -1,5 +1,5 @@
 // Laws of the definitions, each the contract of a function that does nothing.
-ghost use Rattle.btr_tree.specs.Laws.{PackingIsFull, NodesNeverFall, MapsAgree, StandsBySlots};
+ghost use Rattle.btr_tree.specs.Laws.{PackingIsFull, NodesNeverFall, MapsAgree, NodesHaveLinuxForm, StandsBySlots};
 
 /// Packing puts items into leaves in their order, each leaf as full as the next item lets it be.
 pub fn packing_is_full()
@@ -15,6 +15,11 @@ pub fn nodes_never_fall()
 /// nodes themselves.
 pub fn maps_agree()
     ensures { MapsAgree }
+{}
+
+/// Each node of a tree that was written whole has the form that Linux wants of it.
+pub fn nodes_have_linux_form()
+    ensures { NodesHaveLinuxForm }
 {}
 
 /// A builder stands on each disk that has the same blocks at the slots that were taken, and with the same items. So others

@@ -28,5 +28,7 @@ pub use btr_node::{
 pub use builder::TreeBuilder;
 pub use climb::Root;
 pub use counter::Counter;
-pub use laws::{maps_agree, nodes_never_fall, packing_is_full, stands_by_slots};
+pub use laws::{
+    maps_agree, nodes_have_linux_form, nodes_never_fall, packing_is_full, stands_by_slots,
+};
 pub use slots::Slots;

@@ -2,12 +2,12 @@ ghost use Rattle.std.specs.Prelude.{◌≡◌, ◌≤◌, ◌<◌, ◌+◌, ◌*
 ghost use Rattle.btr_node.specs.outside.Fault.{HasCause};
 ghost use Rattle.btr_node.specs.outside.History.{reads, WritesOnly};
 ghost use Rattle.btr_tree.specs.Writing.{IsInSlots};
-ghost use Rattle.btr_node.specs.Draft.{room, node_bytes};
+ghost use Rattle.btr_node.specs.Draft.{room, node_bytes, IsDraft};
 ghost use Rattle.btr_node.specs.Inner.{first_keys};
 ghost use Rattle.btr_node.specs.Leaf.{keys_of};
 ghost use Rattle.btr_node.specs.NodeSize.{IsNodeSize};
 ghost use Rattle.btr_node.specs.Order.{Ascends};
-ghost use Rattle.btr_tree.specs.Building.{IsFresh, begun_at, with_node, with_item, with_child, flushed, taken, Goes, IsLater, ReadsBack, AreSlots, StandAt};
+ghost use Rattle.btr_tree.specs.Building.{IsFresh, begun_at, with_node, with_item, with_child, flushed, taken, Goes, IsLater, NodeReadsBack, AreSlots, StandAt};
 ghost use Rattle.btr_tree.specs.Packing.{fan_out};
 
 use crate::Slots;
@@ -16,6 +16,7 @@ use crate::counter::CHILD_SIZE;
 use crate::write::write_node;
 use btr_node::{Access, Child, Disk, Expect, Fault, Key, Memory, NodeWriter};
 use btr_reader_walk::Form;
+use btrfs_format::size::{ITEM_SIZE, KEY_PTR_SIZE};
 use std::alloc::Global;
 use std::marker::Model;
 
@@ -54,7 +55,7 @@ impl Model for Nodes {
       draft = n.writer;
     } };
 
-    ghost invariant = { λ n. IsStock n.form.nodesize n.writer.nodesize n.written n.held (vec_capacity n.bytes) n.bytes.items n.slots };
+    ghost invariant = { λ n. IsStock n.form.nodesize n.written n.held (vec_capacity n.bytes) n.writer n.bytes.items n.slots };
 }
 
 impl Nodes {
@@ -146,7 +147,7 @@ impl Nodes {
         requires started { IsTrue self.old.draft.started }
         requires leaf { self.old.draft.want.level ≡ 0 }
         requires order { Ascends (keys_of self.old.draft.items ++ key ∷ []) }
-        requires room { 25 + length body.now ≤ room self.old.draft }
+        requires room { ITEM_SIZE + length body.now ≤ room self.old.draft }
         ensures { self.new ≡ with_item self.old key body.now }
     {
         let _ = self.writer.push(key, body);
@@ -157,7 +158,7 @@ impl Nodes {
         requires started { IsTrue self.old.draft.started }
         requires inner { 1 ≤ self.old.draft.want.level }
         requires order { Ascends (first_keys self.old.draft.children ++ child.key ∷ []) }
-        requires room { 33 ≤ room self.old.draft }
+        requires room { KEY_PTR_SIZE ≤ room self.old.draft }
         ensures { self.new ≡ with_child self.old child }
     {
         let _ = self.writer.push_child(child);
@@ -170,7 +171,7 @@ impl Nodes {
         requires slot { taken self.old < length self.old.slots }
         requires batch { length self.old.nodes < 16 }
         ensures made { self.new ≡ with_node self.old (node_bytes self.old.draft) }
-        ensures read { ReadsBack self.old.draft (node_bytes self.old.draft) }
+        ensures read { NodeReadsBack self.old.draft (node_bytes self.old.draft) }
     {
         append_node(&mut self.bytes, &mut self.writer);
         self.held += 1;
@@ -262,10 +263,11 @@ impl Nodes {
 fn append_node(bytes: &mut Vec<u8>, writer: &mut NodeWriter)
     requires started { IsTrue writer.old.started }
     requires children { 1 ≤ writer.old.want.level → 1 ≤ length writer.old.children }
+    requires right { IsDraft writer.old }
     requires room { length bytes.old.items + writer.old.nodesize ≤ vec_capacity bytes.old }
     ensures appended { bytes.new.items ≡ bytes.old.items ++ node_bytes writer.old }
     ensures room { vec_capacity bytes.old ≤ vec_capacity bytes.new }
-    ensures read { ReadsBack writer.old (node_bytes writer.old) }
+    ensures read { NodeReadsBack writer.old (node_bytes writer.old) }
     ensures same { writer.new ≡ writer.old }
 {
     let _ = bytes.extend_from_slice(writer.finish());

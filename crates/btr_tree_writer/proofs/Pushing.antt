@@ -1,40 +1,20 @@
 -- Items that are pushed one after the other.
-use Rattle.std.proofs.Common.{◌≡◌, ℕ, ◌+◌, ◌*◌, ◌<◌, ◌≤◌, Bool, true, false, List, [], ◌∷◌, ◌++◌, length, take, Some, Result, Ok, Err, refl, sym, ap, subst, ◌∙◌, arith, append_assoc, ⊎_elim}
-use Rattle.std.specs.List.{All, concat, sum}
+use Rattle.btr_tree_writer.proofs.Imports.{◌≡◌, ℕ, ◌+◌, ◌*◌, ◌<◌, ◌≤◌, Bool, true, false, List, [], ◌∷◌, ◌++◌, length, take, Some, Result, Ok, Err, refl, sym, ap, subst, ◌∙◌, arith, append_assoc, ⊎_elim, All, concat, sum, append-nil, length-take, get_or-take, map-append, All-nil, All-cons, All-head, All-tail, All-append, sum_by-append, History, WritesOnly, writes_weaker, Key, Item, keys_of, IsNodeSize, leaves_of, bytes_of, tree_nodes, capacity, fan_out, weight, packed_leaves, level_sizes, lengths_of, IsInSlots, IsErrAnd, TreeAnswer, of_builder, WriteAnswer, AreWritable, IsAbove, last_key}
 use Rattle.std.specs.Ordering.{is_lt}
 use Rattle.std.specs.declared.cmp.Ordering.{Ordering}
 use Rattle.std.specs.declared.cmp.Ordering.TheVariants.{Less, Equal, Greater}
 use Rattle.std.proofs.Math.Nat.{mul-le-mul_left}
 use Rattle.std.proofs.lemmas.Bool.{cases_lt}
-use Rattle.std.proofs.lemmas.List.{append-nil, length-take, get_or-take, map-append}
-use Rattle.std.proofs.lemmas.List.Elements.{All-nil, All-cons, All-head, All-tail, All-append}
-use Rattle.std.proofs.lemmas.List.Sums.{sum_by-append}
-use Rattle.btr_tree.specs.outside.History.{History, WritesOnly}
-use Rattle.btr_tree.proofs.outside.Crash.{writes_weaker}
 use Rattle.btr_tree.specs.btr_keys.Key.{key_cmp}
-use Rattle.btr_tree.specs.btr_keys.declared.key.Key.{Key}
-use Rattle.btr_tree.specs.btr_node.Leaf.{Item, keys_of}
-use Rattle.btr_tree.specs.btr_node.NodeSize.{IsNodeSize}
 use Rattle.btr_tree.specs.btr_node.Order.{is_before, ascends, Ascends}
 use Rattle.btr_tree.proofs.btr_node.Ascending.{second_ascends}
 use Rattle.btr_tree.proofs.btr_node.Rows.{both, joined}
-use Rattle.btr_tree.specs.Builder.{leaves_of}
-use Rattle.btr_tree.specs.Counting.{bytes_of, tree_nodes}
-use Rattle.btr_tree.specs.Packing.{capacity, fan_out, weight, leaves, level_sizes}
-use Rattle.btr_tree.specs.Roots.{lengths_of}
-use Rattle.btr_tree.specs.Writing.{IsInSlots}
 use Rattle.btr_tree.proofs.Falling.{never_fall}
 use Rattle.btr_tree.proofs.FullGroups.{packing_full}
 use Rattle.btr_tree.proofs.Leaves.{packed_same}
 use Rattle.btr_tree.proofs.Sizes.{sum-one, sum-more}
-use Rattle.std.specs.Result.{IsErrAnd}
-use Rattle.btr_tree.specs.declared.answer.TreeAnswer.{TreeAnswer}
 use Rattle.btr_tree.specs.declared.answer.TreeAnswer.TheVariants as builder
-use Rattle.btr_tree_writer.specs.Answers.{of_builder}
-use Rattle.btr_tree_writer.specs.declared.answer.WriteAnswer.{WriteAnswer}
 use Rattle.btr_tree_writer.specs.declared.answer.WriteAnswer.TheVariants as answer
-use Rattle.btr_tree_writer.specs.Trees.{AreWritable}
-use Rattle.btr_tree_writer.specs.Writer.{IsAbove, last_key}
 
 pub last_pushed : (items : List Item) (item : Item) → last_key (items ++ item ∷ []) ≡ Some item.0
 last_pushed [] item = refl
@@ -86,7 +66,7 @@ too_few nodesize slots items rest item size short = λ writable.
     let lens : lengths_of (items ++ item ∷ rest) ≡ lengths_of first ++ lengths_of rest =
     sym (ap lengths_of (append_assoc items (item ∷ []) rest)) ∙ map-append (λ (i : Item). length i.1) first rest in
     let few : tree_nodes nodesize (lengths_of first ++ lengths_of rest) ≤ length slots = subst (λ (ls : List ℕ). tree_nodes nodesize ls ≤ length slots) lens writable.few in
-    omega (arith, short, few, packed_same (capacity nodesize) first, leaves_within (fan_out nodesize) (length (leaves nodesize (lengths_of first))), first_nodes nodesize size (lengths_of first) (lengths_of rest))
+    omega (arith, short, few, packed_same (capacity nodesize) first, leaves_within (fan_out nodesize) (length (packed_leaves nodesize (lengths_of first))), first_nodes nodesize size (lengths_of first) (lengths_of rest))
 
 bytes_within : (room : ℕ) (groups : List (List ℕ)) → All (λ g. bytes_of g ≤ room) groups → bytes_of (concat groups) ≤ room * length groups
 bytes_within room [] all = omega arith
@@ -106,7 +86,7 @@ weights_short nodesize (i ∷ items) all =
 pub bytes_fit : (nodesize : ℕ) (slots : List ℕ) (items : List Item) → All (λ i. length i.1 + 126 ≤ nodesize) items → leaves_of nodesize items ≤ length slots
     → bytes_of (lengths_of items) ≤ capacity nodesize * length slots
 bytes_fit nodesize slots items short fits =
-    let groups : List (List ℕ) = leaves nodesize (lengths_of items) in
+    let groups : List (List ℕ) = packed_leaves nodesize (lengths_of items) in
     let is = packing_full (capacity nodesize) (lengths_of items) (weights_short nodesize items short) in
     let few : length groups ≤ length slots = omega (arith, fits, packed_same (capacity nodesize) items) in
     let all : bytes_of (concat groups) ≤ capacity nodesize * length groups = bytes_within (capacity nodesize) groups is.fit in

@@ -1,26 +1,11 @@
 -- Trees in one row of slots.
-use Rattle.std.proofs.Common.{◌≡◌, ◌≢◌, ℕ, ◌+◌, ◌-◌, ◌<◌, ◌≤◌, ◌%◌, ◌^◌, List, ◌++◌, length, map, take, drop, get_or, Result, Ok, Err, sym, ap, ap₂, subst, ◌∙◌, arith, length-drop}
-use Rattle.std.specs.List.{AllPairs}
-use Rattle.std.specs.Result.{IsErrAnd}
-use Rattle.std.proofs.Math.Seq.{take-add}
-use Rattle.std.proofs.lemmas.List.{map-append, get_or-drop}
-use Rattle.std.proofs.lemmas.List.Elements.{All-drop}
-use Rattle.btr_tree.specs.outside.Fault.{HasCauseOf}
-use Rattle.btr_tree.specs.btr_node.NodeSize.{IsNodeSize}
-use Rattle.btr_tree.specs.Building.{AreSlots}
-use Rattle.btr_tree.specs.Counting.{Counted, Tally, tree_nodes}
-use Rattle.btr_tree.specs.Packing.{leaves, tree_levels}
-use Rattle.btr_tree.specs.Writing.{IsInSlots}
+use Rattle.btr_tree_writer.proofs.Imports.{◌≡◌, ◌≢◌, ℕ, ◌+◌, ◌-◌, ◌<◌, ◌≤◌, ◌%◌, ◌^◌, List, ◌++◌, length, map, take, drop, get_or, Result, Ok, Err, sym, ap, ap₂, subst, ◌∙◌, arith, length-drop, AllPairs, IsErrAnd, take-add, map-append, get_or-drop, All-drop, HasCauseOf, IsNodeSize, AreSlots, Counted, Tally, tree_nodes, packed_leaves, tree_levels, IsInSlots, TreeNode, upper_at, LieApart, WriteAnswer}
 use Rattle.space_items.specs.Nodes.{HasSlots, nodes_of_tree}
-use Rattle.space_items.specs.declared.node.TreeNode.{TreeNode}
-use Rattle.space_items.proofs.Ascending.{upper_at}
-use Rattle.btr_tree_writer.specs.Source.{LieApart}
-use Rattle.btr_tree_writer.specs.declared.answer.WriteAnswer.{WriteAnswer}
 use Rattle.btr_tree_writer.specs.declared.answer.WriteAnswer.TheVariants as answer
 
 -- the nodes of a tree lie at the first slots
 pub addresses_at : (owner nodesize : ℕ) (lengths slots : List ℕ) → map (λ n. n.address) (nodes_of_tree owner nodesize lengths slots) ≡ take (tree_nodes nodesize lengths) slots
-addresses_at owner nodesize lengths slots = upper_at owner 0 0 slots (tree_levels nodesize (length (leaves nodesize lengths)))
+addresses_at owner nodesize lengths slots = upper_at owner 0 0 slots (tree_levels nodesize (length (packed_leaves nodesize lengths)))
 
 -- and behind those that were taken
 pub taken_more : (nodes : List TreeNode) (owner nodesize : ℕ) (lengths slots : List ℕ) (taken : ℕ) → map (λ n. n.address) nodes ≡ take taken slots

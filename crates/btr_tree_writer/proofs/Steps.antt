@@ -1,32 +1,9 @@
 -- A step of writing a tree: the next item comes, and is pushed.
-use Rattle.std.proofs.Common.{◌≡◌, inl, inr, ⊎_elim, ℕ, ◌+◌, ◌-◌, ◌*◌, ◌<◌, ◌≤◌, List, [], ◌∷◌, ◌++◌, length, Some, Result, Ok, Err, refl, sym, ap, subst, ◌∙◌, arith, append_assoc}
-use Rattle.std.specs.List.{All}
-use Rattle.std.specs.Result.{IsErrAnd, MatchResult}
-use Rattle.std.proofs.lemmas.List.{append-nil}
-use Rattle.std.specs.List.Sorted.{IsPermutation}
-use Rattle.btr_tree.specs.outside.Fault.{HasCauseOf, Rose}
-use Rattle.btr_tree.specs.outside.History.{Image, History, reads, block_at, WritesOnly}
-use Rattle.btr_tree.proofs.outside.Crash.{writes_length}
+use Rattle.btr_tree_writer.proofs.Imports.{◌≡◌, inl, inr, ⊎_elim, ℕ, ◌+◌, ◌-◌, ◌*◌, ◌<◌, ◌≤◌, List, [], ◌∷◌, ◌++◌, length, Some, Result, Ok, Err, refl, sym, ap, subst, ◌∙◌, arith, append_assoc, All, IsErrAnd, MatchResult, append-nil, IsPermutation, HasCauseOf, Rose, Image, History, reads, block_at, WritesOnly, writes_length, Key, Item, Made, pointer_to, HasTree, HasWhole, tree_nodes, packed_leaves, tree_levels, MeetsNodes, level_pointers, lengths_of, IsWholeTree, IsInSlots, nodes_in, walk_events, identity, tree_items, Form, of_source, IsFailure, IsSourceFailure, IsWriteAnswer, LieApart, SameWhere, TreeStands, pointer_to_root, WriteAnswer}
 use Rattle.btr_tree.proofs.outside.Phases.{reads_outside}
 use Rattle.btr_tree.specs.refusals.declared.answer.VolAnswer.{VolAnswer}
-use Rattle.btr_tree.specs.refusals.declared.answer.VolAnswer.TheVariants as source
-use Rattle.btr_tree.specs.btr_keys.declared.key.Key.{Key}
-use Rattle.btr_tree.specs.btr_node.Leaf.{Item}
-use Rattle.btr_tree.specs.Building.{Made, pointer_to}
-use Rattle.btr_tree.specs.Builder.{HasTree}
-use Rattle.btr_tree.specs.Counting.{tree_nodes}
-use Rattle.btr_tree.specs.Packing.{leaves, tree_levels}
-use Rattle.btr_tree.specs.Roots.{MeetsNodes, level_pointers, lengths_of}
-use Rattle.btr_tree.specs.Writing.{IsInSlots}
 use Rattle.btr_tree.specs.declared.climb.Root.{Root}
-use Rattle.btr_tree.specs.btr_reader_walk.Events.{nodes_in, tree_events}
-use Rattle.btr_tree.specs.btr_reader_walk.Map.{identity}
-use Rattle.btr_tree.specs.btr_reader_walk.Tree.{tree_items}
-use Rattle.btr_tree.specs.btr_reader_walk.declared.tree.Form.{Form}
-use Rattle.btr_tree_writer.specs.Answers.{of_source, IsFailure, IsSourceFailure, IsWriteAnswer}
-use Rattle.btr_tree_writer.specs.Source.{LieApart, SameWhere}
-use Rattle.btr_tree_writer.specs.Trees.{TreeStands}
-use Rattle.btr_tree_writer.specs.declared.answer.WriteAnswer.{WriteAnswer}
+use Rattle.btr_tree.specs.refusals.declared.answer.VolAnswer.TheVariants as source
 use Rattle.btr_tree_writer.specs.declared.answer.WriteAnswer.TheVariants as answer
 
 fault_back : {T : Type 0} (r : Result T WriteAnswer) (a : VolAnswer) → IsErrAnd r (λ e. e ≡ of_source a) → r ≡ Err answer.Fault → a ≡ source.Fault
@@ -94,25 +71,35 @@ pushed_of items rest all item is = append_assoc items (item ∷ []) rest ∙ is
 pub last_of : (items before all : List Item) → items ++ before ≡ all → before ≡ [] → items ≡ all
 last_of items before all is none = sym (append-nil items) ∙ (sym (ap (λ (is : List Item). items ++ is) none) ∙ is)
 
+-- each node is exactly the bytes of its draft
+pub whole_by : (image : Image) (m : Made) (form : Form) (owner : ℕ) (root : Root) → m.form ≡ form → m.owner ≡ owner → m.generation ≡ 1
+    → HasWhole image m root.address root.level → IsWholeTree image identity form owner m.chunk_tree (pointer_to_root root)
+whole_by image m form owner root form-is owner-is generation whole =
+    subst (λ (f : Form). IsWholeTree image identity f owner m.chunk_tree (pointer_to_root root)) form-is
+    (subst (λ (o : ℕ). IsWholeTree image identity m.form o m.chunk_tree (pointer_to_root root)) owner-is
+    (subst (λ (n : ℕ). IsWholeTree image identity m.form m.owner m.chunk_tree (pointer_to n root.level root.address)) generation whole))
+
 -- what the builder says of the tree that it finished
 pub stands_by : (image : Image) (m : Made) (form : Form) (owner : ℕ) (slots : List ℕ) (pushed items : List Item) (root : Root)
     → m.form ≡ form → m.owner ≡ owner → m.generation ≡ 1 → m.slots ≡ slots → pushed ≡ items
     → HasTree image m root.address root.level pushed → MeetsNodes image m root.address root.level pushed
+    → HasWhole image m root.address root.level
     → root.nodes ≡ tree_nodes m.form.nodesize (lengths_of items) → root.nodes ≤ length m.slots → TreeStands image form owner slots items root
-stands_by image m form owner slots pushed items root form-is owner-is generation slots-are pushed-are tree meets count few = record {
+stands_by image m form owner slots pushed items root form-is owner-is generation slots-are pushed-are tree meets whole count few = record {
   items_are =
       subst (λ (f : Form). tree_items image identity f (pointer_to 1 root.level root.address) owner ≡ Some items) form-is
       (subst (λ (o : ℕ). tree_items image identity m.form (pointer_to 1 root.level root.address) o ≡ Some items) owner-is
       (subst (λ (n : ℕ). tree_items image identity m.form (pointer_to n root.level root.address) m.owner ≡ Some items) generation
       (subst (λ (is : List Item). tree_items image identity m.form (pointer_to m.generation root.level root.address) m.owner ≡ Some is) pushed-are tree)));
   nodes_are =
-      subst (λ (f : Form). IsPermutation (nodes_in (tree_events image identity f (pointer_to 1 root.level root.address) owner)) (level_pointers 1 0 0 slots (tree_levels f.nodesize (length (leaves f.nodesize (lengths_of items)))))) form-is
-      (subst (λ (o : ℕ). IsPermutation (nodes_in (tree_events image identity m.form (pointer_to 1 root.level root.address) o)) (level_pointers 1 0 0 slots (tree_levels m.form.nodesize (length (leaves m.form.nodesize (lengths_of items)))))) owner-is
-      (subst (λ (n : ℕ). IsPermutation (nodes_in (tree_events image identity m.form (pointer_to n root.level root.address) m.owner)) (level_pointers n 0 0 slots (tree_levels m.form.nodesize (length (leaves m.form.nodesize (lengths_of items)))))) generation
-      (subst (λ (s : List ℕ). IsPermutation (nodes_in (tree_events image identity m.form (pointer_to m.generation root.level root.address) m.owner)) (level_pointers m.generation 0 0 s (tree_levels m.form.nodesize (length (leaves m.form.nodesize (lengths_of items)))))) slots-are
-      (subst (λ (is : List Item). IsPermutation (nodes_in (tree_events image identity m.form (pointer_to m.generation root.level root.address) m.owner)) (level_pointers m.generation 0 0 m.slots (tree_levels m.form.nodesize (length (leaves m.form.nodesize (lengths_of is)))))) pushed-are meets))));
+      subst (λ (f : Form). IsPermutation (nodes_in (walk_events image identity f (pointer_to 1 root.level root.address) owner)) (level_pointers 1 0 0 slots (tree_levels f.nodesize (length (packed_leaves f.nodesize (lengths_of items)))))) form-is
+      (subst (λ (o : ℕ). IsPermutation (nodes_in (walk_events image identity m.form (pointer_to 1 root.level root.address) o)) (level_pointers 1 0 0 slots (tree_levels m.form.nodesize (length (packed_leaves m.form.nodesize (lengths_of items)))))) owner-is
+      (subst (λ (n : ℕ). IsPermutation (nodes_in (walk_events image identity m.form (pointer_to n root.level root.address) m.owner)) (level_pointers n 0 0 slots (tree_levels m.form.nodesize (length (packed_leaves m.form.nodesize (lengths_of items)))))) generation
+      (subst (λ (s : List ℕ). IsPermutation (nodes_in (walk_events image identity m.form (pointer_to m.generation root.level root.address) m.owner)) (level_pointers m.generation 0 0 s (tree_levels m.form.nodesize (length (packed_leaves m.form.nodesize (lengths_of items)))))) slots-are
+      (subst (λ (is : List Item). IsPermutation (nodes_in (walk_events image identity m.form (pointer_to m.generation root.level root.address) m.owner)) (level_pointers m.generation 0 0 m.slots (tree_levels m.form.nodesize (length (packed_leaves m.form.nodesize (lengths_of is)))))) pushed-are meets))));
   count = subst (λ (f : Form). root.nodes ≡ tree_nodes f.nodesize (lengths_of items)) form-is count;
   few = subst (λ (s : List ℕ). root.nodes ≤ length s) slots-are few;
+  whole = (m.chunk_tree, whole_by image m form owner root form-is owner-is generation whole);
 }
 
 -- a part answered, after so many faults as at the start

@@ -5,7 +5,7 @@ use Rattle.btr_tree.specs.Building.{AreSlots}
 use Rattle.btr_tree_writer.specs.declared.trees.Trees.{Trees}
 
 -- The slots serve, and each that is taken has the node of its address.
-pub record IsRow (t : Trees) : Type 0 where
+pub record IsSlotRow (t : Trees) : Type 0 where
   pub size : IsNodeSize t.form.nodesize
   pub slots : AreSlots t.form.nodesize t.slots
   pub ascending : AllPairs (λ a b. a < b) t.slots

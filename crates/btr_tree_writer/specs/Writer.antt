@@ -19,7 +19,7 @@ last_key (item ∷ []) = Some item.0
 last_key (item ∷ (next ∷ items)) = last_key (next ∷ items)
 
 -- The writer holds these items of a tree with this number, whose nodes go to these slots.
-pub record Writes (w : TreeWriter) (form : Form) (owner : ℕ) (slots : List ℕ) (items : List Item) : Type 0 where
+pub record WritesTree (w : TreeWriter) (form : Form) (owner : ℕ) (slots : List ℕ) (items : List Item) : Type 0 where
   pub holds : Holds w.builder items
   pub counted : Counted w.counter (lengths_of items)
   pub last_is : w.last ≡ last_key items
@@ -35,8 +35,8 @@ pub record Writes (w : TreeWriter) (form : Form) (owner : ℕ) (slots : List ℕ
   pub going : w.builder.done ≡ false
 
 -- it holds some items, of some tree
-abbrev pub IsReady : TreeWriter → Type 0
-IsReady w = (form : Form) × (owner : ℕ) × (slots : List ℕ) × (items : List Item) × Writes w form owner slots items
+abbrev pub IsWriterReady : TreeWriter → Type 0
+IsWriterReady w = (form : Form) × (owner : ℕ) × (slots : List ℕ) × (items : List Item) × WritesTree w form owner slots items
 
 -- The items are those in the nodes that were written, as a disk has them, and those that the builder holds.
 pub record StandsOn (w : TreeWriter) (image : Image) (items : List Item) : Type 0 where

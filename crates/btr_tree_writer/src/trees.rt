@@ -11,7 +11,7 @@ ghost use Rattle.btr_tree.specs.Writing.{IsInSlots};
 ghost use Rattle.space_items.specs.Nodes.{AreNodes, nodes_of_tree};
 ghost use Rattle.btr_tree_writer.specs.Answers.{IsFailure};
 ghost use Rattle.btr_tree_writer.specs.Source.{LieApart};
-ghost use Rattle.btr_tree_writer.specs.Trees.{AreWritable, TreeStands, form_of};
+ghost use Rattle.btr_tree_writer.specs.Trees.{AreWritable, IsWrittenWith, TreeStands, read_form};
 
 use crate::answer::WriteAnswer;
 use crate::form::NodeForm;
@@ -31,7 +31,7 @@ pub struct Trees {
 }
 
 impl Trees {
-    ghost use Rattle.btr_tree_writer.specs.Row.{IsRow};
+    ghost use Rattle.btr_tree_writer.specs.Row.{IsSlotRow};
 
     /// No tree yet. The slots are addresses in bytes, ascending multiples of the node size.
     pub fn new(alloc: Global, form: NodeForm, slots: Slots) -> Trees
@@ -40,7 +40,7 @@ impl Trees {
         requires ascending { AllPairs (λ a b. a < b) slots }
         requires few { length slots < 2 ^ 43 }
         ensures fields { (result.form ≡ form) × (result.slots ≡ slots) × (result.taken ≡ 0) × (result.nodes ≡ []) }
-        ensures row { IsRow result }
+        ensures row { IsSlotRow result }
     {
         Trees {
             form,
@@ -59,17 +59,18 @@ impl Trees {
         owner: u64,
         items: &mut I,
     ) -> Result<Root, WriteAnswer>
-        requires row { IsRow self.old }
+        requires row { IsSlotRow self.old }
         requires open { D.opened disk.old ≡ Some Access.Write }
         requires in_range { All (λ a. a + self.old.form.nodesize ≤ 4096 * D.size disk.old) self.old.slots }
         requires live { I.is_live items.old }
         requires reach { I.reach items.old ≤ D.size disk.old }
-        ensures row { OnOk result (IsRow self.new) }
+        ensures row { OnOk result (IsSlotRow self.new) }
         ensures same { (self.new.form ≡ self.old.form) × (self.new.slots ≡ self.old.slots) }
         ensures taken { IfOk result (λ root. self.new.taken ≡ self.old.taken + root.nodes) }
         ensures tree { OverTold D.tells (D.blocks disk.old) (λ image. I.fits items.old image → LieApart (I.needs items.old) self.old.form.nodesize self.old.slots → (all : List ItemOf) → I.ahead items.old image ≡ all → AreWritable self.old.form.nodesize (drop self.old.taken self.old.slots) all
-            → MatchResult result (λ root. TreeStands (reads (D.history disk.new)) (form_of self.old.form) owner (drop self.old.taken self.old.slots) all root
+            → MatchResult result (λ root. TreeStands (reads (D.history disk.new)) (read_form self.old.form) owner (drop self.old.taken self.old.slots) all root
             × (self.new.nodes ≡ self.old.nodes ++ nodes_of_tree owner self.old.form.nodesize (lengths_of all) (drop self.old.taken self.old.slots))) IsFailure) }
+        ensures whole { IsTrue D.tells → IfOk result (λ root. IsWrittenWith (reads (D.history disk.new)) self.old.form owner root) }
         ensures open { D.opened disk.new ≡ D.opened disk.old }
         ensures size { D.size disk.new ≡ D.size disk.old }
         ensures borrow { D.borrow disk.new ≡ D.borrow disk.old }
@@ -85,10 +86,10 @@ impl Trees {
     /// Takes the next slots for the nodes of a tree with this number whose items were counted. A misfit is one for whose
     /// nodes there are too few slots.
     pub fn take(&mut self, counter: &Counter, owner: u64) -> Result<(), WriteAnswer>
-        requires row { IsRow self.old }
+        requires row { IsSlotRow self.old }
         requires size { counter.now.nodesize ≡ self.old.form.nodesize }
         requires counted { (lengths : List ℕ) × Counted counter.now lengths }
-        ensures row { OnOk result (IsRow self.new) }
+        ensures row { OnOk result (IsSlotRow self.new) }
         ensures same { (self.new.form ≡ self.old.form) × (self.new.slots ≡ self.old.slots) }
         ensures taken { (lengths : List ℕ) → Counted counter.now lengths
             → OnOk result ((self.new.taken ≡ self.old.taken + tree_nodes self.old.form.nodesize lengths)
@@ -123,7 +124,7 @@ impl Trees {
     /// The nodes at the slots that are taken, ascending by address.
     pub fn nodes(&self) -> &NodeList
         ensures same { result.now ≡ self.now.nodes }
-        ensures fit { IsRow self.now → AreNodes result.now }
+        ensures fit { IsSlotRow self.now → AreNodes result.now }
     {
         &self.nodes
     }

@@ -10,7 +10,7 @@ ghost use Rattle.btr_tree.specs.Roots.{lengths_of};
 ghost use Rattle.btr_tree.specs.Writing.{IsInSlots};
 ghost use Rattle.btr_tree_writer.specs.Answers.{IsFailure};
 ghost use Rattle.btr_tree_writer.specs.Source.{LieApart};
-ghost use Rattle.btr_tree_writer.specs.Trees.{AreWritable, TreeStands, form_of};
+ghost use Rattle.btr_tree_writer.specs.Trees.{AreWritable, IsWrittenWith, TreeStands, read_form};
 
 use crate::answer::WriteAnswer;
 use crate::form::NodeForm;
@@ -31,7 +31,8 @@ pub struct WrittenTree {
 /// multiples of the node size. Transaction 1 makes it.
 ///
 /// Over a disk that tells its blocks, items of which a tree can be written give that tree, or a fault or want of memory,
-/// where no block that the source needs is one of a slot.
+/// where no block that the source needs is one of a slot. Whatever the items are, each node of the tree is exactly the bytes of
+/// its draft, with the identifiers of the form.
 /// At any answer only blocks of the slots may have been written.
 pub fn write_tree<D: Disk, I: ItemSource>(
     alloc: Global,
@@ -49,7 +50,8 @@ pub fn write_tree<D: Disk, I: ItemSource>(
     requires live { I.is_live items.old }
     requires reach { I.reach items.old ≤ D.size disk.old }
     ensures tree { OverTold D.tells (D.blocks disk.old) (λ image. I.fits items.old image → LieApart (I.needs items.old) form.nodesize slots → (all : List Item) → I.ahead items.old image ≡ all → AreWritable form.nodesize slots all
-        → MatchResult result (λ t. TreeStands (reads (D.history disk.new)) (form_of form) owner slots all t.root × Counted t.counter (lengths_of all)) IsFailure) }
+        → MatchResult result (λ t. TreeStands (reads (D.history disk.new)) (read_form form) owner slots all t.root × Counted t.counter (lengths_of all)) IsFailure) }
+    ensures whole { IsTrue D.tells → IfOk result (λ t. IsWrittenWith (reads (D.history disk.new)) form owner t.root) }
     ensures counted { IfOk result (λ t. (lengths : List ℕ) × Counted t.counter lengths × (t.root.nodes ≡ tree_nodes form.nodesize lengths)) }
     ensures size_is { IfOk result (λ t. t.counter.nodesize ≡ form.nodesize) }
     ensures few { IfOk result (λ t. t.root.nodes ≤ length slots) }

@@ -3,13 +3,15 @@ ghost use Rattle.btr_tree.specs.outside.Fault.{HasCauseOf};
 ghost use Rattle.btr_tree.specs.outside.History.{Image, reads, WritesOnly};
 ghost use Rattle.btr_tree.specs.btr_node.Leaf.{Item};
 ghost use Rattle.btr_tree.specs.btr_node.NodeSize.{IsNodeSize};
-ghost use Rattle.btr_tree.specs.Builder.{IsSameTree};
+ghost use Rattle.btr_tree.specs.Builder.{IsSameBuilding};
 ghost use Rattle.btr_tree.specs.Building.{AreSlots};
 ghost use Rattle.btr_tree.specs.Counting.{Counted};
 ghost use Rattle.btr_tree.specs.Roots.{lengths_of};
 ghost use Rattle.btr_tree.specs.Writing.{IsInSlots};
 ghost use Rattle.btr_tree_writer.specs.Answers.{of_builder};
-ghost use Rattle.btr_tree_writer.specs.Trees.{AreWritable, TreeStands, form_of};
+ghost use Rattle.btr_tree.specs.Whole.{IsWholeTree};
+ghost use Rattle.btr_tree.specs.btr_reader_walk.Map.{identity};
+ghost use Rattle.btr_tree_writer.specs.Trees.{AreWritable, TreeStands, pointer_to_root, read_form};
 
 use crate::answer::WriteAnswer;
 use crate::form::NodeForm;
@@ -32,7 +34,7 @@ impl TreeWriter {
     ghost use Rattle.std.specs.Prelude.{◌≡◌, ◌↔◌, ℕ, IfErr};
     ghost use Rattle.btr_tree.specs.btr_reader_walk.declared.tree.Form.{Form as FormOf};
     ghost use Rattle.btr_tree_writer.specs.Answers.{IsWriteAnswer};
-    ghost use Rattle.btr_tree_writer.specs.Writer.{Writes, IsReady, IsStanding, StandsOn, IsAbove, IsCountedTree};
+    ghost use Rattle.btr_tree_writer.specs.Writer.{WritesTree, IsWriterReady, IsStanding, StandsOn, IsAbove, IsCountedTree};
 
     /// A tree with this number, whose nodes go to these slots.
     pub fn new(
@@ -44,8 +46,9 @@ impl TreeWriter {
         requires size { IsNodeSize form.nodesize }
         requires slots { AreSlots form.nodesize slots }
         requires few { length slots < 2 ^ 43 }
-        ensures writes { IfOk result (λ w. Writes w (form_of form) owner slots []) }
+        ensures writes { IfOk result (λ w. WritesTree w (read_form form) owner slots []) }
         ensures stands { IfOk result (λ w. (image : Image) → StandsOn w image []) }
+        ensures chunk_tree { IfOk result (λ w. w.builder.made.chunk_tree ≡ form.ids.chunk_tree) }
     {
         Ok(TreeWriter {
             builder: TreeBuilder::new(alloc, owner, 1, slots, form.ids, form.nodesize, form.sums)?,
@@ -57,16 +60,17 @@ impl TreeWriter {
 
     /// Appends an item. A misfit is one after which no tree can be written, whatever comes behind it.
     pub fn push<D: Disk>(&mut self, disk: &mut D, key: Key, body: &[u8]) -> Result<(), WriteAnswer>
-        requires ready { IsReady self.old }
+        requires ready { IsWriterReady self.old }
         requires stands { IsTrue D.tells → IsStanding self.old (reads (D.history disk.old)) }
         requires open { D.opened disk.old ≡ Some Access.Write }
         requires in_range { All (λ a. a + self.old.builder.made.form.nodesize ≤ 4096 * D.size disk.old) self.old.builder.made.slots }
-        ensures writes { (form : FormOf) (owner : ℕ) (slots : List ℕ) (items : List Item) → Writes self.old form owner slots items → OnOk result (Writes self.new form owner slots (items ++ (key, body.now) ∷ [])) }
+        ensures writes { (form : FormOf) (owner : ℕ) (slots : List ℕ) (items : List Item) → WritesTree self.old form owner slots items → OnOk result (WritesTree self.new form owner slots (items ++ (key, body.now) ∷ [])) }
         ensures stands { (items : List Item) → IsTrue D.tells → StandsOn self.old (reads (D.history disk.old)) items → OnOk result (StandsOn self.new (reads (D.history disk.new)) (items ++ (key, body.now) ∷ [])) }
         ensures answers { IfErr result IsWriteAnswer }
-        ensures misfit { (form : FormOf) (owner : ℕ) (slots : List ℕ) (items rest : List Item) → Writes self.old form owner slots items → result ≡ Err WriteAnswer.Misfit
+        ensures misfit { (form : FormOf) (owner : ℕ) (slots : List ℕ) (items rest : List Item) → WritesTree self.old form owner slots items → result ≡ Err WriteAnswer.Misfit
             → ¬ AreWritable form.nodesize slots (items ++ (key, body.now) ∷ rest) }
         ensures more { OnOk result (self.old.counter.bytes < self.new.counter.bytes) }
+        ensures chunk_tree { OnOk result (self.new.builder.made.chunk_tree ≡ self.old.builder.made.chunk_tree) }
         ensures open { D.opened disk.new ≡ D.opened disk.old }
         ensures size { D.size disk.new ≡ D.size disk.old }
         ensures borrow { D.borrow disk.new ≡ D.borrow disk.old }
@@ -95,15 +99,17 @@ impl TreeWriter {
 
     /// Writes what is left of the tree, and gives its root and the count of its nodes.
     pub fn finish<D: Disk>(mut self, disk: &mut D) -> Result<(Root, Counter), WriteAnswer>
-        requires ready { IsReady self }
+        requires ready { IsWriterReady self }
         requires stands { IsTrue D.tells → IsStanding self (reads (D.history disk.old)) }
         requires open { D.opened disk.old ≡ Some Access.Write }
         requires in_range { All (λ a. a + self.builder.made.form.nodesize ≤ 4096 * D.size disk.old) self.builder.made.slots }
-        ensures tree { (form : FormOf) (owner : ℕ) (slots : List ℕ) (items : List Item) → IsTrue D.tells → Writes self form owner slots items → StandsOn self (reads (D.history disk.old)) items
+        ensures tree { (form : FormOf) (owner : ℕ) (slots : List ℕ) (items : List Item) → IsTrue D.tells → WritesTree self form owner slots items → StandsOn self (reads (D.history disk.old)) items
             → IfOk result (λ t. TreeStands (reads (D.history disk.new)) form owner slots items t.0) }
-        ensures counted { (form : FormOf) (owner : ℕ) (slots : List ℕ) (items : List Item) → Writes self form owner slots items → IfOk result (λ t. IsCountedTree form.nodesize slots items t.0 t.1) }
+        ensures whole { (form : FormOf) (owner : ℕ) (slots : List ℕ) (items : List Item) → IsTrue D.tells → WritesTree self form owner slots items
+            → IfOk result (λ t. IsWholeTree (reads (D.history disk.new)) identity form owner self.builder.made.chunk_tree (pointer_to_root t.0)) }
+        ensures counted { (form : FormOf) (owner : ℕ) (slots : List ℕ) (items : List Item) → WritesTree self form owner slots items → IfOk result (λ t. IsCountedTree form.nodesize slots items t.0 t.1) }
         ensures answers { IfErr result IsWriteAnswer }
-        ensures misfit { (form : FormOf) (owner : ℕ) (slots : List ℕ) (items : List Item) → Writes self form owner slots items → result ≡ Err WriteAnswer.Misfit → ¬ AreWritable form.nodesize slots items }
+        ensures misfit { (form : FormOf) (owner : ℕ) (slots : List ℕ) (items : List Item) → WritesTree self form owner slots items → result ≡ Err WriteAnswer.Misfit → ¬ AreWritable form.nodesize slots items }
         ensures open { D.opened disk.new ≡ D.opened disk.old }
         ensures size { D.size disk.new ≡ D.size disk.old }
         ensures borrow { D.borrow disk.new ≡ D.borrow disk.old }

@@ -2,11 +2,13 @@ ghost use Rattle.std.specs.Prelude.{◌≡◌, ◌≤◌, ◌+◌, ◌*◌, [], 
 ghost use Rattle.std.specs.List.{range_with_len};
 ghost use Rattle.outside.specs.History.{reads};
 ghost use Rattle.btr_reader_walk.specs.btr_node.NodeSize.{IsNodeSize};
-ghost use Rattle.btr_tree.specs.Builder.{Holds, IsSameTree, Stands};
+ghost use Rattle.btr_tree.specs.Builder.{Holds, IsSameBuilding, Stands};
 ghost use Rattle.btr_tree.specs.Building.{AreSlots};
 
 use btr_keys::Key;
 use btr_tree::{Counter, Root, Slots, TreeAnswer, TreeBuilder, node_bound};
+use btrfs_format::block::SUPER_INFO_OFFSET;
+use btrfs_format::key::INODE_ITEM;
 use csum_kinds::SumKind;
 use outside::{Access, Disk, Memory};
 use outside_mem::MemDisk;
@@ -65,7 +67,7 @@ const IDS: Ids = Ids {
 };
 
 fn key(objectid: u64) -> Key
-    ensures { result ≡ record { objectid = objectid; kind = 1; offset = 0 } }
+    ensures { result ≡ record { objectid = objectid; kind = INODE_ITEM; offset = 0 } }
 {
     Key {
         objectid,
@@ -99,7 +101,7 @@ fn one_leaf(rt: HostRuntime) -> Result<(), Fail> {
         assert_eq!(rt;
             root,
             Ok(Root {
-                address: 65536,
+                address: SUPER_INFO_OFFSET,
                 level: 0,
                 nodes: 1
             })
@@ -139,8 +141,8 @@ fn push_numbered<D: Disk>(
     ensures unspent { OnOk result (tree.new.spent ≡ false) }
     ensures going { tree.new.done ≡ false }
     ensures stands { IsTrue D.tells → OnOk result (Stands tree.new (reads (D.history disk.new))) }
-    ensures holds { OnOk result (Holds tree.new (map (λ k. (record { objectid = k; kind = 1; offset = 0 }, body.now)) (range_with_len 0 count))) }
-    ensures same { OnOk result (IsSameTree tree.old tree.new) }
+    ensures holds { OnOk result (Holds tree.new (map (λ k. (record { objectid = k; kind = INODE_ITEM; offset = 0 }, body.now)) (range_with_len 0 count))) }
+    ensures same { OnOk result (IsSameBuilding tree.old tree.new) }
     ensures open { D.opened disk.new ≡ D.opened disk.old }
     ensures size { D.size disk.new ≡ D.size disk.old }
 {
@@ -162,7 +164,7 @@ fn three_levels(rt: HostRuntime) -> Result<(), Fail> {
     assert_eq!(rt;
         root,
         Ok(Root {
-            address: 65536 + 4096 * 124,
+            address: SUPER_INFO_OFFSET + 4096 * 124,
             level: 2,
             nodes: 125
         })

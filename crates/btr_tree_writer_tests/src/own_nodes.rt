@@ -5,6 +5,7 @@ ghost use Rattle.space_items.specs.Stream.{ArePieces};
 ghost use Rattle.unit_plan.specs.declared.piece.Piece.{Piece as PieceOf};
 
 use btr_tree::{Counter, Slots};
+use btrfs_format::object::FS_TREE;
 use outside::Memory;
 use reiser_bitmap::Bitmap;
 use space_items::{NodeList, TreeNode, add_nodes, merged, own_nodes, with_own};
@@ -64,7 +65,7 @@ fn row(alloc: Global, first: u64, count: u64) -> Result<Slots, Memory>
 
 /// Leaves of tree 5 at these addresses.
 fn leaves(alloc: Global, slots: &Slots) -> Result<NodeList, Memory>
-    ensures { IfOk result (λ nodes. nodes ≡ nodes_at 5 0 slots.now) }
+    ensures { IfOk result (λ nodes. nodes ≡ nodes_at FS_TREE 0 slots.now) }
 {
     let mut nodes = NodeList::new(alloc);
     for &address in slots.as_slice() {

@@ -1,11 +1,11 @@
-ghost use Rattle.unit_plan.specs.Choice.{IsSmall};
+ghost use Rattle.unit_plan.specs.Choice.{IsSmallNeed};
 
 use convert_options::Options;
 use outside::Memory;
 use reiser_bitmap::{Bitmap, Run};
 use std::alloc::Global;
 use unit_plan::{
-    Chunk, Counts, Need, Piece, PieceList, Plan, PlanAnswer, Role, Units, choose, chunks_of,
+    Counts, Need, Piece, PieceList, Plan, PlanAnswer, PlannedChunk, Role, Units, choose, chunks_of,
     needed, plans_fit,
 };
 
@@ -97,6 +97,68 @@ fn units_are_chosen(rt: HostRuntime) -> Result<(), PlanAnswer> {
     Ok(())
 }
 
+/// The bitmap of a volume of so many units, where a block of each of these units is used.
+fn with_used(alloc: Global, units: u64, used: &[u64]) -> Result<Bitmap, Memory> {
+    let mut map = Bitmap::new(alloc, units.saturating_mul(256))?;
+    for unit in used {
+        let block = unit.saturating_mul(256);
+        if block < map.len() {
+            map.insert(block);
+        }
+    }
+    Ok(map)
+}
+
+/// Units 1 to 3 are chosen, so 4 is the first one without use.
+const THREE_UNITS: Need = Need {
+    system: 1,
+    metadata: 1,
+    data_: 1,
+};
+
+// The runs without use have 1101, 256, 255 and 255 units. The first one alone has 1024 units and a 64th of all.
+#[test]
+fn runs_of_256_units_stay_unallocated(rt: HostRuntime) -> Result<(), PlanAnswer> {
+    let map = with_used(rt.alloc(), 1874, &[1105, 1362, 1618])?;
+    let plan = choose(rt.alloc(), &map, &THREE_UNITS)?;
+    assert!(rt; plan.unallocated.len() == 2);
+    let long = Run {
+        first: 4,
+        count: 1101,
+    };
+    let just_long = Run {
+        first: 1106,
+        count: 256,
+    };
+    assert_eq!(rt; plan.unallocated.get(0), long);
+    assert_eq!(rt; plan.unallocated.get(1), just_long);
+    Ok(())
+}
+
+// Seven runs of 205 units: five have 1025 units, which is less than 1024 and a 64th of all 1435, and six have 1230.
+#[test]
+fn of_equal_runs_the_lower_ones_stay(rt: HostRuntime) -> Result<(), PlanAnswer> {
+    let map = with_used(rt.alloc(), 1445, &[209, 415, 621, 827, 1033, 1239])?;
+    let plan = choose(rt.alloc(), &map, &THREE_UNITS)?;
+    assert!(rt; plan.unallocated.len() == 6);
+    let sixth = Run {
+        first: 1034,
+        count: 205,
+    };
+    assert_eq!(rt; plan.unallocated.get(5), sixth);
+    Ok(())
+}
+
+// 1009 units without use, in runs of 1, 2, 3, 4 and 999 units.
+#[test]
+fn up_to_1024_units_all_stay(rt: HostRuntime) -> Result<(), PlanAnswer> {
+    let map = with_used(rt.alloc(), 1017, &[5, 8, 12, 17])?;
+    let plan = choose(rt.alloc(), &map, &THREE_UNITS)?;
+    assert!(rt; plan.unallocated.len() == 5);
+    assert_eq!(rt; plan.unallocated.get(0), Run { first: 4, count: 1 });
+    Ok(())
+}
+
 /// A list of one piece.
 #[derive(Drop)]
 struct OnePiece {
@@ -139,8 +201,12 @@ fn pieces_in_a_list(rt: HostRuntime) {
 }
 
 /// The last chunk of the plan for a volume, and how many there are.
-fn chunks(alloc: Global, map: &Bitmap, need: &Need) -> Result<(usize, Option<Chunk>), PlanAnswer>
-    requires need { IsSmall need.now }
+fn chunks(
+    alloc: Global,
+    map: &Bitmap,
+    need: &Need,
+) -> Result<(usize, Option<PlannedChunk>), PlanAnswer>
+    requires need { IsSmallNeed need.now }
 {
     plans_fit();
     let plan = choose(alloc, map, need)?;
@@ -162,7 +228,7 @@ fn chunks_of_an_empty_volume(rt: HostRuntime) -> Result<(), PlanAnswer> {
     let map = begun(rt.alloc(), 12288, 8212)?;
     let (count, last) = chunks(rt.alloc(), &map, &need)?;
     assert_eq!(rt; count, 4);
-    let wanted = Chunk {
+    let wanted = PlannedChunk {
         start: 9216,
         length: 256,
         role: Role::Data,

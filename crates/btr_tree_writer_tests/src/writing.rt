@@ -4,9 +4,10 @@ ghost use Rattle.btr_tree.specs.Building.{AreSlots};
 
 use btr_item_list::ItemList;
 use btr_keys::Key;
-use btr_reader_walk::{Form, MapRange, Pointer, Tree, TreeWalker};
+use btr_reader_walk::{Form, MapRange, NodePointer, Tree, TreeWalker};
 use btr_tree::{Root, Slots};
 use btr_tree_writer::{ListItems, NodeForm, Trees, WriteAnswer, WrittenTree, write_tree};
+use btrfs_format::block::SUPER_INFO_OFFSET;
 use csum_kinds::SumKind;
 use outside::{Access, BlockSource, Disk, Memory};
 use outside_mem::MemDisk;
@@ -34,6 +35,7 @@ const ALL: [MapRange; 1] = [MapRange {
     logical: 0,
     length: 131072,
     physical: 0,
+    mirror: None,
 }];
 
 fn key(objectid: u64) -> Key {
@@ -72,13 +74,14 @@ fn has_items<S: BlockSource>(
     if root.level > 7 {
         return Ok(false);
     }
+    let fsid = FORM.ids.fsid;
     let tree = Tree {
         form: Form {
-            fsid: FORM.ids.fsid,
+            fsid,
             nodesize: FORM.nodesize,
             sums: FORM.sums,
         },
-        root: Pointer {
+        root: NodePointer {
             address: root.address,
             level: root.level,
             generation: 1,
@@ -125,7 +128,7 @@ fn one_leaf(rt: HostRuntime) -> Result<(), Fail> {
     assert_eq!(rt;
         tree.root,
         Root {
-            address: 65536,
+            address: SUPER_INFO_OFFSET,
             level: 0,
             nodes: 1
         }

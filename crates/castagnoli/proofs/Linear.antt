@@ -1,7 +1,7 @@
 -- Shifts of the register are linear, so the eight of a byte are an entry of a table.
+use Rattle.castagnoli.proofs.Imports.{◌++◌, ◌≡◌, ℕ, zero, suc, ◌+◌, ◌*◌, ◌/◌, ◌%◌, ◌^◌, ◌<◌, ◌≤◌, List, length, take, drop, fold, slice_index, get_or, nat_eq, length-drop, drop-cons, subst, Bool, true, cond, bit_xor, refl, sym, ap, ◌∙◌, arith, polynomial, shifted, shifted_by, after_byte, raw_crc}
 use Rattle.std.proofs.Math.Nat.{mod-eq_of_lt}
 use Rattle.std.proofs.lemmas.List.Sums.{fold-append}
-use Rattle.std.proofs.Common.{◌++◌, ◌≡◌, ℕ, zero, suc, ◌+◌, ◌*◌, ◌/◌, ◌%◌, ◌^◌, ◌<◌, ◌≤◌, List, length, take, drop, fold, slice_index, get_or, nat_eq, length-drop, drop-cons, subst, Bool, true, cond, bit_xor, refl, sym, ap, ◌∙◌, arith}
 use Rattle.std.specs.Int.Bits.{xor_assoc, xor_zero_l, xor_zero_r}
 use Rattle.std.proofs.lemmas.Bool.{eqb-true, agree_below, agree_below_at}
 use Rattle.std.proofs.lemmas.Nat.{xor_comm, xor_lt, xor_shr, xor_mod, xor_block}
@@ -9,7 +9,6 @@ use Rattle.std.proofs.Math.Seq.{take-add}
 use Rattle.std.proofs.lemmas.List.{get_or-drop}
 use Rattle.byteorder.specs.Endian.{little_from}
 use Rattle.vol_block.specs.Volume.{field}
-use Rattle.castagnoli.specs.Castagnoli.{polynomial, shifted, shifted_by, after_byte, raw_crc}
 
 -- what a shift takes off for the bit that leaves the register
 abbrev pub taken : ℕ → ℕ

@@ -3,11 +3,11 @@ use Rattle.std.proofs.Common.{◌≡◌, ◌∙◌, ℕ, ◌≤◌, Result, Ok, 
 use Rattle.std.specs.Result.{IsErrAnd, MatchResult}
 use Rattle.refusals.specs.outside.Fault.{HasCauseOf, Rose}
 use Rattle.refusals.specs.declared.answer.VolAnswer.{VolAnswer}
-use Rattle.refusals.specs.declared.answer.VolAnswer.TheVariants as volume
 use Rattle.refusals.specs.declared.answer.BtrAnswer.{BtrAnswer}
-use Rattle.refusals.specs.declared.answer.BtrAnswer.TheVariants as btrfs
 use Rattle.command_answers.specs.Answers.{of_btrfs, of_volume}
 use Rattle.command_answers.specs.declared.answer.Answer.{Answer}
+use Rattle.refusals.specs.declared.answer.VolAnswer.TheVariants as volume
+use Rattle.refusals.specs.declared.answer.BtrAnswer.TheVariants as btrfs
 use Rattle.command_answers.specs.declared.answer.Answer.TheVariants as answer
 
 -- what holds of an error holds where it was handed on

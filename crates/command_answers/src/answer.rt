@@ -38,6 +38,18 @@ pub enum Answer {
     ReservedUsed {
         block: BlockNo,
     },
+    /// The Btrfs volume is not sound: this part of what a sound volume is does not hold at this address. No command
+    /// answers it yet.
+    #[error("part {part} of a sound volume does not hold at {address}")]
+    NotSound {
+        part: u8,
+        address: u64,
+    },
+    /// The subvolume of the saved image is shared with this tree. No command answers it yet.
+    #[error("the image is shared with tree {tree}")]
+    ImageShared {
+        tree: u64,
+    },
     /// A call of the device failed.
     #[error("device fault")]
     Fault,

@@ -1,15 +1,13 @@
 -- The answers of the steps as those of the conversion.
-use Rattle.std.proofs.Common.{◌≡◌, ◌⊎◌, ℕ, inl, inr, refl, ap, ⊎_elim}
+use Rattle.convert_core.proofs.Imports.{◌≡◌, ◌⊎◌, ℕ, inl, inr, refl, ap, ⊎_elim, IsPrepareAnswer, by_writer}
 use Rattle.reiser_volume.specs.reiser_volume_contents.Answers.{IsFault}
 use Rattle.convert_steps.specs.command_answers.Answers.{of_volume}
-use Rattle.convert_steps.specs.command_answers.declared.answer.Answer.TheVariants as answer
 use Rattle.reiser_volume.specs.refusals.declared.answer.VolAnswer.{VolAnswer}
-use Rattle.reiser_volume.specs.refusals.declared.answer.VolAnswer.TheVariants as vol
 use Rattle.btr_tree_writer.specs.Answers.{IsFailure}
 use Rattle.btr_tree_writer.specs.declared.answer.WriteAnswer.{WriteAnswer}
+use Rattle.convert_steps.specs.command_answers.declared.answer.Answer.TheVariants as answer
+use Rattle.reiser_volume.specs.refusals.declared.answer.VolAnswer.TheVariants as vol
 use Rattle.btr_tree_writer.specs.declared.answer.WriteAnswer.TheVariants as writer
-use Rattle.convert_steps.specs.Prepared.{IsPrepareAnswer}
-use Rattle.convert_core.specs.Answers.{by_writer}
 
 pub fault_of_volume : (a : VolAnswer) → IsFault a → of_volume a ≡ answer.Fault
 fault_of_volume (vol.Refused r) is = absurd is

@@ -1,26 +1,11 @@
 -- What a crash leaves in each phase of a conversion.
-use Rattle.std.proofs.Common.{◌≡◌, ◌≢◌, ◌∙◌, ◌⊎◌, inl, inr, ⊎_elim, ℕ, ◌≤◌, ◌<◌, List, length, refl, sym, ap, subst, arith}
-use Rattle.reiser_volume.specs.vol_block.declared.format.Format.TheVariants.{Btrfs}
-use Rattle.reiser_volume.specs.vol_block.declared.ids.Ids.{Ids}
-use Rattle.reiser_volume.specs.outside.Format.{format_in}
-use Rattle.reiser_volume.specs.outside.History.{Image, History, IsSettled, LeftSince, WritesOnly, block_at, clock, reads}
-use Rattle.reiser_volume.proofs.outside.Crash.{left_each, writes_length, writes_none}
-use Rattle.reiser_volume.proofs.outside.Phases.{left_outside, left_then, left_unwritten, reads_outside}
-use Rattle.unit_plan.specs.btr_node.NodeSize.{IsNodeSize}
-use Rattle.convert_steps.specs.Source.{HasPieces}
-use Rattle.convert_steps.specs.Switch.{HasCopies, IsMirror, IsPart, IsSwitched}
-use Rattle.reiser_volume.specs.reiser_super.declared.superblock.Super.{Super}
-use Rattle.reiser_volume.specs.Volume.{superblock, used_of}
-use Rattle.reiser_volume.proofs.Holding.{used_length}
-use Rattle.convert_options.specs.declared.options.Options.{Options}
-use Rattle.convert_core.specs.Converted.{DiffersInFree, IsBefore, IsConverted, IsConvertible, IsEither, IsFree, IsNew, IsPutDown}
-use Rattle.convert_core.specs.declared.volume.Written.{Written}
+use Rattle.convert_core.proofs.Imports.{◌≡◌, ◌≢◌, ◌∙◌, ◌⊎◌, inl, inr, ⊎_elim, ℕ, ◌≤◌, ◌<◌, ◌+◌, List, length, refl, sym, ap, subst, arith, Btrfs, Ids, format_in, Image, History, IsSettled, LeftSince, WritesOnly, block_at, clock, reads, left_each, writes_length, writes_none, left_outside, left_then, left_unwritten, reads_outside, IsNodeSize, HasPieces, HasCopies, IsMirror, IsSwitchPart, IsSwitched, Super, superblock, used_of, used_length, Options, DiffersInFree, KeepsOldVolume, IsConverted, IsConvertible, IsEither, IsFree, IsNew, IsPutDown, Written, GoesOn, goes_on}
 use Rattle.convert_core.proofs.Putting.{convertible, free_before, node_free, piece_some, used_not_free}
 use Rattle.convert_core.proofs.Reserved.{free_apart, piece_apart, switch_reserved}
 use Rattle.convert_core.proofs.Standing.{InNodes, InPieces, stands_stay}
 
 -- while free blocks alone are written, a crash leaves the old volume
-pub free_crash : (h₀ h₁ : History) → IsSettled h₀ → WritesOnly (λ b _. IsFree (reads h₀) b) h₀ h₁ → (other : Image) → LeftSince (clock h₀) h₁ other → IsBefore (reads h₀) other
+pub free_crash : (h₀ h₁ : History) → IsSettled h₀ → WritesOnly (λ b _. IsFree (reads h₀) b) h₀ h₁ → (other : Image) → LeftSince (clock h₀) h₁ other → KeepsOldVolume (reads h₀) other
 free_crash h₀ h₁ settled only other left =
     let outside = left_outside (λ b. IsFree (reads h₀) b) h₀ h₁ only settled other left in
     record { size = outside.0; used = λ b used. outside.1 b (used_not_free (reads h₀) b used) }
@@ -32,7 +17,7 @@ behind_not_free : (image : Image) (b : ℕ) → (superblock image).blocks ≤ b 
 behind_not_free image b behind free = (let size = used_length image in omega (arith, free.inside, size, behind))
 
 -- nor is one a part of the switch
-behind_no_part : (bytes : List ℕ) (blocks b : ℕ) (written : List ℕ) → 16 < blocks → blocks ≤ b → IsPart bytes blocks b written → ⊥
+behind_no_part : (bytes : List ℕ) (blocks b : ℕ) (written : List ℕ) → 16 < blocks → blocks ≤ b → IsSwitchPart bytes blocks b written → ⊥
 behind_no_part bytes blocks b written some behind part = ⊎_elim (λ is. omega (arith, is.0, some, behind)) (λ copy. omega (arith, copy.within, behind)) part
 
 -- the blocks behind the volume are those that were there
@@ -62,21 +47,21 @@ module _ (o : Options) (ids : Ids) (now : ℕ) (image put : Image) (w : Written)
         (node_free down.m.volume image down.m.options down.m.plan down.m.pieces of (subst (λ (p : Options). IsNodeSize p.nodesize) (sym down.conversion.options_are) size) b at)
 
     -- the superblock over all that was put down is the new volume
-    pub switched_new : (other : Image) → IsSwitched w.superblock.bytes put other → KeepsBehind image other → IsNew o ids now image other down.m down.r down.nodes
+    pub switched_new : (other : Image) → IsSwitched w.superblock.bytes w.blocks put other → KeepsBehind image other → IsNew o ids now image other down.m down.r down.nodes
     switched_new other is behind = record {
       conversion = down.conversion;
       stands =
           stands_stay image put other down.m down.r down.nodes (piece_some down.m.volume image down.m.options down.m.plan down.m.pieces of) is.size
-          (λ b at. is.others b (λ here. piece_elsewhere b at (inl here)) (λ mirror. piece_elsewhere b at (inr mirror)))
-          (λ b at. is.others b (λ here. node_elsewhere b at (inl here)) (λ mirror. node_elsewhere b at (inr mirror)))
+          (λ b at. is.others b (λ here. piece_elsewhere b at (inl here)) (λ mirror. piece_elsewhere b at (inr mirror.0)))
+          (λ b at. is.others b (λ here. node_elsewhere b at (inl here)) (λ mirror. node_elsewhere b at (inr mirror.0)))
           down.stands;
       superblock = is.superblock_is ∙ down.superblock;
-      others = λ b other_block no_mirror outside. is.others b other_block no_mirror ∙ down.others b outside;
+      others = λ b other_block no_mirror outside. is.others b other_block (λ mirror. no_mirror (mirror.0, subst (λ (n : ℕ). b + 1 < n) down.blocks mirror.1)) ∙ down.others b outside;
       behind = λ b low. behind b (subst (λ (s : Super). s.blocks ≤ b) of.opened.sup low);
     }
 
     -- with its copies the volume is converted
-    pub converted : (other : Image) → IsSwitched w.superblock.bytes put other → KeepsBehind image other → HasCopies w.superblock.bytes w.blocks other → IsConverted o ids now image other
+    pub converted : (other : Image) → IsSwitched w.superblock.bytes w.blocks put other → KeepsBehind image other → HasCopies w.superblock.bytes w.blocks other → IsConverted o ids now image other
     converted other is behind copies = record {
       m = down.m;
       r = down.r;
@@ -95,6 +80,9 @@ may_only : (o : Options) (h₀ h₁ : History) → MayWrite o h₀ h₁ → Writ
 may_only o h₀ h₁ may =
     ⊎_elim (λ same. subst (λ (h : History). WritesOnly (λ b _. IsFree (reads h₀) b) h₀ h) (sym same) (writes_none (λ b _. IsFree (reads h₀) b) h₀)) (λ both. both.1) may
 
+pub may_go_on : (o : Options) (h₀ h₁ : History) → MayWrite o h₀ h₁ → GoesOn h₀ h₁
+may_go_on o h₀ h₁ may = goes_on (λ b _. IsFree (reads h₀) b) h₀ h₁ (may_only o h₀ h₁ may)
+
 -- so at any answer only free blocks differ
 pub may_keep : (o : Options) (h₀ h₁ : History) → MayWrite o h₀ h₁ → DiffersInFree (reads h₀) (reads h₁)
 may_keep o h₀ h₁ may = record {
@@ -104,7 +92,7 @@ may_keep o h₀ h₁ may = record {
 
 -- and the switch too writes nothing behind the volume
 pub keeps_behind : (o : Options) (ids : Ids) (now : ℕ) (h₀ h₁ : History) → MayWrite o h₀ h₁ → (w : Written) → IsPutDown o ids now (reads h₀) (reads h₁) w → 16 < w.blocks → (other : Image)
-    → ((b : ℕ) → (block_at other b ≡ block_at (reads h₁) b) ⊎ IsPart w.superblock.bytes w.blocks b (block_at other b)) → KeepsBehind (reads h₀) other
+    → ((b : ℕ) → (block_at other b ≡ block_at (reads h₁) b) ⊎ IsSwitchPart w.superblock.bytes w.blocks b (block_at other b)) → KeepsBehind (reads h₀) other
 keeps_behind o ids now h₀ h₁ may w down some other each b behind =
     let blocks : w.blocks ≡ (superblock (reads h₀)).blocks = down.blocks ∙ ap (λ (s : Super). s.blocks) down.conversion.making.has_pieces.opened.sup in
     let low : w.blocks ≤ b = omega (arith, blocks, behind) in
@@ -119,16 +107,16 @@ module _ (o : Options) (ids : Ids) (now : ℕ) (h₀ h₁ : History) (settled : 
 
   -- and while the superblock and its copies are written
   pub switch_crash : (h₂ : History) (w : Written) → IsNodeSize o.nodesize → IsPutDown o ids now (reads h₀) (reads h₁) w → IsSettled h₁ → 16 < w.blocks
-      → WritesOnly (IsPart w.superblock.bytes w.blocks) h₁ h₂
-      → ((other : Image) → LeftSince (clock h₁) h₂ other → (other ≡ reads h₁) ⊎ IsSwitched w.superblock.bytes (reads h₁) other)
+      → WritesOnly (IsSwitchPart w.superblock.bytes w.blocks) h₁ h₂
+      → ((other : Image) → LeftSince (clock h₁) h₂ other → (other ≡ reads h₁) ⊎ IsSwitched w.superblock.bytes w.blocks (reads h₁) other)
       → (other : Image) → LeftSince (clock h₀) h₂ other → IsEither o ids now (reads h₀) other
   switch_crash h₂ w size down put some only each other left =
-      let P : ℕ → List ℕ → Type 0 = IsPart w.superblock.bytes w.blocks in
+      let P : ℕ → List ℕ → Type 0 = IsSwitchPart w.superblock.bytes w.blocks in
       let can : IsConvertible o (reads h₀) = put_convertible o ids now (reads h₀) (reads h₁) w down in
-      let before : IsBefore (reads h₀) (reads h₁) = free_before (reads h₀) h₀ h₁ refl (may_only o h₀ h₁ may) in
+      let before : KeepsOldVolume (reads h₀) (reads h₁) = free_before (reads h₀) h₀ h₁ refl (may_only o h₀ h₁ may) in
       ⊎_elim (λ early. early_crash other early)
       (λ late. ⊎_elim
-      (λ same. inr (reiser, can, inl (subst (IsBefore (reads h₀)) (sym same) before)))
+      (λ same. inr (reiser, can, inl (subst (KeepsOldVolume (reads h₀)) (sym same) before)))
       (λ is. inr (
         reiser,
         can,

@@ -1,16 +1,8 @@
 -- The answers of a conversion.
-use Rattle.std.proofs.Common.{◌≡◌, ◌≢◌, ◌⊎◌, ℕ, Ok, Err, sym, subst, ⊎_elim, rules}
-use Rattle.std.specs.Prelude.{IfErr, Result}
+use Rattle.convert_core.proofs.Imports.{◌≡◌, ◌≢◌, ◌⊎◌, ℕ, Ok, Err, sym, subst, ⊎_elim, rules, IfErr, Result, Btrfs, format_in, Image, Answer, IsPrepareAnswer, RefusesConversion, Options, IsConvertAnswer, RefusesConvert}
 use Rattle.std.specs.Result.{MatchResult}
 use Rattle.reiser_volume.specs.outside.Fault.{HasCauseOf}
-use Rattle.reiser_volume.specs.vol_block.declared.format.Format.TheVariants.{Btrfs}
-use Rattle.reiser_volume.specs.outside.Format.{format_in}
-use Rattle.reiser_volume.specs.outside.History.{Image}
-use Rattle.convert_steps.specs.command_answers.declared.answer.Answer.{Answer}
 use Rattle.convert_steps.specs.command_answers.declared.answer.Answer.TheVariants as answer
-use Rattle.convert_steps.specs.Prepared.{IsPrepareAnswer, RefusesConversion}
-use Rattle.convert_options.specs.declared.options.Options.{Options}
-use Rattle.convert_core.specs.Answers.{IsConvertAnswer, RefusesConvert}
 
 -- a volume that is not prepared is not converted
 pub refuses : (o : Options) (image : Image) (a : Answer) → format_in image ≢ Btrfs → RefusesConversion image o a → RefusesConvert o image a
@@ -22,6 +14,8 @@ refuses o image answer.ImageMissing reiser is = is
 refuses o image (answer.ImageMoved block) reiser is = is
 refuses o image (answer.ImageDamaged r) reiser is = is
 refuses o image (answer.ReservedUsed block) reiser is = is
+refuses o image (answer.NotSound part address) reiser is = is
+refuses o image (answer.ImageShared tree) reiser is = is
 refuses o image answer.Fault reiser is = tt
 refuses o image answer.Memory reiser is = tt
 
@@ -34,6 +28,8 @@ answers answer.ImageMissing is = is
 answers (answer.ImageMoved block) is = is
 answers (answer.ImageDamaged r) is = is
 answers (answer.ReservedUsed block) is = is
+answers (answer.NotSound part address) is = is
+answers (answer.ImageShared tree) is = is
 answers answer.Fault is = tt
 answers answer.Memory is = tt
 

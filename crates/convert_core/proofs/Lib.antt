@@ -9,6 +9,7 @@ pub use Rattle.unit_plan.proofs as unit_plan
 pub mod Answering
 pub mod Crashing
 pub mod Ending
+pub mod Imports
 pub mod Moving
 pub mod Nodes
 pub mod One

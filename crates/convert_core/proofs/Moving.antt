@@ -1,44 +1,12 @@
 -- The pieces of a volume with a plan: where they lie, and that they can be written.
-use Rattle.std.proofs.Common.{◌≡◌, ◌≢◌, ◌⊎◌, ◌≤◌, ◌<◌, ℕ, ◌+◌, ◌-◌, ◌/◌, ◌^◌, inl, inr, ◌||◌, Bool, true, false, List, [], ◌∷◌, ◌++◌, length, map, filter, take, drop, Option, Some, None, if◌then◌else◌, refl, sym, ap, subst, ◌∙◌, ⊎_elim, arith}
-use Rattle.std.specs.Prelude.{All, Contains, MatchOption}
-use Rattle.std.proofs.lemmas.Bool.{both_ways, cases_eq, or_cases, or_left, or_right}
-use Rattle.std.proofs.lemmas.List.Elements.{All-append, All-cons, All-contains, All-drop, All-head, All-nil, All-tail, All-take, All-weaker}
-use Rattle.std.proofs.lemmas.List.Sorted.{Contains-permutation, IsPermutation-sym}
-use Rattle.indexmap.specs.IndexMap.{keys}
-use Rattle.reiser_volume.proofs.fs_paths.Lists.{from_flat_map, from_map}
-use Rattle.reiser_volume.specs.outside.History.{Image}
-use Rattle.reiser_volume.specs.reiser_bitmap.Bits.{has}
-use Rattle.reiser_volume.specs.reiser_bitmap.Units.{IsFreeUnit}
-use Rattle.reiser_volume.proofs.reiser_bitmap.Ranges.{all_from_contains}
-use Rattle.reiser_volume.specs.reiser_volume_names.Names.{inode_of}
-use Rattle.reiser_volume.specs.reiser_volume_objects.declared.key.ObjectKey.{ObjectKey}
-use Rattle.reiser_volume.specs.Volume.{used_of, volume_items}
-use Rattle.reiser_volume.specs.declared.volume.Volume.{Volume}
-use Rattle.reiser_volume.proofs.Holding.{used_length}
-use Rattle.unit_plan.specs.Choice.{is_among, is_chosen}
-use Rattle.unit_plan.specs.Laws.{AreApart, IsSoundPlan}
-use Rattle.unit_plan.specs.Needed.{need}
-use Rattle.convert_options.specs.declared.options.Options.{Options}
-use Rattle.unit_plan.specs.declared.piece.Piece.{Piece}
-use Rattle.unit_plan.specs.declared.plan.Plan.{Plan}
-use Rattle.unit_plan.proofs.Sound.{plans_sound}
+use Rattle.convert_core.proofs.Imports.{◌≡◌, ◌≢◌, ◌⊎◌, ◌≤◌, ◌<◌, ℕ, ◌+◌, ◌-◌, ◌/◌, ◌^◌, inl, inr, ◌||◌, Bool, true, false, List, [], ◌∷◌, ◌++◌, length, map, filter, take, drop, Option, Some, None, refl, sym, ap, subst, ◌∙◌, ⊎_elim, arith, All, Contains, MatchOption, both_ways, cases_eq, or_cases, or_left, or_right, All-append, All-cons, All-contains, All-drop, All-head, All-nil, All-tail, All-take, All-weaker, Contains-permutation, IsPermutation-sym, keys, from_flat_map, from_map, Image, has, IsFreeUnit, all_from_contains, ObjectKey, used_of, volume_items, Volume, used_length, is_among, is_chosen, AreUnitsApart, IsSoundPlan, need, Options, Piece, Plan, plans_sound, FileAt, file_blocks, file_tails, has_tail, is_file_inline, owner, tails, files_of, CoverUsed, HoldsUsed, IsKeptPiece, LieWell, LiesInUnit, Owners, copied_pieces, kept_pieces, tail_piece, WerePlaced, at_place, at_places, blocks_of_units, all_at, all_map, kept_are_maximal, at_second, at_third, HasPieces, CanMove, HasOwner, IsMovedTo, IsMovedPlace, IsMirror, IsFree, IsTaken}
+use Rattle.std.proofs.Common.{if◌then◌else◌}
+use Rattle.reiser_volume.specs.reiser_volume_names.Names.{ino_of_key}
 use Rattle.unit_plan.proofs.Starts.{among_contains, contains_among}
-use Rattle.extent_pieces.specs.Files.{FileAt, file_blocks, file_tails, has_tail, is_inline, owner, tails}
-use Rattle.extent_pieces.specs.Found.{files_of}
-use Rattle.extent_pieces.specs.Laws.{CoverUsed, HoldsUsed, IsKeptPiece, LieWell, LiesInUnit}
-use Rattle.extent_pieces.specs.Pieces.{Owners, copied_pieces, kept_pieces, tail_piece}
-use Rattle.extent_pieces.specs.Placed.{ArePlaced, at_place, at_places, blocks_of_units}
 use Rattle.extent_pieces.specs.declared.tail.Tail.{Tail}
 use Rattle.extent_pieces.proofs.Apart.{places_are_apart}
 use Rattle.extent_pieces.proofs.Covering.{IsCopied, is_copied_piece, pieces_cover_used}
-use Rattle.extent_pieces.proofs.Lists.{all_at, all_map}
-use Rattle.extent_pieces.proofs.Maximal.{kept_are_maximal}
 use Rattle.extent_pieces.proofs.Once.{IsFileOf, file_of}
-use Rattle.extent_pieces.proofs.Reserving.{at_second, at_third}
-use Rattle.convert_steps.specs.Source.{HasPieces}
-use Rattle.convert_steps.specs.Moved.{CanMove, HasOwner, IsMovedTo, IsPlace}
-use Rattle.convert_steps.specs.Switch.{IsMirror}
-use Rattle.convert_core.specs.Converted.{IsFree, IsTaken}
 use Rattle.convert_core.proofs.One.{ascending_one}
 
 -- ---- what holds of pieces wherever they lie
@@ -50,7 +18,7 @@ module _ (P : Piece → Type 0) (anywhere : (q : Piece) (b : ℕ) → P q → P 
   all_moved (q ∷ old) (b ∷ bs) all = All-cons P (at_place q b) (at_places old bs) (anywhere q b (All-head P q old all)) (all_moved old bs (All-tail P q old all))
 
   -- holds of them once they have their places
-  all_placed : (kept : ℕ) (units : List ℕ) (old new : List Piece) → ArePlaced kept units old new → All P old → All P new
+  all_placed : (kept : ℕ) (units : List ℕ) (old new : List Piece) → WerePlaced kept units old new → All P old → All P new
   all_placed kept units old new are all =
       let there : List Piece = take kept old ++ at_places (drop kept old) (blocks_of_units units) in
       let each : All P there = All-append P (take kept old) (at_places (drop kept old) (blocks_of_units units)) (All-take P kept old all) (all_moved (drop kept old) (blocks_of_units units) (All-drop P kept old all)) in
@@ -93,10 +61,10 @@ mirror_not_free image b is free = free.unreserved b refl (⊎_elim (λ second. a
 
 -- a file that the piece is for has a name
 abbrev IsNamed : List ObjectKey → Piece → Type 0
-IsNamed named q = q.from ≡ None → (key : ObjectKey) × (k : ℕ) × Contains named key × (q.owner ≡ Some (inode_of named key, k))
+IsNamed named q = q.from ≡ None → (key : ObjectKey) × (k : ℕ) × Contains named key × (q.owner ≡ Some (ino_of_key named key, k))
 
 tail_inode : (inline : Bool) (f : FileAt) (t : Tail) → Contains (file_tails inline f) t → f.inode ≡ t.inode
-tail_inode inline f t h = by (is_inline inline f) h
+tail_inode inline f t h = by (is_file_inline inline f) h
   where
     by : (b : Bool) → Contains (if b then [] else map (λ k. record { inode = f.inode; at = k }) (filter (has_tail f) (file_blocks f))) t → f.inode ≡ t.inode
     by true h = absurd (omega (arith, h.1))
@@ -149,7 +117,7 @@ module _ (volume : Volume) (image : Image) (o : Options) (plan : Plan) (pieces :
 
   -- ---- pieces that move
 
-  place_unit : (b : ℕ) → IsPlace pieces b → is_among plan.data_ (b / 256) ≡ true
+  place_unit : (b : ℕ) → IsMovedPlace pieces b → is_among plan.data_ (b / 256) ≡ true
   place_unit b h =
       let q : Piece = h.1 in
       let among : Contains pieces q = (h.0, h.2, h.3) in
@@ -157,10 +125,10 @@ module _ (volume : Volume) (image : Image) (o : Options) (plan : Plan) (pieces :
       subst (λ (n : ℕ). is_among plan.data_ (n / 256) ≡ true) moved.place (all_at (LiesInUnit plan.data_) pieces q well.moved among moved.moved).1
 
   -- the place of a piece that moves is free, and in a unit that the plan takes
-  pub place_free : (b : ℕ) → IsPlace pieces b → IsFree image b
+  pub place_free : (b : ℕ) → IsMovedPlace pieces b → IsFree image b
   place_free b h = data_free b (place_unit b h)
 
-  pub place_taken : (b : ℕ) → IsPlace pieces b → IsTaken plan b
+  pub place_taken : (b : ℕ) → IsMovedPlace pieces b → IsTaken plan b
   place_taken b h = taken_is plan b (inr (inr (place_unit b h)))
 
   -- ---- what pieces hold
@@ -189,7 +157,7 @@ module _ (volume : Volume) (image : Image) (o : Options) (plan : Plan) (pieces :
   tail_named t h none =
       let file = from_flat_map (file_tails o.inline) (files_of image named) t h in
       let is : IsFileOf (volume_items image) named named file.0 = file_of (volume_items image) named named file.0 file.1 in
-      let inode : t.inode ≡ inode_of named is.key = sym (ap (λ (f : FileAt). f.inode) is.is ∙ tail_inode o.inline file.0 t file.2) in
+      let inode : t.inode ≡ ino_of_key named is.key = sym (ap (λ (f : FileAt). f.inode) is.is ∙ tail_inode o.inline file.0 t file.2) in
       (is.key, t.at, is.among, ap (λ (i : ℕ). let w : Option (ℕ × ℕ) = Some (i, t.at) in w) inode)
 
   old_named : All (IsNamed named) old
@@ -214,7 +182,7 @@ module _ (volume : Volume) (image : Image) (o : Options) (plan : Plan) (pieces :
       omega (arith, low)
 
   owner_there : (q : Piece) → Contains pieces q → HasOwner named q
-  owner_there q h none = let found = all_at (IsNamed named) pieces q all_named h none in (found.0, found.1, found.2, found.3, low_block q (inode_of named found.0) found.1 h found.3)
+  owner_there q h none = let found = all_at (IsNamed named) pieces q all_named h none in (found.0, found.1, found.2, found.3, low_block q (ino_of_key named found.0) found.1 h found.3)
 
   -- ---- all of it
 
@@ -240,7 +208,7 @@ module _ (volume : Volume) (image : Image) (o : Options) (plan : Plan) (pieces :
   -- ---- pieces and units of nodes
 
   -- a block of a piece lies in no unit of nodes
-  module _ (units : List ℕ) (free : (b : ℕ) → Contains units (b / 256) → IsFree image b) (other : AreApart units plan.data_) where
+  module _ (units : List ℕ) (free : (b : ℕ) → Contains units (b / 256) → IsFree image b) (other : AreUnitsApart units plan.data_) where
     in_no_unit : (q : Piece) → Contains pieces q → (b : ℕ) → q.place ≤ b → b < q.place + q.count → Contains units (b / 256) → ⊥
     in_no_unit q h b low high in_unit =
         ⊎_elim

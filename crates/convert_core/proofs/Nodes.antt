@@ -1,25 +1,12 @@
 -- What the trees of what was prepared may be written by.
-use Rattle.std.proofs.Common.{◌≤◌, ℕ, ◌+◌, Bool, List, [], ◌∷◌, length, subst, arith}
-use Rattle.std.specs.Prelude.{All}
-use Rattle.std.specs.List.{range_with_len}
+use Rattle.convert_core.proofs.Imports.{◌≤◌, ℕ, ◌+◌, Bool, List, [], ◌∷◌, length, subst, arith, All, range_with_len, All-head, All-tail, free_units, is_free_unit, unit_count, IsSmallNeed, FitsVolume, IsSoundPlan, Need, Piece, plans_sound, HasPlanFor, Prepared, IsWhole}
 use Rattle.std.proofs.lemmas.List.FromFn.{length-range_with_len}
-use Rattle.std.proofs.lemmas.List.Elements.{All-head, All-tail}
 use Rattle.extent_pieces.proofs.Bounding.{filter_few}
-use Rattle.reiser_volume.specs.reiser_bitmap.Units.{free_units, is_free_unit, unit_count}
-use Rattle.unit_plan.specs.Choice.{IsSmall}
-use Rattle.unit_plan.specs.Chunks.{FitsVolume}
-use Rattle.unit_plan.specs.Laws.{IsSoundPlan}
-use Rattle.unit_plan.specs.declared.need.Need.{Need}
-use Rattle.unit_plan.specs.declared.piece.Piece.{Piece}
-use Rattle.unit_plan.proofs.Sound.{plans_sound}
 use Rattle.unit_plan.proofs.Uses.{plans_fit}
-use Rattle.convert_trees.specs.Sources.{end_of}
-use Rattle.convert_steps.specs.Prepared.{HasPlanFor}
-use Rattle.convert_steps.specs.declared.prepared.Prepared.{Prepared}
-use Rattle.convert_core.specs.Whole.{IsWhole}
+use Rattle.convert_trees.specs.Sources.{pieces_end}
 
 -- pieces that lie below a number end there or before
-end_low : (n : ℕ) (pieces : List Piece) → All (λ q. q.place + q.count ≤ n) pieces → end_of pieces ≤ n
+end_low : (n : ℕ) (pieces : List Piece) → All (λ q. q.place + q.count ≤ n) pieces → pieces_end pieces ≤ n
 end_low n [] all = omega arith
 end_low n (p ∷ pieces) all =
     let first = All-head (λ (q : Piece). q.place + q.count ≤ n) p pieces all in
@@ -42,10 +29,10 @@ module _ (p : Prepared) (device : ℕ) (plan : HasPlanFor p) (whole : IsWhole p 
   pub units_sound : (need : Need) × IsSoundPlan p.volume.bitmap need p.plan
   units_sound = (p.need, plans_sound p.volume.bitmap p.need p.plan plan.enough plan.plan)
 
-  pub places_end : end_of p.pieces.items.items ≤ device
+  pub places_end : pieces_end p.pieces.items.items ≤ device
   places_end = let low = end_low p.volume.sup.blocks p.pieces.items.items whole.places in let inside = whole.inside in omega (arith, low, inside)
 
-  pub need_small : IsSmall p.need
+  pub need_small : IsSmallNeed p.need
   need_small =
       let few = free_few p.volume.bitmap in
       let enough = plan.enough.units in

@@ -1,22 +1,12 @@
 -- A volume has one survey.
-use Rattle.std.proofs.Common.{◌≡◌, List, [], ◌∷◌, refl, sym, ◌∙◌, ap, subst, ⊎_elim, arith}
-use Rattle.std.specs.Prelude.{Contains}
-use Rattle.std.specs.List.{AllByRecursion}
+use Rattle.convert_core.proofs.Imports.{◌≡◌, List, [], ◌∷◌, refl, sym, ◌∙◌, ap, subst, ⊎_elim, arith, Contains, AllByRecursion, false≢true, contains_cases, contains_head, contains_tail, ObjectKey, volume_items, Counts, Need, need, counts_of}
 use Rattle.std.specs.List.Sorted.{IsStrictlySortedBy}
 use Rattle.std.specs.Ordering.{is_lt, ordering_reverse}
 use Rattle.std.specs.declared.cmp.Ordering.TheVariants.{Less}
-use Rattle.std.proofs.lemmas.Bool.{false≢true}
-use Rattle.reiser_volume.proofs.reiser_bitmap.Ranges.{contains_cases, contains_head, contains_tail}
 use Rattle.reiser_volume.specs.reiser_volume_names.Links.{object_cmp}
 use Rattle.reiser_volume.proofs.reiser_volume_names.Tabling.{object_total}
 use Rattle.reiser_volume.proofs.reiser_volume_names.Uniqueness.{links_one}
-use Rattle.reiser_volume.specs.reiser_volume_objects.declared.key.ObjectKey.{ObjectKey}
 use Rattle.reiser_volume.specs.reiser_volume_objects.declared.naming.Naming.{Naming}
-use Rattle.reiser_volume.specs.Volume.{volume_items}
-use Rattle.unit_plan.specs.declared.counts.Counts.{Counts}
-use Rattle.unit_plan.specs.declared.need.Need.{Need}
-use Rattle.unit_plan.specs.Needed.{need}
-use Rattle.extent_pieces.specs.Found.{counts_of}
 use Rattle.convert_core.specs.declared.survey.Survey.{Survey}
 use Rattle.convert_core.specs.Laws.{SurveysAreOne}
 

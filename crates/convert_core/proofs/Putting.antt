@@ -1,39 +1,9 @@
 -- All of a new volume is written but its superblock.
-use Rattle.std.proofs.Common.{◌≡◌, ◌∙◌, ◌⊎◌, ℕ, ◌+◌, ◌≤◌, ◌<◌, List, length, refl, sym, ap, subst, ⊎_elim, true≢false}
-use Rattle.std.specs.Prelude.{Contains, true}
-use Rattle.indexmap.specs.IndexMap.{keys}
-use Rattle.reiser_volume.specs.vol_block.declared.ids.Ids.{Ids}
-use Rattle.reiser_volume.specs.outside.History.{Image, History, WritesOnly, block_at, reads}
-use Rattle.reiser_volume.proofs.outside.Crash.{writes_length, writes_weaker}
-use Rattle.reiser_volume.proofs.outside.Phases.{reads_outside}
-use Rattle.unit_plan.specs.btr_node.NodeSize.{IsNodeSize}
+use Rattle.convert_core.proofs.Imports.{◌≡◌, ◌∙◌, ◌⊎◌, ℕ, ◌+◌, ◌≤◌, ◌<◌, List, length, refl, sym, ap, subst, ⊎_elim, true≢false, Contains, keys, Ids, Image, History, WritesOnly, block_at, reads, writes_length, writes_weaker, reads_outside, IsNodeSize, IsInSlots, IsMaking, Making, label_by, label_field, new_ids, HasPieces, AllFit, HasTrees, IsFor, SameVolume, used_bytes, VolumeTrees, HoldMoved, IsMovedPlace, IsPrepared, new_super, Prepared, all_at, has, links_in, used_of, Volume, TreeNode, AreChunks, node_places, PlannedChunk, Options, Piece, Plan, KeepsOldVolume, IsConvertible, IsFree, IsPutDown, IsTaken, StandsConverted, IsSummary, summary_by, Written}
+use Rattle.std.specs.Prelude.{true}
 use Rattle.convert_steps.specs.btr_super.Super.{super_bytes}
-use Rattle.unit_plan.specs.btr_tree.Writing.{IsInSlots}
-use Rattle.convert_steps.specs.Making.{IsMaking, Making, label_by, label_field, new_ids}
-use Rattle.convert_steps.specs.Source.{HasPieces}
-use Rattle.convert_steps.specs.Standing.{AllFit, HasTrees, IsFor, SameVolume, used_bytes}
-use Rattle.convert_steps.specs.declared.trees.VolumeTrees.{VolumeTrees}
-use Rattle.convert_steps.specs.Moved.{HoldMoved, IsPlace}
-use Rattle.convert_steps.specs.Prepared.{IsPrepared}
-use Rattle.convert_steps.specs.Superblock.{new_super}
-use Rattle.convert_steps.specs.declared.prepared.Prepared.{Prepared}
-use Rattle.extent_pieces.proofs.Lists.{all_at}
-use Rattle.reiser_volume.specs.reiser_bitmap.Bits.{has}
-use Rattle.reiser_volume.specs.Opened.{links_in}
-use Rattle.reiser_volume.specs.Volume.{used_of}
-use Rattle.reiser_volume.specs.declared.volume.Volume.{Volume}
 use Rattle.convert_steps.specs.space_items.Laws.{AreIds}
-use Rattle.convert_steps.specs.space_items.declared.node.TreeNode.{TreeNode}
 use Rattle.convert_trees_laws.specs.Bounds.{PlansSuffice}
-use Rattle.unit_plan.specs.Chunks.{AreChunks}
-use Rattle.unit_plan.specs.Places.{node_places}
-use Rattle.unit_plan.specs.declared.chunk.Chunk.{Chunk}
-use Rattle.convert_options.specs.declared.options.Options.{Options}
-use Rattle.unit_plan.specs.declared.piece.Piece.{Piece}
-use Rattle.unit_plan.specs.declared.plan.Plan.{Plan}
-use Rattle.convert_core.specs.Converted.{IsBefore, IsConvertible, IsFree, IsPutDown, IsTaken, StandsOn}
-use Rattle.convert_core.specs.Surveyed.{IsSummary, summary_by}
-use Rattle.convert_core.specs.declared.volume.Written.{Written}
 use Rattle.convert_core.proofs.Moving.{metadata_free, metadata_taken, piece_not_metadata, piece_not_system, place_free, place_taken, system_free, system_taken, well}
 use Rattle.convert_core.proofs.Slots.{slot_unit}
 use Rattle.convert_core.proofs.Standing.{InPieces, other_sums, pieces_stay, sums_stay}
@@ -44,7 +14,7 @@ pub used_not_free : (image : Image) (b : ℕ) → has (used_of image) b ≡ true
 used_not_free image b used free = true≢false (sym used ∙ free.unused b refl)
 
 -- while free blocks alone are written, the old volume stands
-pub free_before : (image : Image) (h₀ h₁ : History) → reads h₀ ≡ image → WritesOnly (λ b _. IsFree image b) h₀ h₁ → IsBefore image (reads h₁)
+pub free_before : (image : Image) (h₀ h₁ : History) → reads h₀ ≡ image → WritesOnly (λ b _. IsFree image b) h₀ h₁ → KeepsOldVolume image (reads h₁)
 free_before image h₀ h₁ is only = record {
   size = writes_length (λ b _. IsFree image b) h₀ h₁ only ∙ ap (λ (i : Image). length i) is;
   used = λ b used. reads_outside (λ b. IsFree image b) h₀ h₁ only b (used_not_free image b used) ∙ ap (λ (i : Image). block_at i b) is;
@@ -71,8 +41,8 @@ module _ (volume : Volume) (image : Image) (o : Options) (plan : Plan) (pieces :
     enough = of.plan_.enough;
   }
 
-  pub places_only : (h₀ h₁ : History) → WritesOnly (λ b _. IsPlace pieces b) h₀ h₁ → WritesOnly (λ b _. IsFree image b) h₀ h₁
-  places_only = writes_weaker (λ b _. IsPlace pieces b) (λ b _. IsFree image b) (λ b _ at. place_free volume image o plan pieces of b at)
+  pub places_only : (h₀ h₁ : History) → WritesOnly (λ b _. IsMovedPlace pieces b) h₀ h₁ → WritesOnly (λ b _. IsFree image b) h₀ h₁
+  places_only = writes_weaker (λ b _. IsMovedPlace pieces b) (λ b _. IsFree image b) (λ b _ at. place_free volume image o plan pieces of b at)
 
   module _ (size : IsNodeSize o.nodesize) where
     pub node_free : (b : ℕ) → InSystem o.nodesize plan b ⊎ InMetadata o.nodesize plan b → IsFree image b
@@ -100,7 +70,7 @@ module _ (volume : Volume) (image : Image) (o : Options) (plan : Plan) (pieces :
 -- ---- what was prepared is written
 
 -- the conversion that was prepared, with these chunks
-abbrev pub made : Options → Ids → ℕ → Prepared → List Chunk → Making
+abbrev pub made : Options → Ids → ℕ → Prepared → List PlannedChunk → Making
 made o ids now p chunks = record {
   volume = p.volume;
   options = o;
@@ -132,7 +102,7 @@ module _ (image : Image) (o : Options) (ids : Ids) (p : Prepared) (is : IsPrepar
     refl,
   )
 
-  module _ (now : ℕ) (chunks : List Chunk) (are : AreChunks p.plan p.volume.sup.blocks chunks) where
+  module _ (now : ℕ) (chunks : List PlannedChunk) (are : AreChunks p.plan p.volume.sup.blocks chunks) where
     pub making : IsMaking image (made o ids now p chunks)
     making = record { has_pieces = is.has_pieces; chunks_are = are }
 
@@ -143,16 +113,16 @@ module _ (image : Image) (o : Options) (ids : Ids) (p : Prepared) (is : IsPrepar
     pub all_fit : PlansSuffice → IsNodeSize o.nodesize → AreIds p.ids → (other : Image) → AllFit image other (made o ids now p chunks)
     all_fit suffice size are_ids other = suffice image other (made o ids now p chunks) making size (subst AreIds is.ids_are are_ids)
 
-    pub same_volume : (h₀ h₁ : History) → reads h₀ ≡ image → WritesOnly (λ b _. IsPlace p.pieces.items.items b) h₀ h₁ → SameVolume image (reads h₁)
+    pub same_volume : (h₀ h₁ : History) → reads h₀ ≡ image → WritesOnly (λ b _. IsMovedPlace p.pieces.items.items b) h₀ h₁ → SameVolume image (reads h₁)
     same_volume h₀ h₁ told only =
         let before = free_before image h₀ h₁ told (places_only p.volume image o p.plan p.pieces.items.items is.has_pieces h₀ h₁ only) in
         record { as_many = before.size; used = before.used }
 
     -- its superblock, by the bytes that all extents have
     abbrev bytes_by : VolumeTrees → Ids → List ℕ → ℕ → List ℕ
-    bytes_by r new label used = super_bytes (new_super new p.volume.sup.blocks o.nodesize label chunks (record { chunk = r.chunk; root = r.root; used = used }))
+    bytes_by r new label used = super_bytes (new_super new p.volume.sup.blocks o.nodesize o.sums label chunks (record { chunk = r.chunk; root = r.root; used = used }))
 
-    module _ (size : IsNodeSize o.nodesize) (h₀ h₁ h₂ h₃ : History) (told : reads h₀ ≡ image) (first : WritesOnly (λ b _. IsPlace p.pieces.items.items b) h₀ h₁)
+    module _ (size : IsNodeSize o.nodesize) (h₀ h₁ h₂ h₃ : History) (told : reads h₀ ≡ image) (first : WritesOnly (λ b _. IsMovedPlace p.pieces.items.items b) h₀ h₁)
         (then : WritesOnly (λ b _. InSystem o.nodesize p.plan b ⊎ InMetadata o.nodesize p.plan b) h₁ h₂) (last : reads h₃ ≡ reads h₂) where
       abbrev m : Making
       m = made o ids now p chunks
@@ -168,11 +138,11 @@ module _ (image : Image) (o : Options) (ids : Ids) (p : Prepared) (is : IsPrepar
           (piece_not_node p.volume image o p.plan p.pieces.items.items of size at.0 at.1 b at.2 at.3)
 
       stand_there : (r : VolumeTrees) (stand : TreesStandFor image (reads h₁) (reads h₂) m r) → HoldMoved p.volume image (reads h₁) p.pieces.items.items
-          → StandsOn image (reads h₃) m r stand.0
+          → StandsConverted image (reads h₃) m r stand.0
       stand_there r stand hold = record {
         size =
             ap (λ (i : Image). length i) last ∙ (writes_length (λ b _. InSystem o.nodesize p.plan b ⊎ InMetadata o.nodesize p.plan b) h₁ h₂ then
-            ∙ (writes_length (λ b _. IsPlace p.pieces.items.items b) h₀ h₁ first ∙ ap (λ (i : Image). length i) told));
+            ∙ (writes_length (λ b _. IsMovedPlace p.pieces.items.items b) h₀ h₁ first ∙ ap (λ (i : Image). length i) told));
         pieces = pieces_stay image (reads h₁) (reads h₃) m (piece_some p.volume image o p.plan p.pieces.items.items of) same_pieces hold;
         trees =
             other_sums image (reads h₁) (reads h₃) (reads h₃) m r stand.0 (sums_stay image (reads h₁) (reads h₃) m same_pieces)
@@ -184,7 +154,7 @@ module _ (image : Image) (o : Options) (ids : Ids) (p : Prepared) (is : IsPrepar
       others b outside =
           ap (λ (i : Image). block_at i b) last
           ∙ (reads_outside (λ b. InSystem o.nodesize p.plan b ⊎ InMetadata o.nodesize p.plan b) h₁ h₂ then b (λ at. outside (node_taken p.volume image o p.plan p.pieces.items.items of size b at))
-          ∙ (reads_outside (λ b. IsPlace p.pieces.items.items b) h₀ h₁ first b (λ at. outside (place_taken p.volume image o p.plan p.pieces.items.items of b at))
+          ∙ (reads_outside (λ b. IsMovedPlace p.pieces.items.items b) h₀ h₁ first b (λ at. outside (place_taken p.volume image o p.plan p.pieces.items.items of b at))
           ∙ ap (λ (i : Image). block_at i b) told))
 
       pub put_down : (w : Written) (r : VolumeTrees) → HoldMoved p.volume image (reads h₁) p.pieces.items.items → TreesStandFor image (reads h₁) (reads h₂) m r

@@ -1,41 +1,15 @@
 -- Pieces lie in no block that Btrfs keeps for itself, and nor do nodes.
-use Rattle.std.proofs.Common.{◌≡◌, ◌≢◌, ◌⊎◌, ◌≤◌, ◌<◌, ℕ, ◌+◌, ◌*◌, ◌/◌, inl, inr, Bool, true, List, [], ◌∷◌, ◌++◌, length, map, take, drop, Some, refl, ap, subst, ◌∙◌, ⊎_elim, arith}
-use Rattle.std.specs.Prelude.{Contains}
-use Rattle.std.specs.List.{range_with_len}
-use Rattle.std.proofs.lemmas.Bool.{both_ways}
-use Rattle.std.proofs.lemmas.List.Elements.{Contains-append_cases}
-use Rattle.std.proofs.lemmas.List.Sorted.{Contains-permutation, IsPermutation-sym}
+use Rattle.convert_core.proofs.Imports.{◌≡◌, ◌≢◌, ◌⊎◌, ◌≤◌, ◌<◌, ℕ, ◌+◌, ◌*◌, ◌/◌, inl, inr, Bool, true, List, [], ◌∷◌, ◌++◌, length, map, take, drop, Some, refl, ap, subst, ◌∙◌, ⊎_elim, arith, Contains, range_with_len, both_ways, Contains-append_cases, Contains-permutation, IsPermutation-sym, FIRST_MIRROR, SECOND_MIRROR, from_flat_map, Image, has, IsFreeUnit, contains_cases, contains_head, contains_tail, range_contains, used_of, Volume, Options, Piece, Plan, owner, tails, files_of, IsKeptPiece, LiesInUnit, Owners, copied_pieces, kept_pieces, tail_piece, at_places, blocks_of_units, all_at, kept_are_maximal, reserved_yes, HasPieces, IsMirror, IsFree}
 use Rattle.std.proofs.Math.Seq.{take-append_seam}
-use Rattle.reiser_volume.proofs.fs_paths.Lists.{from_flat_map}
 use Rattle.reiser_volume.specs.vol_block.Volume.{IsReserved, is_reserved}
-use Rattle.reiser_volume.specs.outside.History.{Image}
-use Rattle.reiser_volume.specs.reiser_bitmap.Bits.{has}
-use Rattle.reiser_volume.specs.reiser_bitmap.Units.{IsFreeUnit}
-use Rattle.reiser_volume.proofs.reiser_bitmap.Ranges.{contains_cases, contains_head, contains_tail, range_contains}
-use Rattle.reiser_volume.specs.Volume.{used_of}
-use Rattle.reiser_volume.specs.declared.volume.Volume.{Volume}
-use Rattle.convert_options.specs.declared.options.Options.{Options}
-use Rattle.unit_plan.specs.declared.piece.Piece.{Piece}
-use Rattle.unit_plan.specs.declared.plan.Plan.{Plan}
-use Rattle.extent_pieces.specs.Files.{owner, tails}
-use Rattle.extent_pieces.specs.Found.{files_of}
-use Rattle.extent_pieces.specs.Laws.{IsKeptPiece, LiesInUnit}
-use Rattle.extent_pieces.specs.Pieces.{Owners, copied_pieces, kept_pieces, tail_piece}
-use Rattle.extent_pieces.specs.Placed.{at_places, blocks_of_units}
 use Rattle.extent_pieces.proofs.Ending.{data_unreserved}
-use Rattle.extent_pieces.proofs.Lists.{all_at}
-use Rattle.extent_pieces.proofs.Maximal.{kept_are_maximal}
-use Rattle.extent_pieces.proofs.Reserving.{reserved_yes}
-use Rattle.convert_steps.specs.Source.{HasPieces}
-use Rattle.convert_steps.specs.Switch.{IsMirror}
-use Rattle.convert_core.specs.Converted.{IsFree}
 use Rattle.convert_core.proofs.Moving.{can_move, sound, stays_or_moves, well}
 
 -- the blocks of the superblock and its copies are reserved
 pub switch_reserved : (n b : ℕ) → (b ≡ 16) ⊎ IsMirror b → IsReserved b n
 switch_reserved n b at =
     ⊎_elim (λ (is : b ≡ 16). inl (omega (arith, is)))
-    (λ mirror. ⊎_elim (λ (is : b ≡ 16384). inr (inl (omega (arith, is), omega (arith, is)))) (λ (is : b ≡ 67108864). inr (inr (inl (omega (arith, is), omega (arith, is))))) mirror) at
+    (λ mirror. ⊎_elim (λ (is : b ≡ FIRST_MIRROR). inr (inl (omega (arith, is), omega (arith, is)))) (λ (is : b ≡ SECOND_MIRROR). inr (inr (inl (omega (arith, is), omega (arith, is))))) mirror) at
 
 -- so they are not free
 pub free_apart : (image : Image) (b : ℕ) → IsFree image b → (b ≡ 16) ⊎ IsMirror b → ⊥

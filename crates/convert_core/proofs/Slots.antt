@@ -1,13 +1,5 @@
 -- The blocks of nodes lie in the units of their slots.
-use Rattle.std.proofs.Common.{◌≡◌, ℕ, ◌+◌, ◌*◌, ◌/◌, ◌^◌, ◌<◌, List, sym, subst, ⊎_elim, arith}
-use Rattle.std.specs.Prelude.{Contains}
-use Rattle.std.specs.List.{range_with_len}
-use Rattle.reiser_volume.proofs.fs_paths.Lists.{from_flat_map, from_map}
-use Rattle.unit_plan.specs.btr_node.NodeSize.{IsNodeSize}
-use Rattle.unit_plan.specs.btr_tree.Writing.{IsInNode, IsInSlots}
-use Rattle.reiser_volume.proofs.reiser_bitmap.Ranges.{range_contains}
-use Rattle.unit_plan.specs.Needed.{nodes_in_unit}
-use Rattle.unit_plan.specs.Places.{node_places, places_in}
+use Rattle.convert_core.proofs.Imports.{◌≡◌, ℕ, ◌+◌, ◌*◌, ◌/◌, ◌^◌, ◌<◌, List, sym, subst, ⊎_elim, arith, Contains, range_with_len, from_flat_map, from_map, IsNodeSize, IsInNode, IsInSlots, range_contains, nodes_in_unit, node_places, places_in}
 
 -- the blocks of each node of a unit lie in the unit
 abbrev StayInUnit : ℕ → Type 0

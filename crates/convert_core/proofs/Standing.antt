@@ -1,26 +1,14 @@
 -- What stands on a disk goes on standing while none of its blocks is written.
-use Rattle.std.proofs.Common.{◌≡◌, ◌∙◌, ◌⊎◌, inl, inr, ℕ, ◌+◌, ◌-◌, ◌^◌, ◌<◌, ◌≤◌, List, [], ◌++◌, length, take, drop, sym, ap, subst, arith, length-drop}
-use Rattle.std.specs.Prelude.{Contains, if◌then◌else◌}
+use Rattle.convert_core.proofs.Imports.{◌≡◌, ◌∙◌, ◌⊎◌, inl, inr, ℕ, ◌+◌, ◌-◌, ◌^◌, ◌<◌, ◌≤◌, List, [], ◌++◌, length, take, drop, sym, ap, subst, arith, length-drop, Contains, if◌then◌else◌, CHUNK_TREE, CONV_IMAGE_SUBVOL, CSUM_TREE, DATA_RELOC_TREE, DEV_TREE, EXTENT_TREE, FS_TREE, ROOT_TREE, Image, block_at, Item, IsInSlots, Making, new_ids, chunk_slots, slots, HasTrees, device_from, extents_from, file_tree_items, form, image_from, image_tree_items, nodes_from, relocation_from, root_from, root_tree_items, sum_tree_items, sums_from, VolumeTrees, HoldMoved, chunk_items, device_items, TreeNode, Piece, StandsConverted}
 use Rattle.std.proofs.lemmas.List.{get_or-drop}
-use Rattle.reiser_volume.specs.outside.History.{Image, block_at}
-use Rattle.unit_plan.specs.btr_node.Leaf.{Item}
 use Rattle.unit_plan.specs.btr_tree.Roots.{lengths_of}
-use Rattle.unit_plan.specs.btr_tree.Writing.{IsInSlots}
 use Rattle.unit_plan.specs.btr_tree.declared.climb.Root.{Root}
-use Rattle.convert_steps.specs.Making.{Making, new_ids, chunk_slots, slots}
-use Rattle.convert_steps.specs.Standing.{HasTrees, device_from, extents_from, file_tree_items, form, image_from, image_tree_items, nodes_from, relocation_from, root_from, root_tree_items, sum_tree_items, sums_from}
-use Rattle.convert_steps.specs.declared.trees.VolumeTrees.{VolumeTrees}
-use Rattle.convert_steps.specs.Moved.{HoldMoved}
 use Rattle.convert_steps.specs.file_items.Small.{relocation_items}
-use Rattle.convert_steps.specs.space_items.Chunks.{chunk_items, device_items}
 use Rattle.convert_steps.specs.space_items.Extents.{extent_items}
 use Rattle.convert_steps.specs.space_items.Nodes.{merged_nodes, nodes_of_tree}
-use Rattle.convert_steps.specs.space_items.declared.node.TreeNode.{TreeNode}
 use Rattle.btr_tree_writer.specs.Trees.{TreeStands}
 use Rattle.btr_tree_writer.proofs.Others.{by_nodes}
 use Rattle.btr_tree_writer.proofs.Pushing.{in_all}
-use Rattle.unit_plan.specs.declared.piece.Piece.{Piece}
-use Rattle.convert_core.specs.Converted.{StandsOn}
 use Rattle.convert_core.proofs.Sums.{sums_same}
 
 -- a block of later slots is one of all
@@ -67,22 +55,22 @@ module _ (image old new : Image) (m : Making) where
       → HasTrees image other old m r nodes → HasTrees image other new m r nodes
   trees_stay other r nodes same has = record {
     chunk =
-        by_nodes old new (form m) 3 (chunk_slots m) (chunk_items (new_ids m) m.volume.sup.blocks m.chunks) r.chunk
+        by_nodes old new (form m) CHUNK_TREE (chunk_slots m) (chunk_items (new_ids m) m.volume.sup.blocks m.chunks) r.chunk
         (λ b h. same b (inl (in_all m.options.nodesize r.chunk.nodes (chunk_slots m) b h))) has.chunk;
     files =
-        by_nodes old new (form m) 5 (slots m) (file_tree_items image m) r.files
+        by_nodes old new (form m) FS_TREE (slots m) (file_tree_items image m) r.files
         (λ b h. same b (inr (in_all m.options.nodesize r.files.nodes (slots m) b h))) has.files;
-    image_ = later_stays 256 (image_from r) (image_tree_items m) r.image same has.image_;
-    relocation = later_stays (2 ^ 64 - 9) (relocation_from r) (relocation_items m.now) r.relocation same has.relocation;
-    sums = later_stays 7 (sums_from r) (sum_tree_items other m) r.sums same has.sums;
-    device = later_stays 4 (device_from r) (device_items (new_ids m) m.chunks) r.device same has.device;
+    image_ = later_stays CONV_IMAGE_SUBVOL (image_from r) (image_tree_items m) r.image same has.image_;
+    relocation = later_stays DATA_RELOC_TREE (relocation_from r) (relocation_items m.now) r.relocation same has.relocation;
+    sums = later_stays CSUM_TREE (sums_from r) (sum_tree_items other m) r.sums same has.sums;
+    device = later_stays DEV_TREE (device_from r) (device_items (new_ids m) m.chunks) r.device same has.device;
     root =
-        by_nodes old new (form m) 1 (take r.root.nodes (drop (root_from r) (slots m))) (root_tree_items m r) r.root
+        by_nodes old new (form m) ROOT_TREE (take r.root.nodes (drop (root_from r) (slots m))) (root_tree_items m r) r.root
         (λ b h. same b (inr (in_later m.options.nodesize (root_from r) (slots m) b
         (in_all m.options.nodesize r.root.nodes (drop (root_from r) (slots m)) b (in_all m.options.nodesize r.root.nodes (take r.root.nodes (drop (root_from r) (slots m))) b h)))))
         has.root;
     nodes_are = has.nodes_are;
-    extents = later_stays 2 (extents_from r) (extent_items m.chunks m.pieces nodes m.options.nodesize) r.extents same has.extents;
+    extents = later_stays EXTENT_TREE (extents_from r) (extent_items m.chunks m.pieces nodes m.options.nodesize) r.extents same has.extents;
   }
 
 -- all nodes, by the items of the tree of checksums
@@ -90,10 +78,10 @@ abbrev nodes_by : Image → Making → VolumeTrees → List TreeNode → List It
 nodes_by image m r nodes sums =
     merged_nodes
     (merged_nodes
-    (nodes_from m 5 0 (file_tree_items image m) ++ (nodes_from m 256 (image_from r) (image_tree_items m) ++ (nodes_from m (2 ^ 64 - 9) (relocation_from r) (relocation_items m.now)
-    ++ (nodes_from m 7 (sums_from r) sums ++ (nodes_from m 4 (device_from r) (device_items (new_ids m) m.chunks) ++ nodes_from m 1 (root_from r) (root_tree_items m r))))))
-    (nodes_of_tree 3 m.options.nodesize (lengths_of (chunk_items (new_ids m) m.volume.sup.blocks m.chunks)) (chunk_slots m)))
-    (nodes_from m 2 (extents_from r) (extent_items m.chunks m.pieces nodes m.options.nodesize))
+    (nodes_from m FS_TREE 0 (file_tree_items image m) ++ (nodes_from m CONV_IMAGE_SUBVOL (image_from r) (image_tree_items m) ++ (nodes_from m DATA_RELOC_TREE (relocation_from r) (relocation_items m.now)
+    ++ (nodes_from m CSUM_TREE (sums_from r) sums ++ (nodes_from m DEV_TREE (device_from r) (device_items (new_ids m) m.chunks) ++ nodes_from m ROOT_TREE (root_from r) (root_tree_items m r))))))
+    (nodes_of_tree CHUNK_TREE m.options.nodesize (lengths_of (chunk_items (new_ids m) m.volume.sup.blocks m.chunks)) (chunk_slots m)))
+    (nodes_from m EXTENT_TREE (extents_from r) (extent_items m.chunks m.pieces nodes m.options.nodesize))
 
 -- the checksums of another disk, where they are the same
 pub other_sums : (image mid third new : Image) (m : Making) (r : VolumeTrees) (nodes : List TreeNode) → sum_tree_items third m ≡ sum_tree_items mid m
@@ -103,7 +91,7 @@ other_sums image mid third new m r nodes same has = record {
   files = has.files;
   image_ = has.image_;
   relocation = has.relocation;
-  sums = subst (λ (items : List Item). TreeStands new (form m) 7 (drop (sums_from r) (slots m)) items r.sums) (sym same) has.sums;
+  sums = subst (λ (items : List Item). TreeStands new (form m) CSUM_TREE (drop (sums_from r) (slots m)) items r.sums) (sym same) has.sums;
   device = has.device;
   root = has.root;
   nodes_are = record { is = has.nodes_are.is ∙ ap (nodes_by image m r nodes) (sym same) };
@@ -113,7 +101,7 @@ other_sums image mid third new m r nodes same has = record {
 -- a converted volume stands on each disk that has the same blocks of pieces and nodes
 pub stands_stay : (image old new : Image) (m : Making) (r : VolumeTrees) (nodes : List TreeNode) → ((p : Piece) → Contains m.pieces p → 1 ≤ p.count) → length new ≡ length old
     → ((b : ℕ) → InPieces m b → block_at new b ≡ block_at old b) → ((b : ℕ) → InNodes m b → block_at new b ≡ block_at old b)
-    → StandsOn image old m r nodes → StandsOn image new m r nodes
+    → StandsConverted image old m r nodes → StandsConverted image new m r nodes
 stands_stay image old new m r nodes some size pieces trees stands = record {
   size = size ∙ stands.size;
   pieces = pieces_stay image old new m some pieces stands.pieces;

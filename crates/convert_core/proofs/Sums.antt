@@ -1,18 +1,13 @@
 -- Checksums are those of the blocks of the pieces alone.
-use Rattle.std.proofs.Common.{◌≡◌, ◌∙◌, ℕ, zero, suc, ◌+◌, ◌-◌, ◌*◌, ◌^◌, ◌<◌, ◌≤◌, min, List, [], ◌∷◌, ◌++◌, map, take, refl, ap, arith}
-use Rattle.std.specs.Prelude.{Contains}
+use Rattle.convert_core.proofs.Imports.{◌≡◌, ◌∙◌, ℕ, zero, suc, ◌+◌, ◌-◌, ◌*◌, ◌^◌, ◌<◌, ◌≤◌, min, List, [], ◌∷◌, ◌++◌, map, take, refl, ap, arith, Contains, flat_map, range_with_len, EXTENT_CSUM_OBJECTID, Image, block_at, Item, contains_head, contains_tail, Piece}
 use Rattle.std.specs.Int.{div_ceil}
-use Rattle.std.specs.List.{flat_map, range_with_len}
 use Rattle.std.proofs.Math.Nat.{min-le_right}
-use Rattle.reiser_volume.specs.outside.History.{Image, block_at}
+use Rattle.btrfs_format.specs.declared.key.TheConstants.{EXTENT_CSUM}
 use Rattle.unit_plan.specs.btr_keys.Key.{make_key}
-use Rattle.unit_plan.specs.btr_node.Leaf.{Item}
 use Rattle.unit_plan.specs.csum_kinds.Kind.{kind_sum, kind_width}
 use Rattle.unit_plan.specs.csum_kinds.declared.kind.SumKind.{SumKind}
-use Rattle.reiser_volume.proofs.reiser_bitmap.Ranges.{contains_head, contains_tail}
 use Rattle.convert_steps.specs.space_items.Sums.{block_sum, run_items, sum_items, sums_item}
 use Rattle.unit_plan.specs.Sums.{sums_in_item}
-use Rattle.unit_plan.specs.declared.piece.Piece.{Piece}
 
 map_same : {X : Type 0} (f g : ℕ → X) (a n : ℕ) → ((k : ℕ) → a ≤ k → k < a + n → g k ≡ f k) → map g (range_with_len a n) ≡ map f (range_with_len a n)
 map_same f g a zero same = refl
@@ -36,7 +31,7 @@ module _ (sums : SumKind) (image other : Image) where
 
   item_same : (first count : ℕ) → Same first count → sums_item sums other first count ≡ sums_item sums image first count
   item_same first count same =
-      ap (λ (body : List ℕ). (make_key (2 ^ 64 - 10) 128 (4096 * first), body))
+      ap (λ (body : List ℕ). (make_key EXTENT_CSUM_OBJECTID EXTENT_CSUM (4096 * first), body))
       (flat_same (block_sum sums image) (block_sum sums other) first count (λ b low high. ap (λ (bytes : List ℕ). take (kind_width sums) (kind_sum sums bytes)) (same b low high)))
 
   run_same : (first count : ℕ) → Same first count → run_items sums other first count ≡ run_items sums image first count

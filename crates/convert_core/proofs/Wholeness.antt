@@ -1,28 +1,8 @@
 -- What was prepared of a volume is whole.
-use Rattle.std.proofs.Common.{◌≡◌, ◌≤◌, ◌<◌, ℕ, ◌+◌, ◌^◌, List, length, get_or, Option, Some, None, sym, ap, subst, ◌∙◌, ⊎_elim, arith}
-use Rattle.std.specs.Prelude.{All, AllPairs, MatchOption}
-use Rattle.std.proofs.lemmas.Bool.{cases_lt}
-use Rattle.reiser_volume.specs.outside.History.{Image, block_at}
-use Rattle.unit_plan.specs.btr_node.NodeSize.{IsNodeSize}
+use Rattle.convert_core.proofs.Imports.{◌≡◌, ◌≤◌, ◌<◌, ℕ, ◌+◌, ◌^◌, List, length, get_or, Option, Some, None, sym, ap, subst, ◌∙◌, ⊎_elim, arith, All, AllPairs, MatchOption, cases_lt, SUPER_BLOCK, Image, block_at, IsNodeSize, Super, superblock, used_of, Volume, used_length, system_few, need, Counts, Need, Options, Piece, Plan, Ids, HasPieces, IsPrepared, Prepared, IsWhole}
 use Rattle.reiser_volume.specs.reiser_super.Rules.{IsCleanSuper}
-use Rattle.reiser_volume.specs.reiser_super.declared.superblock.Super.{Super}
-use Rattle.reiser_volume.specs.Volume.{superblock, used_of}
-use Rattle.reiser_volume.specs.declared.volume.Volume.{Volume}
-use Rattle.reiser_volume.proofs.Holding.{used_length}
 use Rattle.convert_steps.specs.space_items.Stream.{ArePieces, IsSmallPiece}
-use Rattle.convert_trees_laws.proofs.Booting.{system_few}
-use Rattle.unit_plan.specs.Needed.{need}
 use Rattle.unit_plan.specs.Pieces.{ArePlaced}
-use Rattle.unit_plan.specs.declared.counts.Counts.{Counts}
-use Rattle.unit_plan.specs.declared.need.Need.{Need}
-use Rattle.convert_options.specs.declared.options.Options.{Options}
-use Rattle.unit_plan.specs.declared.piece.Piece.{Piece}
-use Rattle.unit_plan.specs.declared.plan.Plan.{Plan}
-use Rattle.reiser_volume.specs.vol_block.declared.ids.Ids.{Ids}
-use Rattle.convert_steps.specs.Source.{HasPieces}
-use Rattle.convert_steps.specs.Prepared.{IsPrepared}
-use Rattle.convert_steps.specs.declared.prepared.Prepared.{Prepared}
-use Rattle.convert_core.specs.Whole.{IsWhole}
 use Rattle.convert_core.proofs.Moving.{well}
 
 -- ---- pieces that are looked at one after the other
@@ -108,7 +88,7 @@ module _ (volume : Volume) (image : Image) (o : Options) (plan : Plan) (pieces :
   pub map_long : length volume.bitmap ≡ volume.sup.blocks
   map_long = ap length of.opened.bitmap ∙ (used_length image ∙ sym blocks_are)
 
-  clean : IsCleanSuper (block_at image 16) (length image)
+  clean : IsCleanSuper (block_at image SUPER_BLOCK) (length image)
   clean = of.accepted.clean.superblock
 
   pub blocks_some : 16 < volume.sup.blocks

@@ -23,6 +23,8 @@ RefusesConvert o image answer.ImageMissing = ⊥
 RefusesConvert o image (answer.ImageMoved block) = ⊥
 RefusesConvert o image (answer.ImageDamaged r) = ⊥
 RefusesConvert o image (answer.ReservedUsed block) = ⊥
+RefusesConvert o image (answer.NotSound part address) = ⊥
+RefusesConvert o image (answer.ImageShared tree) = ⊥
 RefusesConvert o image answer.Fault = Unit {0}
 RefusesConvert o image answer.Memory = Unit {0}
 
@@ -36,6 +38,8 @@ IsConvertAnswer answer.ImageMissing = ⊥
 IsConvertAnswer (answer.ImageMoved block) = ⊥
 IsConvertAnswer (answer.ImageDamaged r) = ⊥
 IsConvertAnswer (answer.ReservedUsed block) = ⊥
+IsConvertAnswer (answer.NotSound part address) = ⊥
+IsConvertAnswer (answer.ImageShared tree) = ⊥
 IsConvertAnswer answer.Fault = Unit {0}
 IsConvertAnswer answer.Memory = Unit {0}
 

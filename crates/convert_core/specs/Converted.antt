@@ -1,5 +1,6 @@
 -- The disk before, while and after a volume is converted.
 use Rattle.std.specs.Prelude.{◌≡◌, ◌≢◌, ◌≤◌, ◌⊎◌, ℕ, ◌/◌, true, List, length}
+use Rattle.btrfs_format.specs.declared.block.TheConstants.{SUPER_BLOCK}
 use Rattle.reiser_volume.specs.outside.Format.{format_in}
 use Rattle.reiser_volume.specs.outside.History.{Image, block_at}
 use Rattle.reiser_volume.specs.vol_block.declared.format.Format.TheVariants.{Btrfs}
@@ -10,7 +11,7 @@ use Rattle.convert_steps.specs.Standing.{HasTrees, used_bytes}
 use Rattle.convert_steps.specs.declared.trees.VolumeTrees.{VolumeTrees}
 use Rattle.convert_steps.specs.Moved.{HoldMoved}
 use Rattle.convert_steps.specs.Superblock.{new_super}
-use Rattle.convert_steps.specs.Switch.{HasCopies, IsMirror}
+use Rattle.convert_steps.specs.Switch.{HasCopies, IsMirrorOf}
 use Rattle.extent_pieces.specs.Found.{IsFound}
 use Rattle.extent_pieces.specs.Laws.{AreSortedKeys}
 use Rattle.extent_pieces.specs.declared.pieces.Pieces.{Pieces}
@@ -44,7 +45,7 @@ pub record IsConvertible (o : Options) (image : Image) : Type 0 where
 -- ---- the old volume
 
 -- The old volume still stands: no used block differs.
-pub record IsBefore (image other : Image) : Type 0 where
+pub record KeepsOldVolume (image other : Image) : Type 0 where
   pub size : length other ≡ length image
   pub used : SameUsed (used_of image) image other
 
@@ -74,11 +75,11 @@ IsTaken plan b = is_chosen plan.system plan.metadata plan.data_ (b / 256) ≡ tr
 abbrev pub superblock_of : Making → VolumeTrees → List TreeNode → List ℕ
 superblock_of m r nodes =
     super_bytes
-    (new_super (new_ids m) m.volume.sup.blocks m.options.nodesize (label_field (label_by m.volume.sup m.options.label)) m.chunks
+    (new_super (new_ids m) m.volume.sup.blocks m.options.nodesize m.options.sums (label_field (label_by m.volume.sup m.options.label)) m.chunks
     (record { chunk = r.chunk; root = r.root; used = used_bytes m nodes }))
 
 -- Its trees stand, and each piece of data holds what it is to hold: blocks of the old volume, or bytes of direct items.
-pub record StandsOn (image other : Image) (m : Making) (r : VolumeTrees) (nodes : List TreeNode) : Type 0 where
+pub record StandsConverted (image other : Image) (m : Making) (r : VolumeTrees) (nodes : List TreeNode) : Type 0 where
   pub size : length other ≡ length image
   pub pieces : HoldMoved m.volume image other m.pieces
   pub trees : HasTrees image other other m r nodes
@@ -89,7 +90,7 @@ pub record IsPutDown (o : Options) (ids : Ids) (now : ℕ) (image other : Image)
   pub r : VolumeTrees
   pub nodes : List TreeNode
   pub conversion : IsConversion o ids now image m
-  pub stands : StandsOn image other m r nodes
+  pub stands : StandsConverted image other m r nodes
   pub others : (b : ℕ) → ¬ IsTaken m.plan b → block_at other b ≡ block_at image b
   pub superblock : w.superblock.bytes ≡ superblock_of m r nodes
   pub blocks : w.blocks ≡ m.volume.sup.blocks
@@ -98,9 +99,9 @@ pub record IsPutDown (o : Options) (ids : Ids) (now : ℕ) (image other : Image)
 -- The new volume: block 16 is its superblock. The blocks of the superblock's copies may hold anything, where the volume has them.
 pub record IsNew (o : Options) (ids : Ids) (now : ℕ) (image other : Image) (m : Making) (r : VolumeTrees) (nodes : List TreeNode) : Type 0 where
   pub conversion : IsConversion o ids now image m
-  pub stands : StandsOn image other m r nodes
-  pub superblock : block_at other 16 ≡ superblock_of m r nodes
-  pub others : (b : ℕ) → b ≢ 16 → ¬ IsMirror b → ¬ IsTaken m.plan b → block_at other b ≡ block_at image b
+  pub stands : StandsConverted image other m r nodes
+  pub superblock : block_at other SUPER_BLOCK ≡ superblock_of m r nodes
+  pub others : (b : ℕ) → b ≢ 16 → ¬ IsMirrorOf m.volume.sup.blocks b → ¬ IsTaken m.plan b → block_at other b ≡ block_at image b
   -- what lies behind the volume is as it was
   pub behind : (b : ℕ) → m.volume.sup.blocks ≤ b → block_at other b ≡ block_at image b
 
@@ -121,4 +122,4 @@ IsSomeNew o ids now image other = (m : Making) × (r : VolumeTrees) × (nodes : 
 -- The disk as it was; or, of a volume that can be converted, the old volume or the new one.
 abbrev pub IsEither : Options → Ids → ℕ → Image → Image → Type 0
 IsEither o ids now image other =
-    (other ≡ image) ⊎ ((format_in image ≢ Btrfs) × IsConvertible o image × (IsBefore image other ⊎ IsSomeNew o ids now image other))
+    (other ≡ image) ⊎ ((format_in image ≢ Btrfs) × IsConvertible o image × (KeepsOldVolume image other ⊎ IsSomeNew o ids now image other))

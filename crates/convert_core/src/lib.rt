@@ -1,7 +1,7 @@
 //! The conversion of a ReiserFS volume to Btrfs.
 //!
-//! [`convert`] converts a volume in place. [`Survey::read`] says what a conversion would count and need, and [`Survey::of`]
-//! says it of a volume that is open already.
+//! [`convert`] syncs a disk and converts its volume in place. [`Survey::read`] says what a conversion would count and need,
+//! and [`Survey::of`] says it of a volume that is open already.
 #![tactic(auto)]
 
 mod answers;
@@ -12,7 +12,7 @@ mod survey;
 mod volume;
 mod whole;
 
-pub use convert_steps::{Answer, Found, find_format};
+pub use convert_steps::{Answer, FormatFound, find_format};
 pub use in_place::convert;
 pub use laws::surveys_are_one;
 pub use summary::ConvertSummary;

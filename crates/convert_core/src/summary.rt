@@ -1,5 +1,5 @@
 ghost use Rattle.std.specs.Prelude.{◌≡◌};
-ghost use Rattle.unit_plan.specs.Choice.{IsSmall};
+ghost use Rattle.unit_plan.specs.Choice.{IsSmallNeed};
 ghost use Rattle.convert_core.specs.Surveyed.{summary_by};
 
 use unit_plan::{Counts, Need};
@@ -21,7 +21,7 @@ pub struct ConvertSummary {
 
 /// The summary of a conversion with these counts, which needed this space.
 pub fn summary_of(counts: &Counts, need: &Need) -> ConvertSummary
-    requires { IsSmall need.now }
+    requires { IsSmallNeed need.now }
     ensures { result ≡ summary_by counts.now need.now }
 {
     ConvertSummary {

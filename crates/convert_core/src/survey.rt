@@ -8,7 +8,7 @@ ghost use Rattle.reiser_volume.specs.Answers.{RefusesVolume};
 ghost use Rattle.reiser_volume.specs.Reading.{IsReadingAnswer};
 ghost use Rattle.reiser_volume.specs.Opened.{IsOpened};
 ghost use Rattle.reiser_volume.specs.Volume.{IsAccepted};
-ghost use Rattle.unit_plan.specs.Choice.{IsSmall};
+ghost use Rattle.unit_plan.specs.Choice.{IsSmallNeed};
 ghost use Rattle.convert_core.specs.Surveyed.{IsSurvey};
 
 use convert_options::Options;
@@ -40,7 +40,7 @@ impl Survey {
         ensures kept { S.kept src.old src.new }
         ensures cause { HasCauseOf VolAnswer.Fault (S.faults src.old) (S.faults src.new) result }
         ensures answers { IfErr result IsFileAnswer }
-        ensures small { IfOk result (λ s. IsSmall s.need) }
+        ensures small { IfOk result (λ s. IsSmallNeed s.need) }
         ensures told { OverTold S.tells (S.blocks src.old) (λ image. IsAccepted image → IsOpened volume.now image →
             MatchResult result (IsSurvey options.now image) IsFaultOrMemory) }
     {
@@ -63,7 +63,7 @@ impl Survey {
         ensures kept { S.kept src.old src.new }
         ensures cause { HasCauseOf VolAnswer.Fault (S.faults src.old) (S.faults src.new) result }
         ensures answers { IfErr result IsReadingAnswer }
-        ensures small { IfOk result (λ s. IsSmall s.need) }
+        ensures small { IfOk result (λ s. IsSmallNeed s.need) }
         ensures told { OverTold S.tells (S.blocks src.old) (λ image.
             MatchResult result (λ s. IsAccepted image × IsSurvey options.now image s) (RefusesVolume image)) }
     {

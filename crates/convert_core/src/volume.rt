@@ -14,7 +14,7 @@ ghost use Rattle.convert_steps.specs.space_items.Laws.{AreIds};
 ghost use Rattle.convert_steps.specs.space_items.declared.node.TreeNode.{TreeNode as NodeOf};
 ghost use Rattle.unit_plan.specs.Chunks.{AreChunks};
 ghost use Rattle.unit_plan.specs.Places.{node_places};
-ghost use Rattle.unit_plan.specs.declared.chunk.Chunk.{Chunk as ChunkOf};
+ghost use Rattle.unit_plan.specs.declared.chunk.PlannedChunk.{PlannedChunk as PlannedChunkOf};
 ghost use Rattle.reiser_volume.specs.vol_block.declared.ids.Ids.{Ids as IdsOf};
 ghost use Rattle.convert_core.specs.Converted.{IsConvertible, IsFree, IsPutDown};
 ghost use Rattle.convert_core.specs.Whole.{IsWhole};
@@ -169,8 +169,8 @@ fn superblock_of(
 ) -> Result<Block, Answer>
     requires plan { HasPlanFor prepared.now }
     requires whole { (device : ℕ) × IsWhole prepared.now device }
-    ensures bytes { (chunks : List ChunkOf) → AreChunks prepared.now.plan prepared.now.volume.sup.blocks chunks → IfOk result (λ block. block.bytes
-        ≡ super_bytes (new_super prepared.now.ids prepared.now.volume.sup.blocks options.now.nodesize prepared.now.label chunks (record { chunk = trees.now.chunk; root = trees.now.root; used = trees.now.used }))) }
+    ensures bytes { (chunks : List PlannedChunkOf) → AreChunks prepared.now.plan prepared.now.volume.sup.blocks chunks → IfOk result (λ block. block.bytes
+        ≡ super_bytes (new_super prepared.now.ids prepared.now.volume.sup.blocks options.now.nodesize options.now.sums prepared.now.label chunks (record { chunk = trees.now.chunk; root = trees.now.root; used = trees.now.used }))) }
     ensures answers { IfErr result (λ e. e ≡ Answer.Memory) }
 {
     know_ids(prepared.ids);
@@ -185,7 +185,7 @@ fn superblock_of(
         prepared.volume.sup().blocks,
         &prepared.ids,
         prepared.label,
-        options.nodesize,
+        options,
         &roots,
     )?)
 }

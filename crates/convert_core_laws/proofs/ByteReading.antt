@@ -1,15 +1,7 @@
 -- The bytes that extents give.
-use Rattle.std.proofs.Common.{◌≡◌, ◌<◌, ℕ, ◌-◌, ◌*◌, ◌^◌, Bool, true, false, cond, List, [], ◌∷◌, length, map, filter, Option, Some, None, refl, ap, ◌∙◌, if◌then◌else◌, arith}
-use Rattle.std.specs.List.{AllByRecursion}
-use Rattle.reiser_volume.specs.outside.History.{Image}
-use Rattle.btr_reader.specs.btr_reader_contents.Extents.{byte_from, content_byte, covers, extents_of, file_byte, is_extent_key, is_extent_of}
-use Rattle.btr_reader.specs.btr_keys.FileExtent.{FileExtentValue, disk_range_layout, file_extent_bytes, file_extent_head, file_extent_of}
-use Rattle.btr_reader.proofs.btr_keys.Records.{file_extents_read_back}
-use Rattle.btr_reader.specs.btr_node.Leaf.{Item}
-use Rattle.btr_reader.specs.btr_reader_walk.Events.{TreeItem}
-use Rattle.btr_reader.specs.btr_reader_walk.Tree.{bare_item}
-use Rattle.btr_reader.specs.btr_reader_walk.declared.map.MapRange.{MapRange}
-use Rattle.convert_core.specs.btr_item_list.Extents.{inline_extent, regular_extent}
+use Rattle.convert_core_laws.proofs.Imports.{◌≡◌, ◌<◌, ℕ, ◌-◌, ◌*◌, ◌^◌, Bool, true, false, cond, List, [], ◌∷◌, length, map, filter, Option, Some, None, refl, ap, ◌∙◌, arith, AllByRecursion, Image, byte_from, content_byte, covers, extents_of, is_extent_key, is_extent_of, FileExtentValue, disk_range_layout, file_extent_bytes, file_extent_head, file_extent_of, file_extents_read_back, Item, TreeItem, bare_item, MapRange, inline_extent, regular_extent}
+use Rattle.std.proofs.Common.{if◌then◌else◌}
+use Rattle.btr_reader.specs.btr_reader_contents.Extents.{file_byte}
 
 -- an item is an extent of an inode
 abbrev pub is_extent : ℕ → Item → Bool

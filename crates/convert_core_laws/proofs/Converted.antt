@@ -1,12 +1,5 @@
 -- The bytes of files on a converted volume.
-use Rattle.std.proofs.Common.{◌≡◌, List, [], subst, arith}
-use Rattle.std.specs.Prelude.{Contains}
-use Rattle.reiser_volume.specs.refusals.declared.refusal.BtrRefusal.{BtrRefusal}
-use Rattle.convert_core_laws.specs.Converted.{ConvertedFilesAreRead}
-use Rattle.convert_core_laws.specs.Kept.{MapsPieces}
-use Rattle.convert_core_laws.specs.Mapped.{ChunksMapPieces}
-use Rattle.convert_core_laws.specs.Read.{BytesAreRead}
-use Rattle.convert_core_laws.specs.Sound.{ExtentsKeepRules}
+use Rattle.convert_core_laws.proofs.Imports.{◌≡◌, List, [], subst, arith, Contains, BtrRefusal, ConvertedFilesAreRead, MapsPieces, ChunksMapPieces, BytesAreRead, ExtentsKeepRules}
 
 none_in : (refusals : List BtrRefusal) (r : BtrRefusal) → refusals ≡ [] → Contains refusals r → ⊥
 none_in refusals r is h = let none : Contains [] r = subst (λ (l : List BtrRefusal). Contains l r) is h in absurd (omega (arith, none.1))

@@ -1,39 +1,14 @@
 -- What the ReiserFS volume has for a file or a symlink, by where its blocks lie.
-use Rattle.std.proofs.Common.{◌≡◌, ◌≤◌, ◌<◌, ℕ, ◌+◌, ◌-◌, ◌*◌, ◌/◌, ◌%◌, ◌^◌, ◌&&◌, nat_le, Bool, true, false, List, ◌++◌, length, get_or, take, All, Option, Some, None, refl, sym, ap, subst, ◌∙◌, ⊎_elim, true≢false, arith}
-use Rattle.std.proofs.lemmas.Bool.{and_parts, cases_lt, false≢true, leb-true}
-use Rattle.std.proofs.lemmas.List.{get_or_append_left, get_or-append_right, get_or_past, get_or-replicate, get_or-take, length-take}
-use Rattle.std.proofs.lemmas.List.Elements.{All-contains}
-use Rattle.reiser_volume.specs.outside.History.{Image}
-use Rattle.reiser_volume.specs.vol_block.Volume.{zeros}
-use Rattle.reiser_volume.specs.fs_rows.Kinds.{has_bytes}
-use Rattle.reiser_volume.specs.fs_rows.declared.row.Kind.{Kind}
-use Rattle.reiser_volume.specs.fs_rows.declared.row.Kind.TheVariants.{Directory, File, Symlink, Character, Block, Fifo, Socket, Subvolume}
+use Rattle.convert_core_laws.proofs.Imports.{◌≡◌, ◌≤◌, ◌<◌, ℕ, ◌+◌, ◌-◌, ◌*◌, ◌/◌, ◌%◌, ◌^◌, ◌&&◌, nat_le, Bool, true, false, List, ◌++◌, length, get_or, take, Option, Some, None, refl, sym, ap, subst, ◌∙◌, ⊎_elim, true≢false, arith, and_parts, cases_lt, false≢true, le-ltb, leb-true, get_or_append_left, get_or-append_right, get_or_past, get_or-replicate, get_or-take, length-take, All-contains, Image, zeros, has_bytes, Kind, Directory, File, Symlink, Character, Block, Fifo, Socket, Subvolume, byte_at, from_filter, ReiserItem, RunFrom, Disk, Tail, IsAligned, content, file_byte, file_bytes, named_block, tail_block, target_bytes, IsNoIndirect, held_from, up_to_size, block_from, disk_or_hole, is_held, ObjectKey, ObjectStat, items_of, object_key_of, same_key, fits_size, may_have, IsNamed, IsObject, kind_there, stat_there, stays_in_tree, is_tail, kind_by, stat_at, IsAccepted, superblock, reiser_tree_of, used_of, volume_items, used_length}
+use Rattle.std.proofs.Common.{All, if◌then◌else◌}
+use Rattle.reiser_volume.specs.reiser_volume_files.Bytes.{file_block}
 use Rattle.reiser_volume.proofs.fs_rows.FileMarks.{below_size, short_is}
-use Rattle.reiser_volume.proofs.fs_rows.Functions.{byte_at}
-use Rattle.reiser_volume.proofs.fs_paths.Lists.{from_filter}
 use Rattle.reiser_volume.specs.reiser_node.declared.head.ItemKind.TheVariants.{Indirect}
-use Rattle.reiser_volume.specs.reiser_walk.Items.{Item}
 use Rattle.reiser_volume.specs.reiser_walk.Laws.{FitsHead}
-use Rattle.reiser_volume.specs.reiser_walk.Tree.{items_of as items_of_tree}
+use Rattle.reiser_volume.specs.reiser_walk.Tree.{items_of_tree}
 use Rattle.reiser_volume.proofs.reiser_walk.Rules.{sound_exactly}
-use Rattle.reiser_volume.specs.reiser_volume_files.declared.map.RunFrom.{RunFrom}
-use Rattle.reiser_volume.specs.reiser_volume_files.declared.map.RunFrom.TheVariants.{Disk, Tail}
-use Rattle.reiser_volume.specs.reiser_volume_files.Bytes.{IsAligned, content, file_block, file_byte, file_bytes, tail_block, target_bytes}
-use Rattle.reiser_volume.specs.reiser_volume_files.Laws.{IsNoIndirect, held_from, up_to_size}
-use Rattle.reiser_volume.specs.reiser_volume_files.Runs.{block_from}
 use Rattle.reiser_volume.proofs.reiser_volume_files.Sorts.{blocks_held, target_is}
 use Rattle.reiser_volume.proofs.reiser_volume_contents.Files.{aligned_by}
-use Rattle.reiser_volume.specs.reiser_volume_objects.declared.key.ObjectKey.{ObjectKey}
-use Rattle.reiser_volume.specs.reiser_volume_objects.declared.stat.ObjectStat.{ObjectStat}
-use Rattle.reiser_volume.specs.reiser_volume_objects.Keys.{items_of, key_of, same_key}
-use Rattle.reiser_volume.specs.reiser_volume_objects.Kinds.{fits_size, may_have}
-use Rattle.reiser_volume.specs.reiser_volume_objects.Names.{IsNamed}
-use Rattle.reiser_volume.specs.reiser_volume_objects.Rules.{IsObject}
-use Rattle.convert_core.proofs.extent_pieces.Once.{kind_there, stat_there}
-use Rattle.reiser_volume.specs.Inline.{is_inline, is_tail}
-use Rattle.reiser_volume.specs.Made.{kind_by, stat_at}
-use Rattle.reiser_volume.specs.Volume.{IsAccepted, superblock, tree_of, used_of, volume_items}
-use Rattle.reiser_volume.proofs.Holding.{used_length}
 use Rattle.reiser_volume.proofs.Leading.{all_of, fits_each}
 use Rattle.reiser_volume.proofs.SameRows.{none_saves}
 
@@ -50,7 +25,7 @@ up_to_byte bytes size k j inside below =
     (cases_lt j (length (take cut bytes)))
 
 module _ (image : Image) (a : IsAccepted image) (key : ObjectKey) (named : IsNamed (volume_items image) key) where
-  abbrev items : List Item
+  abbrev items : List ReiserItem
   items = items_of key (volume_items image)
 
   abbrev object : IsObject (volume_items image) key
@@ -67,10 +42,10 @@ module _ (image : Image) (a : IsAccepted image) (key : ObjectKey) (named : IsNam
 
   aligned : All IsAligned items
   aligned = all_of IsAligned items (λ i among.
-      let whole = (from_filter (λ (j : Item). same_key (key_of j.head) key) (volume_items image) i among).0 in
-      let bodies : All (λ (j : Item). FitsHead j.head j.body) (volume_items image) =
-      subst (λ (n : ℕ). All (λ (j : Item). FitsHead j.head j.body) (items_of_tree (tree_of (superblock image)) image n)) (used_length image) ((sound_exactly (tree_of (superblock image)) image (used_of image)).0 a.tree).bodies in
-      let fits : FitsHead i.head i.body = All-contains (λ (j : Item). FitsHead j.head j.body) (volume_items image) i bodies whole in
+      let whole = (from_filter (λ (j : ReiserItem). same_key (object_key_of j.head) key) (volume_items image) i among).0 in
+      let bodies : All (λ (j : ReiserItem). FitsHead j.head j.body) (volume_items image) =
+      subst (λ (n : ℕ). All (λ (j : ReiserItem). FitsHead j.head j.body) (items_of_tree (reiser_tree_of (superblock image)) image n)) (used_length image) ((sound_exactly (reiser_tree_of (superblock image)) image (used_of image)).0 a.tree).bodies in
+      let fits : FitsHead i.head i.body = All-contains (λ (j : ReiserItem). FitsHead j.head j.body) (volume_items image) i bodies whole in
       ⊎_elim (λ save. absurd (true≢false (sym save ∙ none_saves (volume_items image) i a.objects.no_save_link whole))) (λ f. aligned_by i.head.kind i.head i.body f.0) fits)
 
   -- a byte by where its block lies
@@ -95,14 +70,27 @@ module _ (image : Image) (a : IsAccepted image) (key : ObjectKey) (named : IsNam
   tail_lies (Some (Disk b)) is = absurd (cc)
   tail_lies (Some Tail) is = refl
 
+  -- so it has a byte
+  tail_some : is_tail (block_from items size 0) ≡ true → 1 ≤ size
+  tail_some is =
+      ⊎_elim (λ (some : 0 < size). omega (arith, some))
+      (λ (none : size ≤ 0). absurd (false≢true (sym (ap (λ (b : Bool). is_tail (if b then (if is_held items size 0 then Some Tail else disk_or_hole (named_block items 0)) else None)) (le-ltb (4096 * 0) size (omega (arith, none)))) ∙ is)))
+      (cases_lt 0 size)
+
   -- a symlink has no items of pointers
   no_pointers : object.kind ≡ Symlink → All IsNoIndirect items
   no_pointers link = all_of IsNoIndirect items (λ i among.
-      let may : may_have object.kind i.head.kind ≡ true = fits_each (λ (x : Item). may_have object.kind x.head.kind) items i object.fits among in
+      let may : may_have object.kind i.head.kind ≡ true = fits_each (λ (x : ReiserItem). may_have object.kind x.head.kind) items i object.fits among in
       λ (indirect : i.head.kind ≡ Indirect). false≢true (sym (ap (λ (k : Kind). may_have k i.head.kind) link ∙ ap (may_have Symlink) indirect) ∙ may))
 
   link_short : object.kind ≡ Symlink → size ≤ 3900
   link_short link = let low = a.names.keeps.targets key object.stat named object.has_stat (object.known ∙ ap (λ (k : Kind). let o : Option Kind = Some k in o) link) in let same = size_is in omega (arith, low, same)
+
+  link_some : object.kind ≡ Symlink → 1 ≤ size
+  link_some link =
+      let some : 1 ≤ object.stat.fields.size = leb-true 1 object.stat.fields.size (sym (ap (λ (k : Kind). fits_size k object.stat.fields.size) link) ∙ object.size) in
+      let same = size_is in
+      omega (arith, some, same)
 
   -- a file has at most 2^44 bytes
   file_short : (kind : Kind) → kind ≡ File → fits_size kind object.stat.fields.size ≡ true → object.stat.fields.size ≤ 2 ^ 44
@@ -130,22 +118,23 @@ module _ (image : Image) (a : IsAccepted image) (key : ObjectKey) (named : IsNam
 
   -- What stays in the tree has all bytes of the file, and these are few.
   pub record StaysInTree : Type 0 where
-    pub short : size ≤ 4096
+    pub short : size ≤ 3900
+    pub some : 1 ≤ size
     pub bytes : target_bytes items size ≡ file_bytes image items size
 
-  pub stays : (inline : Bool) → is_inline inline items size (kind_by (stat_at (volume_items image) key)) ≡ true → StaysInTree
+  pub stays : (inline : Bool) → stays_in_tree inline items size (kind_by (stat_at (volume_items image) key)) ≡ true → StaysInTree
   stays inline is = by (kind_by (stat_at (volume_items image) key)) refl is
     where
-      by : (kind : Kind) → kind_by (stat_at (volume_items image) key) ≡ kind → is_inline inline items size kind ≡ true → StaysInTree
+      by : (kind : Kind) → kind_by (stat_at (volume_items image) key) ≡ kind → stays_in_tree inline items size kind ≡ true → StaysInTree
       by File same h =
           let parts = and_parts inline (nat_le size 2048 && is_tail (block_from items size 0)) h in
           let more = and_parts (nat_le size 2048) (is_tail (block_from items size 0)) parts.1 in
           let short = leb-true size 2048 more.0 in
-          record { short = omega (arith, short); bytes = tail_bytes short (tail_lies (block_from items size 0) more.1) }
+          record { short = omega (arith, short); some = tail_some more.1; bytes = tail_bytes short (tail_lies (block_from items size 0) more.1) }
       by Symlink same h =
           let link : object.kind ≡ Symlink = sym kind_is ∙ same in
           let short = link_short link in
-          record { short = omega (arith, short); bytes = target_is image items size (omega (arith, short)) (no_pointers link) }
+          record { short = short; some = link_some link; bytes = target_is image items size (omega (arith, short)) (no_pointers link) }
       by Directory same h = absurd (cc)
       by Character same h = absurd (cc)
       by Block same h = absurd (cc)
@@ -154,7 +143,7 @@ module _ (image : Image) (a : IsAccepted image) (key : ObjectKey) (named : IsNam
       by Subvolume same h = absurd (cc)
 
   -- what does not stay there is a file
-  pub other_is_file : (inline : Bool) (kind : Kind) → has_bytes kind ≡ true → is_inline inline items size kind ≡ false → kind ≡ File
+  pub other_is_file : (inline : Bool) (kind : Kind) → has_bytes kind ≡ true → stays_in_tree inline items size kind ≡ false → kind ≡ File
   other_is_file inline File has out = refl
   other_is_file inline Symlink has out = absurd (cc)
   other_is_file inline Directory has out = absurd (cc)

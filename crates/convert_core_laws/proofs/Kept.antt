@@ -1,53 +1,9 @@
 -- The bytes of a named file or symlink are those that the volume had.
-use Rattle.std.proofs.Common.{◌≡◌, ◌≢◌, ◌≤◌, ◌<◌, ℕ, ◌+◌, ◌-◌, ◌*◌, ◌/◌, ◌%◌, ◌^◌, ◌==◌, ◌&&◌, nat_le, nat_lt, inl, Bool, true, false, List, [], ◌∷◌, length, map, filter, get_or, Option, Some, None, refl, sym, ap, subst, ◌∙◌, ⊎_elim, if◌then◌else◌, arith}
-use Rattle.std.specs.Prelude.{Contains, MatchOption}
-use Rattle.std.specs.List.{AllByRecursion, range_with_len}
-use Rattle.std.specs.Option.{option_map_or}
-use Rattle.std.proofs.lemmas.Bool.{cases_lt}
-use Rattle.std.proofs.lemmas.Bool.Decides.{nat_tests}
-use Rattle.std.proofs.lemmas.List.{get_or-replicate}
-use Rattle.indexmap.specs.IndexMap.{keys}
-use Rattle.reiser_volume.specs.outside.History.{Image, block_at}
-use Rattle.btr_reader.specs.btr_reader_contents.Extents.{extents_of, file_byte as byte_on}
-use Rattle.btr_reader.specs.btr_node.Leaf.{Item as TreeEntry}
-use Rattle.btr_reader.specs.btr_reader_walk.Tree.{bare_item}
-use Rattle.btr_reader.specs.btr_reader_walk.declared.map.MapRange.{MapRange}
-use Rattle.convert_core.specs.convert_steps.Source.{HasExtents, HasPieces, HoldFiles, LiesIn, in_piece, made_from}
+use Rattle.convert_core_laws.proofs.Imports.{◌≡◌, ◌≢◌, ◌≤◌, ◌<◌, ℕ, ◌+◌, ◌-◌, ◌*◌, ◌/◌, ◌%◌, ◌^◌, ◌==◌, ◌&&◌, nat_le, nat_lt, inl, Bool, true, false, List, [], ◌∷◌, length, map, filter, get_or, Option, Some, None, refl, sym, ap, subst, ◌∙◌, ⊎_elim, arith, Contains, MatchOption, AllByRecursion, range_with_len, option_map_or, cases_lt, nat_tests, get_or-replicate, keys, Image, block_at, extents_of, Item, bare_item, MapRange, HasExtents, HasPieces, HoldFiles, ComesFrom, in_piece, made_from, can_move, well, piece_apart, AreSortedKeys, all_at, numbered, inodes_apart, two_cases, extents_at, file_block, is_owned_by, pieces_of, Source, file_extent_items, inline_in, kind_in, ino_of, size_in, fs_tree_items, FilesAreHeld, has_bytes, File, byte_at, length_bytes, same_bytes, extent_item, inline_extent, RunFrom, Disk, Tail, file_byte, tail_block, target_bytes, held_from, block_from, ino_of_key, ObjectKey, items_of, IsNamed, used_of, volume_items, Volume, accepted_is_small, used_length, ReiserItem, Options, Piece, Plan, BytesAreKept, MapsPieces, PiecesStand, ExtentsKeepRules}
+use Rattle.std.proofs.Common.{if◌then◌else◌}
+use Rattle.btr_reader.specs.btr_reader_contents.Extents.{file_byte as byte_on}
 use Rattle.convert_core.specs.convert_steps.Moved.{HoldMoved}
-use Rattle.convert_core.proofs.Moving.{can_move, well}
-use Rattle.convert_core.proofs.Reserved.{piece_apart}
-use Rattle.convert_core.specs.extent_pieces.Laws.{AreSortedKeys}
-use Rattle.convert_core.proofs.extent_pieces.Lists.{all_at}
-use Rattle.convert_core.proofs.extent_pieces.Named.{numbered}
-use Rattle.convert_core.proofs.extent_pieces.Once.{inodes_apart}
-use Rattle.convert_core.proofs.extent_pieces.Owning.{two_cases}
-use Rattle.convert_core.specs.file_items.Extents.{extents_at, file_block, is_owned_by, pieces_of}
-use Rattle.convert_core.specs.file_items.Tree.{Source, extent_items, inline_in, kind_in, number_of, size_in, tree_items}
-use Rattle.convert_trees_laws.specs.Held.{FilesAreHeld}
 use Rattle.reiser_volume.specs.fs_rows.Bytes.{bytes_by}
-use Rattle.reiser_volume.specs.fs_rows.Kinds.{has_bytes}
-use Rattle.reiser_volume.specs.fs_rows.declared.row.Kind.TheVariants.{File}
-use Rattle.reiser_volume.proofs.fs_rows.Functions.{byte_at, length_bytes, same_bytes}
-use Rattle.convert_core.specs.btr_item_list.Extents.{extent_item, inline_extent}
-use Rattle.reiser_volume.specs.reiser_volume_files.declared.map.RunFrom.{RunFrom}
-use Rattle.reiser_volume.specs.reiser_volume_files.declared.map.RunFrom.TheVariants.{Disk, Tail}
-use Rattle.reiser_volume.specs.reiser_volume_files.Bytes.{file_byte, tail_block, target_bytes}
-use Rattle.reiser_volume.specs.reiser_volume_files.Laws.{held_from}
-use Rattle.reiser_volume.specs.reiser_volume_files.Runs.{block_from}
-use Rattle.reiser_volume.specs.reiser_volume_names.Names.{inode_of}
-use Rattle.reiser_volume.specs.reiser_volume_objects.declared.key.ObjectKey.{ObjectKey}
-use Rattle.reiser_volume.specs.reiser_volume_objects.Keys.{items_of}
-use Rattle.reiser_volume.specs.reiser_volume_objects.Names.{IsNamed}
-use Rattle.reiser_volume.specs.Volume.{used_of, volume_items}
-use Rattle.reiser_volume.specs.declared.volume.Volume.{Volume}
-use Rattle.reiser_volume.proofs.Bounds.{accepted_is_small}
-use Rattle.reiser_volume.proofs.Holding.{used_length}
-use Rattle.reiser_volume.specs.reiser_walk.Items.{Item}
-use Rattle.convert_core.specs.convert_options.declared.options.Options.{Options}
-use Rattle.convert_core.specs.unit_plan.declared.piece.Piece.{Piece}
-use Rattle.convert_core.specs.unit_plan.declared.plan.Plan.{Plan}
-use Rattle.convert_core_laws.specs.Kept.{BytesAreKept, MapsPieces, PiecesStand}
-use Rattle.convert_core_laws.specs.Sound.{ExtentsKeepRules}
 use Rattle.convert_core_laws.proofs.Holding.{StaysInTree, held_byte, other_is_file, stays, up_to_byte}
 use Rattle.convert_core_laws.proofs.Owned.{any_extents, extents_found}
 use Rattle.convert_core_laws.proofs.Pieces.{Fits, all_of_inode, covers_byte, one_of_inode, piece_byte, placed_byte, read_pieces}
@@ -119,21 +75,21 @@ module _ (volume : Volume) (image : Image) (o : Options) (plan : Plan) (pieces :
 
   -- ---- keys by their inodes
 
-  one_key : (a b : ObjectKey) → Contains s.keys a → Contains s.keys b → number_of s a ≡ number_of s b → a ≡ b
+  one_key : (a b : ObjectKey) → Contains s.keys a → Contains s.keys b → ino_of s a ≡ ino_of s b → a ≡ b
   one_key a b in_a in_b same =
       let at = numbered image (keys volume.named) sorted in
       ⊎_elim (λ is. is) (λ apart. ⊎_elim (λ one. absurd (one same)) (λ second. absurd (second (sym same))) apart)
-      (two_cases (λ x y. inode_of s.keys x ≢ inode_of s.keys y) s.keys a b (inodes_apart s.keys at.0 at.1) in_a in_b)
+      (two_cases (λ x y. ino_of_key s.keys x ≢ ino_of_key s.keys y) s.keys a b (inodes_apart s.keys at.0 at.1) in_a in_b)
 
   module _ (key : ObjectKey) (among_keys : Contains s.keys key) where
-    abbrev items : List Item
+    abbrev items : List ReiserItem
     items = items_of key s.items
 
     abbrev size : ℕ
     size = size_in s key
 
     abbrev ino : ℕ
-    ino = number_of s key
+    ino = ino_of s key
 
     is_named : IsNamed (volume_items image) key
     is_named = (has.opened.are_keys.exact key).0 among_keys
@@ -173,8 +129,8 @@ module _ (volume : Volume) (image : Image) (o : Options) (plan : Plan) (pieces :
           mapped = λ a low high. maps.places p a among low high;
         }
 
-    sound : has_bytes (kind_in s key) ≡ true → AreSound ranges 0 0 (extent_items s key)
-    unfolding extent_items
+    sound : has_bytes (kind_in s key) ≡ true → AreSound ranges 0 0 (file_extent_items s key)
+    unfolding file_extent_items
     sound kind = by (inline_in s key) refl
       where
         none_before : (ps : List Piece) → AllByRecursion (λ p. 0 ≤ 4096 * file_block p) ps
@@ -225,7 +181,7 @@ module _ (volume : Volume) (image : Image) (o : Options) (plan : Plan) (pieces :
           let at : n / 4096 ≡ file_block p + j = omega (arith, low) in
           let whose = files.each p ino (file_block p) among own in
           let same : whose.0 ≡ key = one_key whose.0 key whose.1.named among_keys whose.2 in
-          let lies : block_from items size (file_block p + j) ≡ Some (in_piece p j) = subst (λ (x : ObjectKey). LiesIn s x (file_block p + j) (in_piece p j)) same (whose.3 j inside) in
+          let lies : block_from items size (file_block p + j) ≡ Some (in_piece p j) = subst (λ (x : ObjectKey). ComesFrom s x (file_block p + j) (in_piece p j)) same (whose.3 j inside) in
           placed_byte other ranges p n (place_high p among (omega (arith, inside))) low high (λ a from to. maps.places p a among from to)
           ∙ (stands p j n among own inside at below
           ∙ ap (λ (from : Option RunFrom). get_or (held_from image items size (n / 4096) from) (n % 4096) 0) (sym (ap (block_from items size) at ∙ lies)))
@@ -259,8 +215,8 @@ module _ (volume : Volume) (image : Image) (o : Options) (plan : Plan) (pieces :
 
       -- ---- the extents of the object
 
-      byte_kept : has_bytes (kind_in s key) ≡ true → (n : ℕ) → n < size → item_byte other ranges (extent_items s key) n ≡ file_byte image items n
-      unfolding extent_items
+      byte_kept : has_bytes (kind_in s key) ≡ true → (n : ℕ) → n < size → item_byte other ranges (file_extent_items s key) n ≡ file_byte image items n
+      unfolding file_extent_items
       byte_kept kind n below = by (inline_in s key) refl
         where
           by : (b : Bool) → inline_in s key ≡ b → item_byte other ranges (if b then extent_item ino 0 (inline_extent (target_bytes items size)) ∷ [] else extents_at ino file_block (pieces_of pieces ino)) n ≡ file_byte image items n
@@ -279,21 +235,21 @@ bytes_kept held volume image other o plan pieces ranges items key has hold maps 
     let s : Source = made_from volume image o pieces in
     let at = numbered image (keys volume.named) (record { accepted = has.accepted; are_keys = has.opened.are_keys; ascend = has.opened.ascends }) in
     let size : ℕ = size_in s key in
-    let own : List Item = items_of key s.items in
-    mapped_bytes (byte_on other ranges (extents_of items (number_of s key))) size
-    ∙ same_bytes size (byte_on other ranges (extents_of items (number_of s key))) (file_byte image own) 0 (λ j below.
+    let own : List ReiserItem = items_of key s.items in
+    mapped_bytes (byte_on other ranges (extents_of items (ino_of s key))) size
+    ∙ same_bytes size (byte_on other ranges (extents_of items (ino_of s key))) (file_byte image own) 0 (λ j below.
     let n : ℕ = 0 + j in
     let low : n < size = omega (arith, below) in
-    bare_byte other ranges items (number_of s key) n
-    ∙ (ap (λ (l : List TreeEntry). item_byte other ranges (filter (is_extent (number_of s key)) l) n) read
-    ∙ (ap (λ (l : List TreeEntry). item_byte other ranges l n) (extents_found s at.0 at.1 key named kind)
+    bare_byte other ranges items (ino_of s key) n
+    ∙ (ap (λ (l : List Item). item_byte other ranges (filter (is_extent (ino_of s key)) l) n) read
+    ∙ (ap (λ (l : List Item). item_byte other ranges l n) (extents_found s at.0 at.1 key named kind)
     ∙ byte_kept volume image o plan pieces ranges has maps (held volume image o plan pieces has) key named other hold kind n low)))
 
 pub extents_kept : FilesAreHeld → ExtentsKeepRules
 extents_kept held volume image o plan pieces ranges items ino has maps read =
     let s : Source = made_from volume image o pieces in
     let at = numbered image (keys volume.named) (record { accepted = has.accepted; are_keys = has.opened.are_keys; ascend = has.opened.ascends }) in
-    let bare : map bare_item (extents_of items ino) ≡ filter (is_extent ino) (tree_items s) = bare_extents items ino ∙ ap (filter (is_extent ino)) read in
+    let bare : map bare_item (extents_of items ino) ≡ filter (is_extent ino) (fs_tree_items s) = bare_extents items ino ∙ ap (filter (is_extent ino)) read in
     no_refusals ranges 0 0 (extents_of items ino)
     (⊎_elim
     (λ of. subst (AreSound ranges 0 0) (sym (bare ∙ of.3)) (sound volume image o plan pieces ranges has maps (held volume image o plan pieces has) of.0 of.1 of.2))

@@ -1,5 +1,6 @@
 pub mod Converted
 pub mod Holding
+pub mod Imports
 pub mod Kept
 pub mod Mapped
 pub mod Owned

@@ -1,37 +1,7 @@
 -- The chunks of a conversion map each address of a piece to its place.
-use Rattle.std.proofs.Common.{◌≡◌, ◌≤◌, ◌<◌, ℕ, ◌+◌, ◌-◌, ◌*◌, ◌/◌, ◌&&◌, not, nat_le, nat_lt, inl, inr, Bool, true, false, List, [], ◌∷◌, length, Option, Some, None, if◌then◌else◌, refl, sym, ap, subst, ◌∙◌, ⊎_elim, arith}
-use Rattle.std.specs.Prelude.{Contains}
-use Rattle.std.specs.List.{range_with_len}
-use Rattle.std.proofs.lemmas.Bool.{and_from, cases_lt, not_from_false, or_left, or_right}
-use Rattle.std.proofs.lemmas.Bool.Decides.{nat_tests}
-use Rattle.std.proofs.lemmas.List.Folds.{list_any-from_Any}
-use Rattle.reiser_volume.specs.outside.History.{Image}
-use Rattle.reiser_volume.specs.vol_block.Volume.{is_reserved}
-use Rattle.btr_reader.specs.btr_reader_walk.Map.{holds, place}
-use Rattle.btr_reader.specs.btr_reader_walk.declared.map.MapRange.{MapRange}
-use Rattle.convert_core.specs.convert_steps.Source.{HasPieces}
-use Rattle.convert_core.proofs.Moving.{can_move, stays_or_moves, well}
-use Rattle.convert_core.proofs.Reserved.{piece_apart}
-use Rattle.convert_core.specs.extent_pieces.Laws.{LiesInUnit}
-use Rattle.convert_core.proofs.extent_pieces.Lists.{all_at}
-use Rattle.convert_core.proofs.extent_pieces.Reserving.{reserved_no}
-use Rattle.reiser_volume.specs.reiser_bitmap.Bits.{has}
-use Rattle.reiser_volume.proofs.reiser_bitmap.Ranges.{contains_cases, contains_head, contains_range, contains_tail}
+use Rattle.convert_core_laws.proofs.Imports.{◌≡◌, ◌≤◌, ◌<◌, ℕ, ◌+◌, ◌-◌, ◌*◌, ◌/◌, ◌&&◌, ◌||◌, not, nat_le, nat_lt, inl, inr, Bool, true, false, List, [], ◌∷◌, length, Option, Some, None, refl, sym, ap, subst, ◌∙◌, ⊎_elim, arith, Contains, range_with_len, and_from, cases_lt, not_from_false, or_left, or_right, nat_tests, list_any-from_Any, Image, is_reserved, holds, place, MapRange, HasPieces, can_move, stays_or_moves, well, piece_apart, LiesInUnit, all_at, reserved_no, has, contains_cases, contains_head, contains_range, contains_tail, used_of, Volume, used_length, holds_data, is_among, is_data, AreChunks, HoldsUnit, IsChunk, is_data_unit, is_filler, role_of, usable_end, use_of, need, PlannedChunk, Role, System, Metadata, Data, Options, Piece, Plan, roles_uses, ChunksMapPieces, identity_range}
+use Rattle.std.proofs.Common.{if◌then◌else◌}
 use Rattle.reiser_volume.specs.reiser_super.declared.superblock.Super.{Super}
-use Rattle.reiser_volume.specs.Volume.{used_of}
-use Rattle.reiser_volume.specs.declared.volume.Volume.{Volume}
-use Rattle.reiser_volume.proofs.Holding.{used_length}
-use Rattle.convert_core.specs.unit_plan.Choice.{holds_data, is_among, is_data}
-use Rattle.convert_core.specs.unit_plan.Chunks.{AreChunks, HoldsUnit, IsChunk, is_data_unit, role_of, usable_end, use_of}
-use Rattle.convert_core.specs.unit_plan.Needed.{need}
-use Rattle.convert_core.specs.unit_plan.declared.chunk.Chunk.{Chunk}
-use Rattle.convert_core.specs.unit_plan.declared.chunk.Role.{Role}
-use Rattle.convert_core.specs.unit_plan.declared.chunk.Role.TheVariants.{System, Metadata, Data}
-use Rattle.convert_core.specs.convert_options.declared.options.Options.{Options}
-use Rattle.convert_core.specs.unit_plan.declared.piece.Piece.{Piece}
-use Rattle.convert_core.specs.unit_plan.declared.plan.Plan.{Plan}
-use Rattle.convert_core.proofs.unit_plan.Uses.{roles_uses}
-use Rattle.convert_core_laws.specs.Mapped.{ChunksMapPieces, range_of}
 
 -- a map that gives each of its addresses itself
 own_address : (ranges : List MapRange) (r : MapRange) (a : ℕ) → ((x : MapRange) → Contains ranges x → x.physical ≡ x.logical) → Contains ranges r → holds r a ≡ true → place ranges a ≡ Some a
@@ -58,10 +28,10 @@ own_address (x ∷ ranges) r a same h is =
 some_use : (used : List Bool) (plan : Plan) (u : ℕ) → is_data_unit used plan u ≡ true → (r : Role) × (use_of used plan u ≡ Some r)
 some_use used plan u is = by (is_among plan.system u) (is_among plan.metadata u)
   where
-    by : (s m : Bool) → (r : Role) × ((if s then Some System else if m then Some Metadata else if is_data_unit used plan u then Some Data else None) ≡ Some r)
+    by : (s m : Bool) → (r : Role) × ((if s then Some System else if m then Some Metadata else if is_data_unit used plan u || is_filler used plan u then Some Data else None) ≡ Some r)
     by true m = (System, refl)
     by false true = (Metadata, refl)
-    by false false = (Data, ap (λ (b : Bool). if b then Some Data else None) is)
+    by false false = (Data, ap (λ (b : Bool). if b || is_filler used plan u then Some Data else None) is)
 
 -- a used block that is not reserved makes its unit one of data
 holds_it : (used : List Bool) (b : ℕ) → is_data used b ≡ true → holds_data used (b / 256) ≡ true
@@ -90,8 +60,8 @@ module _ (volume : Volume) (image : Image) (o : Options) (plan : Plan) (pieces :
       (stays_or_moves p.from p.place)
 
   -- each block of a piece lies in a chunk
-  in_chunk : (chunks : List Chunk) → AreChunks plan (length used) chunks → (p : Piece) → Contains pieces p → (b : ℕ) → p.place ≤ b → b < p.place + p.count
-      → (c : Chunk) × Contains chunks c × (c.start ≤ b) × (b < c.start + c.length)
+  in_chunk : (chunks : List PlannedChunk) → AreChunks plan (length used) chunks → (p : Piece) → Contains pieces p → (b : ℕ) → p.place ≤ b → b < p.place + p.count
+      → (c : PlannedChunk) × Contains chunks c × (c.start ≤ b) × (b < c.start + c.length)
   in_chunk chunks are p among b low high =
       let apart = piece_apart volume image o plan pieces of p among b low high in
       let inside = all_at (λ q. q.place + q.count ≤ length used) pieces p (well volume image o plan pieces of).apart.inside among in
@@ -101,7 +71,7 @@ module _ (volume : Volume) (image : Image) (o : Options) (plan : Plan) (pieces :
       let needed = some_use used plan (b / 256) (data_unit p among b low high) in
       let role : role_of plan n (b / 256) ≡ Some needed.0 = roles_uses used (need of.found.counts o) plan of.plan_.enough of.plan_.plan_ (b / 256) (omega (arith, first)) ∙ needed.1 in
       let found = are.whole (b / 256) needed.0 role in
-      let c : Chunk = found.1 in
+      let c : PlannedChunk = found.1 in
       let there : Contains chunks c = (found.0, found.2, found.3) in
       let unit : HoldsUnit c (b / 256) = found.4 in
       let is : IsChunk (role_of plan n) (usable_end n) c = all_at (IsChunk (role_of plan n) (usable_end n)) chunks c are.each there in
@@ -118,10 +88,10 @@ chunks_map image m ranges making are =
     record {
       places = λ p a among low high.
           let found = in_chunk m.volume image m.options m.plan m.pieces of m.chunks chunks p among (a / 4096) (omega (arith, low)) (omega (arith, high)) in
-          let c : Chunk = found.0 in
+          let c : PlannedChunk = found.0 in
           let from = found.2 in
           let to = found.3 in
-          own_address ranges (range_of c) a (λ x h. let of_chunk = are.each x h in ap (λ (r : MapRange). r.physical) of_chunk.2 ∙ sym (ap (λ (r : MapRange). r.logical) of_chunk.2)) (are.whole c found.1)
+          own_address ranges (identity_range c) a (λ x h. let of_chunk = are.each x h in ap (λ (r : MapRange). r.physical) of_chunk.2 ∙ sym (ap (λ (r : MapRange). r.logical) of_chunk.2)) (are.whole c found.1)
           (within (4096 * c.start) (4096 * c.length) a (omega (arith, from)) (omega (arith, to)));
     }
   where

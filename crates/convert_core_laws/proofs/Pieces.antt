@@ -1,19 +1,6 @@
 -- The bytes that the extents of pieces give.
-use Rattle.std.proofs.Common.{◌≡◌, ◌≤◌, ◌<◌, ℕ, ◌+◌, ◌-◌, ◌*◌, ◌/◌, ◌%◌, ◌^◌, ◌==◌, Bool, true, false, cond, List, [], ◌∷◌, filter, get_or, Option, Some, refl, sym, ap, subst, ◌∙◌, ⊎_elim, if◌then◌else◌, arith}
-use Rattle.std.specs.Prelude.{Contains}
-use Rattle.std.specs.List.{AllByRecursion}
-use Rattle.std.proofs.lemmas.Bool.Decides.{nat_tests}
-use Rattle.reiser_volume.proofs.fs_paths.Lists.{from_filter, in_filter}
-use Rattle.reiser_volume.specs.outside.History.{Image, block_at}
-use Rattle.btr_reader.specs.btr_reader_contents.Extents.{byte_of_place, content_byte, covers}
-use Rattle.btr_reader.specs.btr_keys.FileExtent.{FileExtentValue}
-use Rattle.btr_reader.specs.btr_reader_walk.Map.{place}
-use Rattle.btr_reader.specs.btr_reader_walk.declared.map.MapRange.{MapRange}
-use Rattle.convert_core.specs.file_items.Extents.{extents_at, file_block, is_owned_by, pieces_of}
-use Rattle.convert_core.specs.btr_item_list.Extents.{regular_extent}
-use Rattle.convert_core.proofs.btr_item_list.Sorting.{ascending_all, ascending_filter}
-use Rattle.reiser_volume.proofs.reiser_bitmap.Ranges.{contains_cases, contains_head, contains_tail}
-use Rattle.convert_core.specs.unit_plan.declared.piece.Piece.{Piece}
+use Rattle.convert_core_laws.proofs.Imports.{◌≡◌, ◌≤◌, ◌<◌, ℕ, ◌+◌, ◌-◌, ◌*◌, ◌/◌, ◌%◌, ◌^◌, ◌==◌, Bool, true, false, cond, List, [], ◌∷◌, filter, get_or, Option, Some, refl, sym, ap, subst, ◌∙◌, ⊎_elim, arith, Contains, AllByRecursion, nat_tests, from_filter, in_filter, Image, block_at, byte_of_place, content_byte, covers, FileExtentValue, place, MapRange, extents_at, file_block, is_owned_by, pieces_of, regular_extent, ascending_all, ascending_filter, contains_cases, contains_head, contains_tail, Piece}
+use Rattle.std.proofs.Common.{if◌then◌else◌}
 use Rattle.convert_core_laws.proofs.ByteReading.{byte_by, item_byte, regular_read}
 
 -- the numbers of an extent fit

@@ -1,25 +1,8 @@
 -- The size of a file is read back of its inode.
-use Rattle.std.proofs.Common.{◌≡◌, ◌<◌, ℕ, ◌^◌, Bool, true, List, ◌++◌, append_assoc, length, length-append, drop, Some, None, refl, sym, ap, ◌∙◌, if◌then◌else◌, arith, eq-eqb}
-use Rattle.std.specs.Option.{option_and_then}
-use Rattle.std.proofs.lemmas.List.{drop_at}
+use Rattle.convert_core_laws.proofs.Imports.{◌≡◌, ◌<◌, ℕ, ◌^◌, Bool, true, List, ◌++◌, append_assoc, length, length-append, drop, Some, None, refl, sym, ap, ◌∙◌, arith, option_and_then, drop_at, bytes_of_inode as bytes_on, inode_bytes, inode_layout, inode_of, stamp_layout, Inode, Item, TreeItem, made_from, Source, inode_in, kind_in, ino_of, size_by, size_in, InodesAreThere, inode_long, has_bytes, Kind, Directory, File, Symlink, Character, Block, Fifo, Socket, Subvolume, ObjectKey, BytesAreKept, BytesAreRead}
+use Rattle.std.proofs.Common.{if◌then◌else◌, eq-eqb}
 use Rattle.byteorder.specs.Endian.{little_bytes, little_number}
 use Rattle.byteorder.specs.Numbers.{little_number-reads_back}
-use Rattle.btr_reader.specs.btr_reader_contents.Extents.{file_bytes as bytes_on}
-use Rattle.btr_reader.specs.btr_keys.Inode.{inode_bytes, inode_layout, inode_of}
-use Rattle.btr_reader.specs.btr_keys.Stamp.{stamp_layout}
-use Rattle.btr_reader.specs.btr_keys.declared.inode.Inode.{Inode}
-use Rattle.btr_reader.specs.btr_node.Leaf.{Item}
-use Rattle.btr_reader.specs.btr_reader_walk.Events.{TreeItem}
-use Rattle.convert_core.specs.convert_steps.Source.{made_from}
-use Rattle.convert_core.specs.file_items.Tree.{Source, inode_in, kind_in, number_of, size_by, size_in}
-use Rattle.convert_trees_laws.specs.Inodes.{InodesAreThere}
-use Rattle.convert_trees_laws.proofs.Short.{inode_long}
-use Rattle.reiser_volume.specs.fs_rows.Kinds.{has_bytes}
-use Rattle.reiser_volume.specs.fs_rows.declared.row.Kind.{Kind}
-use Rattle.reiser_volume.specs.fs_rows.declared.row.Kind.TheVariants.{Directory, File, Symlink, Character, Block, Fifo, Socket, Subvolume}
-use Rattle.reiser_volume.specs.reiser_volume_objects.declared.key.ObjectKey.{ObjectKey}
-use Rattle.convert_core_laws.specs.Kept.{BytesAreKept}
-use Rattle.convert_core_laws.specs.Read.{BytesAreRead}
 use Rattle.convert_core_laws.proofs.Holding.{size_small}
 
 third_number : (xs ys rest : List ℕ) (n : ℕ) → length xs ≡ 8 → length ys ≡ 8 → n < 256 ^ 8 → little_number 8 (drop 16 (xs ++ (ys ++ (little_bytes 8 n ++ rest)))) ≡ n
@@ -65,5 +48,5 @@ bytes_read inodes kept volume image other o plan pieces ranges items key has hol
       own = read_again i;
       has = ap (option_and_then (λ (t : TreeItem). inode_of t.body)) found.1 ∙ (ap (λ (t : Item). inode_of t.1) found.2 ∙ inode_again i);
       size = same;
-      bytes = ap (λ (n : ℕ). bytes_on other ranges items (number_of s key) n) same ∙ kept volume image other o plan pieces ranges items key has hold maps read named kind;
+      bytes = ap (λ (n : ℕ). bytes_on other ranges items (ino_of s key) n) same ∙ kept volume image other o plan pieces ranges items key has hold maps read named kind;
     }

@@ -1,29 +1,6 @@
 -- The extents of pieces keep the rules of extents.
-use Rattle.std.proofs.Common.{◌≡◌, ◌≤◌, ◌<◌, ◌⊎◌, ℕ, zero, suc, ◌+◌, ◌*◌, ◌/◌, ◌%◌, ◌^◌, ◌==◌, ◌&&◌, ◌||◌, nat_le, nat_lt, Bool, true, false, cond, List, [], ◌∷◌, ◌++◌, length, map, filter, get_or, Option, Some, None, refl, sym, ap, subst, ◌∙◌, ⊎_elim, if◌then◌else◌, arith}
-use Rattle.std.specs.Prelude.{AllPairs, Contains}
-use Rattle.std.specs.List.{AllByRecursion}
-use Rattle.std.specs.Option.{option_map_or}
-use Rattle.std.proofs.lemmas.Bool.{cases_lt}
-use Rattle.std.proofs.lemmas.Bool.Decides.{nat_tests}
-use Rattle.std.proofs.lemmas.List.Elements.{Contains-get_or}
-use Rattle.std.proofs.lemmas.List.Kept.{AllPairs-filter}
-use Rattle.reiser_volume.proofs.fs_paths.Lists.{from_filter}
-use Rattle.reiser_volume.specs.refusals.declared.refusal.BtrRefusal.{BtrRefusal}
-use Rattle.reiser_volume.specs.refusals.declared.refusal.BtrRefusal.TheVariants.{BadBtrfs}
-use Rattle.reiser_volume.specs.refusals.declared.rule.BtrRule.TheVariants.{ExtentForm}
-use Rattle.btr_reader.specs.btr_reader_contents.Extents.{at_unmapped, covered_after, covered_by, end_after, extent_length, extent_refusals, extents_of, extents_refusals, has_form, is_aligned, is_extent_of, place_refusals, refusals_at, unless, unmapped_in}
-use Rattle.btr_reader.specs.btr_keys.FileExtent.{FileExtentValue, file_extent_of}
-use Rattle.btr_reader.specs.btr_node.Leaf.{Item}
-use Rattle.btr_reader.specs.btr_reader_walk.Events.{TreeItem}
-use Rattle.btr_reader.specs.btr_reader_walk.Map.{place}
-use Rattle.btr_reader.specs.btr_reader_walk.Tree.{bare_item}
-use Rattle.btr_reader.specs.btr_reader_walk.declared.map.MapRange.{MapRange}
-use Rattle.convert_core.proofs.extent_pieces.Owning.{two_cases}
-use Rattle.convert_core.specs.file_items.Extents.{extents_at, file_block, is_owned_by, pieces_of}
-use Rattle.convert_trees_laws.proofs.Rising.{Climb, climb_once}
-use Rattle.convert_core.specs.btr_item_list.Extents.{extent_item, inline_extent, regular_extent}
-use Rattle.convert_core.proofs.btr_item_list.Sorting.{ascending_filter, ascending_sorted}
-use Rattle.convert_core.specs.unit_plan.declared.piece.Piece.{Piece}
+use Rattle.convert_core_laws.proofs.Imports.{◌≡◌, ◌≤◌, ◌<◌, ◌⊎◌, ℕ, zero, suc, ◌+◌, ◌*◌, ◌/◌, ◌%◌, ◌^◌, ◌==◌, ◌&&◌, ◌||◌, nat_le, nat_lt, Bool, true, false, cond, List, [], ◌∷◌, ◌++◌, length, map, filter, get_or, Option, Some, None, refl, sym, ap, subst, ◌∙◌, ⊎_elim, arith, AllPairs, Contains, AllByRecursion, option_map_or, cases_lt, nat_tests, Contains-get_or, AllPairs-filter, from_filter, BtrRefusal, BadBtrfs, ExtentForm, at_unmapped, covered_after, covered_by, end_after, extent_length, extent_refusals, extents_of, extents_refusals, has_form, is_aligned, is_extent_of, place_refusals, refusals_at, refused_unless, unmapped_in, FileExtentValue, file_extent_of, Item, TreeItem, place, bare_item, MapRange, two_cases, extents_at, file_block, is_owned_by, pieces_of, Climb, climb_once, extent_item, inline_extent, regular_extent, ascending_filter, ascending_sorted, Piece}
+use Rattle.std.proofs.Common.{if◌then◌else◌}
 use Rattle.convert_core_laws.proofs.Pieces.{Fits, all_of_inode}
 use Rattle.convert_core_laws.proofs.ByteReading.{inline_read, is_extent, regular_read}
 
@@ -125,7 +102,7 @@ module _ (ranges : List MapRange) where
         (lt_test (covered + covered_by e.content) (2 ^ 59) (omega (arith, is, short, behind, less)))
 
     pub piece_sound : (leaf : ℕ) → extent_refusals ranges end covered (4096 * file_block p) leaf e ≡ []
-    piece_sound leaf = ap (λ (b : Bool). unless b (BadBtrfs leaf ExtentForm) ++ place_refusals ranges e.content) formed ∙ places_are
+    piece_sound leaf = ap (λ (b : Bool). refused_unless b (BadBtrfs leaf ExtentForm) ++ place_refusals ranges e.content) formed ∙ places_are
 
     pub still_less : covered + covered_by e.content ≤ 4096 * file_block p + extent_length e.content
     still_less = let is = covered_is in omega (arith, is, behind, less)

@@ -8,6 +8,8 @@ pub mod ChunkList
 mod DataItems
 mod Distinct
 mod Entered
+mod FileExtents
+mod FileInodes
 mod Fits
 pub mod Flags
 mod HavingNames
@@ -31,6 +33,7 @@ mod SumItems
 mod Telling
 mod Told
 pub mod Totals
+mod TreeRules
 pub mod Trees
 pub mod Unreserved
 pub mod Used

@@ -12,7 +12,7 @@ use Rattle.convert_core.specs.convert_steps.Making.{IsMaking, Making}
 use Rattle.convert_core.specs.convert_steps.Source.{made_from}
 use Rattle.convert_core.specs.convert_steps.Standing.{file_tree_items}
 use Rattle.convert_core.specs.convert_steps.declared.trees.VolumeTrees.{VolumeTrees}
-use Rattle.convert_core.specs.Converted.{StandsOn}
+use Rattle.convert_core.specs.Converted.{StandsConverted}
 use Rattle.convert_core.specs.file_items.Tree.{Source, kind_in}
 use Rattle.reiser_volume.specs.fs_rows.Kinds.{has_bytes}
 use Rattle.reiser_volume.specs.reiser_volume_objects.declared.key.ObjectKey.{ObjectKey}
@@ -35,5 +35,5 @@ pub record ReadsFiles (image other : Image) (m : Making) (ranges : List MapRange
 abbrev pub ConvertedFilesAreRead : Type 0
 ConvertedFilesAreRead =
     (image other : Image) (m : Making) (r : VolumeTrees) (nodes : List TreeNode) (ranges : List MapRange) (items : List TreeItem)
-    → IsMaking image m → StandsOn image other m r nodes → AreRangesOf m.chunks ranges → map bare_item items ≡ file_tree_items image m
+    → IsMaking image m → StandsConverted image other m r nodes → AreRangesOf m.chunks ranges → map bare_item items ≡ file_tree_items image m
     → ReadsFiles image other m ranges items

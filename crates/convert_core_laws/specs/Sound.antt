@@ -6,7 +6,7 @@ use Rattle.btr_reader.specs.btr_reader_walk.Events.{TreeItem}
 use Rattle.btr_reader.specs.btr_reader_walk.Tree.{bare_item}
 use Rattle.btr_reader.specs.btr_reader_walk.declared.map.MapRange.{MapRange}
 use Rattle.convert_core.specs.convert_steps.Source.{HasPieces, made_from}
-use Rattle.convert_core.specs.file_items.Tree.{tree_items}
+use Rattle.convert_core.specs.file_items.Tree.{fs_tree_items}
 use Rattle.reiser_volume.specs.declared.volume.Volume.{Volume}
 use Rattle.convert_core.specs.convert_options.declared.options.Options.{Options}
 use Rattle.convert_core.specs.unit_plan.declared.piece.Piece.{Piece}
@@ -18,5 +18,5 @@ use Rattle.convert_core_laws.specs.Kept.{MapsPieces}
 abbrev pub ExtentsKeepRules : Type 0
 ExtentsKeepRules =
     (volume : Volume) (image : Image) (o : Options) (plan : Plan) (pieces : List Piece) (ranges : List MapRange) (items : List TreeItem) (ino : ℕ)
-    → HasPieces volume image o plan pieces → MapsPieces pieces ranges → map bare_item items ≡ tree_items (made_from volume image o pieces)
+    → HasPieces volume image o plan pieces → MapsPieces pieces ranges → map bare_item items ≡ fs_tree_items (made_from volume image o pieces)
     → extents_refusals ranges 0 0 (extents_of items ino) ≡ []

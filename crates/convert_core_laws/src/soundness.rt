@@ -3,6 +3,8 @@ ghost use Rattle.convert_core_laws.specs.soundness.Laws.{
   ConvertedBlockGroupsAreSound,
   ConvertedChecksumsAreSound,
   ConvertedChunksAreSound,
+  ConvertedFileExtentsAreSound,
+  ConvertedInodesAreSound,
   ConvertedNamesAreSound,
   ConvertedPlacementIsSound,
   ConvertedReferencesAreSound,
@@ -88,12 +90,35 @@ pub fn converted_names_are_sound()
     inodes_are_there();
 }
 
+/// In each file tree of a converted volume each entry stands in a directory under a name of its own and tells the
+/// kind of what it names, and each inode has a known kind, its names, and items that belong to it.
+pub fn converted_inodes_are_sound()
+    ensures { ConvertedInodesAreSound }
+{
+    new_ids_fit();
+    files_are_held();
+    image_keys_ascend();
+    inodes_are_there();
+}
+
+/// The file extents of a converted volume lie apart in their files, on whole blocks, within their ranges on the disk.
+pub fn converted_file_extents_are_sound()
+    ensures { ConvertedFileExtentsAreSound }
+{
+    new_ids_fit();
+    files_are_held();
+    image_keys_ascend();
+    inodes_are_there();
+}
+
 /// A converted volume is sound: what a recount of its bytes finds agrees with all that it tells of itself.
 pub fn converted_volumes_are_sound()
     ensures { ConvertedVolumesAreSound }
 {
     converted_trees_are_sound();
     converted_names_are_sound();
+    converted_inodes_are_sound();
+    converted_file_extents_are_sound();
     converted_references_are_sound();
     converted_placement_is_sound();
     converted_checksums_are_sound();

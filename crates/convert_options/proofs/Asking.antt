@@ -1,13 +1,6 @@
 -- Options that are read one after the other, with `--verbose` among them.
-use Rattle.std.proofs.Common.{◌≡◌, ◌<◌, ◌∙◌, ℕ, Bool, true, false, not, ◌&&◌, ◌||◌, cond, List, [], ◌∷◌, length, map, String, string_bytes, refl, sym, ap, arith, Option, Some, None}
-use Rattle.std.specs.Prelude.{option_map, option_and_then}
-use Rattle.convert_options.specs.Asked.{are_new, asked_by, has_verbose, is_verbose, options_beside, options_of_convert, without_verbose}
-use Rattle.convert_options.specs.Reading.{first_setting, has, none_given, with_given, with_value}
-use Rattle.convert_options.specs.Settings.{alone, are_apart, options, plain, settings, valued, with_setting, with_settings}
+use Rattle.convert_options.proofs.Imports.{◌≡◌, ◌<◌, ◌∙◌, ℕ, Bool, true, false, not, ◌&&◌, ◌||◌, cond, List, [], ◌∷◌, length, map, String, string_bytes, refl, sym, ap, arith, Option, Some, None, option_map, option_and_then, are_new, asked_by, has_verbose, is_verbose, options_beside, options_of_convert, without_verbose, first_setting, has, none_given, with_given, with_value, alone, are_apart, options, plain, settings, valued, with_setting, with_settings, Given, Options, Setting}
 use Rattle.convert_options.specs.declared.asked.AskedOptions.{AskedOptions}
-use Rattle.convert_options.specs.declared.given.Given.{Given}
-use Rattle.convert_options.specs.declared.options.Options.{Options}
-use Rattle.convert_options.specs.declared.setting.Setting.{Setting}
 use Rattle.convert_options.proofs.OneByOne.{by_rest, fresh, fresh_is, new_to, rest_all, rest_none, rest_of, rest_step, rest_twice}
 
 -- ---- beside settings that are given

@@ -1,14 +1,7 @@
 -- Settings that are read one after the other.
-use Rattle.std.proofs.Common.{◌≡◌, ◌∙◌, ◌≤◌, ℕ, Bool, true, false, not, ◌&&◌, ◌||◌, cond, List, [], ◌∷◌, ◌-◌, length, map, get_or, take, drop, refl, sym, ap, arith, String, string_bytes, Option, Some, None}
-use Rattle.std.specs.Prelude.{option_map, option_and_then}
+use Rattle.convert_options.proofs.Imports.{◌≡◌, ◌∙◌, ◌≤◌, ℕ, Bool, true, false, not, ◌&&◌, ◌||◌, cond, List, [], ◌∷◌, ◌-◌, length, map, get_or, take, drop, refl, sym, ap, arith, String, string_bytes, Option, Some, None, option_map, option_and_then, IsNodeSize, Options, alone, valued, before, settings, same_kind, are_apart, with_setting, with_settings, plain, options, HasNodeSize, first_setting, has, with_given, none_given, Given, Setting}
 use Rattle.std.specs.List.{list_any, list_all}
 use Rattle.std.proofs.lemmas.List.{take_rest}
-use Rattle.btr_node.specs.NodeSize.{IsNodeSize}
-use Rattle.convert_options.specs.declared.options.Options.{Options}
-use Rattle.convert_options.specs.Settings.{alone, valued, before, settings, same_kind, are_apart, with_setting, with_settings, plain, options, HasNodeSize}
-use Rattle.convert_options.specs.Reading.{first_setting, has, with_given, none_given}
-use Rattle.convert_options.specs.declared.given.Given.{Given}
-use Rattle.convert_options.specs.declared.setting.Setting.{Setting}
 use Rattle.convert_options.specs.declared.setting.Setting.TheVariants.{Nodesize, NoInline, NoDatasum, Label, Uuid}
 
 -- ---- the first setting of some words, and the others

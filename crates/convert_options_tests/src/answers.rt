@@ -1,4 +1,5 @@
 // The lines of answers, also of those that no command of a program gives yet.
+use btrfs_format::block::SUPER_INFO_OFFSET;
 use command_answers::Answer;
 use outside_mem::MemSink;
 use program_words::{answer_status, write_answer};
@@ -41,8 +42,21 @@ fn answers_have_lines_and_statuses(rt: HostRuntime) -> Result<(), Fail> {
             "refused 20 reserved 5\n",
         ),
         (
+            Answer::NotSound {
+                part: 5,
+                address: 1228800,
+            },
+            1,
+            "refused 21 unsound 5 1228800\n",
+        ),
+        (
+            Answer::ImageShared { tree: 257 },
+            1,
+            "refused 22 shared 257\n",
+        ),
+        (
             Answer::Btr(BtrRefusal::BadBtrfs {
-                address: 65536,
+                address: SUPER_INFO_OFFSET,
                 rule: BtrRule::SuperCsum,
             }),
             1,

@@ -1,32 +1,24 @@
 -- The bootstrap array, one chunk after the other.
-use Rattle.std.proofs.Common.{◌≡◌, ℕ, suc, ◌+◌, ◌-◌, ◌≤◌, Bool, true, false, cond, List, [], ◌∷◌, ◌++◌, length, take, drop, replicate, filter, Some, refl, sym, ◌∙◌, ap, arith, append_assoc, length-append, take-suc}
-use Rattle.std.specs.Prelude.{slice_get}
+use Rattle.convert_steps.proofs.Imports.{◌≡◌, ℕ, suc, ◌+◌, ◌-◌, ◌≤◌, Bool, true, false, cond, List, [], ◌∷◌, ◌++◌, length, take, drop, replicate, filter, Some, refl, sym, ◌∙◌, ap, arith, append_assoc, length-append, take-suc, slice_get, append-nil, length-replicate, replicate-append-replicate, take-append-drop, take_all, slice_get_within, get_or_from_slice_get, chunk_bytes, chunk_layout, chunk_body, chunk_item, PlannedChunk, Ids, boot_bytes, is_system_role, record_bytes}
 use Rattle.std.specs.List.{flat_map}
 use Rattle.std.proofs.lemmas.Grind.{flat_map-append}
-use Rattle.std.proofs.lemmas.List.{append-nil, length-replicate, replicate-append-replicate, take-append-drop, take_all}
 use Rattle.std.proofs.lemmas.List.Elements.{filter-append}
-use Rattle.std.proofs.lemmas.Option.{slice_get_within, get_or_from_slice_get}
-use borrow.Rule.Slice.PartMut.{put_mid}
 use Rattle.btr_tree.specs.btr_keys.Key.{key_bytes, key_layout}
 use Rattle.btr_tree.specs.btr_keys.declared.key.Key.{Key}
 use Rattle.btr_tree.proofs.btr_node.Putting.{put_is}
-use Rattle.btr_tree_writer.specs.btr_space_items.Chunk.{chunk_bytes, chunk_layout}
 use Rattle.btr_tree_writer.specs.btr_space_items.Stripe.{stripe_layout}
-use Rattle.btr_tree_writer.specs.btr_space_items.declared.chunk.Chunk.{Chunk as ChunkBody}
-use Rattle.space_items.specs.Chunks.{chunk_body, chunk_item}
-use Rattle.unit_plan.specs.declared.chunk.Chunk.{Chunk}
-use Rattle.command_answers.specs.vol_block.declared.ids.Ids.{Ids}
-use Rattle.convert_steps.specs.Superblock.{boot_bytes, is_system_role, record_bytes}
+use Rattle.btr_tree_writer.specs.btr_space_items.declared.chunk.Chunk.{Chunk}
+use borrow.Rule.Slice.PartMut.{put_mid}
 
 pub length_key : (key : Key) → length (key_bytes key) ≡ 17
 unfolding key_layout
 length_key key = refl
 
-length_chunk : (c : ChunkBody) → length c.stripe.device_uuid ≡ 16 → length (chunk_bytes c) ≡ 80
+length_chunk : (c : Chunk) → length c.stripe.device_uuid ≡ 16 → length (chunk_bytes c) ≡ 80
 unfolding chunk_layout stripe_layout
 length_chunk c uuid = omega (arith, uuid, length-append c.stripe.device_uuid [], length-append (c.stripe.device_uuid ++ []) [])
 
-pub length_record : (ids : Ids) (c : Chunk) → length ids.device ≡ 16 → length (record_bytes (chunk_item ids c)) ≡ 97
+pub length_record : (ids : Ids) (c : PlannedChunk) → length ids.device ≡ 16 → length (record_bytes (chunk_item ids c)) ≡ 97
 length_record ids c uuid =
     omega (arith, length-append (key_bytes (chunk_item ids c).0) (chunk_item ids c).1, length_key (chunk_item ids c).0, length_chunk (chunk_body ids c) uuid)
 
@@ -41,23 +33,23 @@ record_made into key body K B long short is_key is_body =
 
 module _ (ids : Ids) where
   -- what one chunk adds
-  part : Chunk → List ℕ
+  part : PlannedChunk → List ℕ
   part c = cond (is_system_role c.role) (record_bytes (chunk_item ids c)) []
 
-  boot_append : (xs ys : List Chunk) → boot_bytes ids (xs ++ ys) ≡ boot_bytes ids xs ++ boot_bytes ids ys
+  boot_append : (xs ys : List PlannedChunk) → boot_bytes ids (xs ++ ys) ≡ boot_bytes ids xs ++ boot_bytes ids ys
   boot_append xs ys =
       ap (flat_map (λ c. record_bytes (chunk_item ids c))) (filter-append (λ c. is_system_role c.role) xs ys)
       ∙ flat_map-append (λ c. record_bytes (chunk_item ids c)) (filter (λ c. is_system_role c.role) xs) (filter (λ c. is_system_role c.role) ys)
 
-  boot_one : (c : Chunk) (b : Bool) → is_system_role c.role ≡ b → boot_bytes ids (c ∷ []) ≡ cond b (record_bytes (chunk_item ids c)) []
+  boot_one : (c : PlannedChunk) (b : Bool) → is_system_role c.role ≡ b → boot_bytes ids (c ∷ []) ≡ cond b (record_bytes (chunk_item ids c)) []
   boot_one c true is = ap (λ (t : Bool). flat_map (λ d. record_bytes (chunk_item ids d)) (cond t (c ∷ []) [])) is ∙ append-nil (record_bytes (chunk_item ids c))
   boot_one c false is = ap (λ (t : Bool). flat_map (λ d. record_bytes (chunk_item ids d)) (cond t (c ∷ []) [])) is
 
-  module _ (cs : List Chunk) (i : ℕ) (c : Chunk) (at : slice_get cs i ≡ Some c) where
+  module _ (cs : List PlannedChunk) (i : ℕ) (c : PlannedChunk) (at : slice_get cs i ≡ Some c) where
     taken : take (i + 1) cs ≡ take i cs ++ c ∷ []
     taken =
         let one : i + 1 ≡ suc i = omega arith in
-        ap (λ (n : ℕ). take n cs) one ∙ (take-suc cs i c (slice_get_within cs i c at) ∙ ap (λ (d : Chunk). take i cs ++ d ∷ []) (get_or_from_slice_get cs i c c at))
+        ap (λ (n : ℕ). take n cs) one ∙ (take-suc cs i c (slice_get_within cs i c at) ∙ ap (λ (d : PlannedChunk). take i cs ++ d ∷ []) (get_or_from_slice_get cs i c c at))
 
     boot_more : (b : Bool) → is_system_role c.role ≡ b → boot_bytes ids (take (i + 1) cs) ≡ boot_bytes ids (take i cs) ++ cond b (record_bytes (chunk_item ids c)) []
     boot_more b is =
@@ -101,5 +93,5 @@ module _ (ids : Ids) where
           ∙ ap (λ (n : ℕ). boot_bytes ids (take (i + 1) cs) ++ replicate n 0) (sym behind)))
 
   -- the loop has come to the end
-  pub boot_all : (cs : List Chunk) (i : ℕ) → length cs ≤ i → boot_bytes ids (take i cs) ≡ boot_bytes ids cs
+  pub boot_all : (cs : List PlannedChunk) (i : ℕ) → length cs ≤ i → boot_bytes ids (take i cs) ≡ boot_bytes ids cs
   boot_all cs i past = ap (boot_bytes ids) (take_all i cs past)

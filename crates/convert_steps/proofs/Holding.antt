@@ -1,20 +1,5 @@
 -- What a piece holds once it was written.
-use Rattle.std.proofs.Common.{◌≡◌, ◌<◌, ℕ, ◌+◌, ◌^◌, [], length, set, Option, Some, None, Result, Ok, Err, sym, ap, ◌∙◌, get_or-set_same, arith}
-use Rattle.std.specs.Prelude.{Contains}
-use Rattle.std.specs.Result.{MatchResult}
-use Rattle.indexmap.specs.IndexMap.{keys}
-use Rattle.reiser_volume.specs.reiser_volume_contents.Answers.{IsFault}
-use Rattle.command_answers.specs.outside.History.{Image, block_at}
-use Rattle.command_answers.specs.refusals.declared.answer.VolAnswer.{VolAnswer}
-use Rattle.reiser_volume.specs.reiser_volume_files.Bytes.{tail_block}
-use Rattle.reiser_volume.specs.reiser_volume_names.Names.{inode_of}
-use Rattle.reiser_volume.specs.reiser_volume_objects.Keys.{items_of}
-use Rattle.reiser_volume.specs.reiser_volume_objects.declared.key.ObjectKey.{ObjectKey}
-use Rattle.reiser_volume.specs.Made.{stat_at}
-use Rattle.reiser_volume.specs.Volume.{volume_items}
-use Rattle.reiser_volume.specs.declared.volume.Volume.{Volume}
-use Rattle.unit_plan.specs.declared.piece.Piece.{Piece}
-use Rattle.convert_steps.specs.Moved.{HasOwner, HoldsPiece}
+use Rattle.convert_steps.proofs.Imports.{◌≡◌, ◌<◌, ℕ, ◌+◌, ◌^◌, [], length, set, Option, Some, None, Result, Ok, Err, sym, ap, ◌∙◌, get_or-set_same, arith, Contains, MatchResult, keys, IsFault, Image, block_at, VolAnswer, tail_block, ino_of_key, items_of, ObjectKey, stat_at, volume_items, Volume, Piece, HasOwner, HoldsPiece}
 
 some_same : (a b : ℕ) → (let o : Option ℕ = Some a in o) ≡ Some b → a ≡ b
 some_same a b is = cc
@@ -47,13 +32,13 @@ module _ (volume : Volume) (image new : Image) (p : Piece) where
 
   -- a tail that was written
   pub tail_holds : {T : Type 0} (result : Result T VolAnswer) (inode at : ℕ) → p.from ≡ None → p.owner ≡ Some (inode, at) → p.place < length image → HasOwner (keys volume.named) p
-      → (at < 2 ^ 52 → (key : ObjectKey) → Contains (keys volume.named) key → inode ≡ inode_of (keys volume.named) key
+      → (at < 2 ^ 52 → (key : ObjectKey) → Contains (keys volume.named) key → inode ≡ ino_of_key (keys volume.named) key
       → MatchResult result (λ _. new ≡ set image p.place (tail_block (items_of key (volume_items image)) (stat_at (volume_items image) key).fields.size at)) IsFault)
       → MatchResult result (λ _. HoldsPiece volume image new p) IsFault
   tail_holds (Ok x) inode at none own inside owned each = record {
     blocks = λ b j is few. absurd (some_never b (sym none ∙ is));
     tail = λ key k _ among owner.
-        let first : inode ≡ inode_of (keys volume.named) key = ap inode_in (sym own ∙ owner) in
+        let first : inode ≡ ino_of_key (keys volume.named) key = ap inode_in (sym own ∙ owner) in
         let second : at ≡ k = ap block_in (sym own ∙ owner) in
         let has = owned none in
         let known : at ≡ has.1 = ap block_in (sym own ∙ has.3) in

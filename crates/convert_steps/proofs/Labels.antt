@@ -1,11 +1,7 @@
 -- The bytes before the first zero.
-use Rattle.std.proofs.Common.{◌≡◌, ◌≢◌, ℕ, suc, ◌+◌, ◌-◌, ◌≤◌, ◌<◌, Bool, true, not, cond, List, [], ◌∷◌, ◌++◌, length, take, drop, get_or, replicate, sym, ◌∙◌, ap, arith, append_assoc, take-suc, min, ⊎_elim}
-use Rattle.std.specs.Prelude.{◌==◌}
-use Rattle.std.proofs.lemmas.Bool.{cases_lt, ne_eqb}
-use Rattle.std.proofs.lemmas.List.{append-nil, drop_more, drop_all, drop-replicate, take_all, take-append-le, take-replicate}
+use Rattle.convert_steps.proofs.Imports.{◌≡◌, ◌≢◌, ℕ, suc, ◌+◌, ◌-◌, ◌≤◌, ◌<◌, Bool, true, not, cond, List, [], ◌∷◌, ◌++◌, length, take, drop, get_or, replicate, sym, ◌∙◌, ap, arith, append_assoc, take-suc, min, ⊎_elim, ◌==◌, cases_lt, ne_eqb, append-nil, drop_more, drop_all, drop-replicate, take_all, take-append-le, take-replicate, before_zero, label_field}
 use Rattle.std.proofs.Math.Seq.{take-append-add}
 use Rattle.std.proofs.lemmas.List.Sums.{take_while-cons}
-use Rattle.convert_steps.specs.Making.{before_zero, label_field}
 
 -- the bytes so far are none of them zero, and the rest may be
 abbrev pub Goes : ℕ → List ℕ → Type 0

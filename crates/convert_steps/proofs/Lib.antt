@@ -13,6 +13,7 @@ pub use Rattle.space_items.proofs as space_items
 pub use Rattle.unit_plan.proofs as unit_plan
 pub mod Booting
 pub mod Holding
+pub mod Imports
 pub mod Labels
 pub mod Moving
 pub mod NewSuper

@@ -1,15 +1,5 @@
 -- What moving one piece does.
-use Rattle.std.proofs.Common.{◌≡◌, ◌≢◌, ℕ, List, set, get_or, Option, Some, None, Result, Ok, Err, sym, ◌∙◌, ap, subst}
-use Rattle.std.specs.Prelude.{slice_get}
-use Rattle.std.specs.Result.{MatchResult}
-use Rattle.std.proofs.lemmas.Option.{slice_get_within, get_or_from_slice_get}
-use Rattle.reiser_volume.specs.reiser_volume_contents.Answers.{IsFault}
-use Rattle.command_answers.specs.outside.History.{Image, History, block_at, WritesOnly}
-use Rattle.command_answers.specs.refusals.declared.answer.VolAnswer.{VolAnswer}
-use Rattle.command_answers.proofs.outside.Crash.{writes_weaker}
-use Rattle.unit_plan.specs.declared.piece.Piece.{Piece}
-use Rattle.reiser_volume.specs.reiser_volume_objects.declared.key.ObjectKey.{ObjectKey}
-use Rattle.convert_steps.specs.Moved.{HasPlace, IsMovedTo, IsPlace}
+use Rattle.convert_steps.proofs.Imports.{◌≡◌, ◌≢◌, ℕ, List, set, get_or, Option, Some, None, Result, Ok, Err, sym, ◌∙◌, ap, subst, slice_get, MatchResult, slice_get_within, get_or_from_slice_get, IsFault, Image, History, block_at, WritesOnly, VolAnswer, writes_weaker, Piece, ObjectKey, HasPlace, IsMovedTo, IsMovedPlace}
 
 -- a block that was read, written to its place
 pub copied : {T : Type 0} (result : Result T VolAnswer) (old mid new : Image) (place from : ℕ) (bytes : List ℕ) → mid ≡ old → bytes ≡ block_at old from
@@ -23,10 +13,10 @@ pub piece_only : (p : Piece) (old new : History) → p.from ≢ Some p.place →
 piece_only p old new moved only =
     writes_weaker (λ b _. b ≡ p.place) (λ b _. IsMovedTo b p) (λ b bytes is. record { moved = moved; place = sym is }) old new only
 
-pub place_only : (pieces : List Piece) (i : ℕ) (p : Piece) (old new : History) → slice_get pieces i ≡ Some p → WritesOnly (λ b _. IsMovedTo b p) old new → WritesOnly (λ b _. IsPlace pieces b) old new
+pub place_only : (pieces : List Piece) (i : ℕ) (p : Piece) (old new : History) → slice_get pieces i ≡ Some p → WritesOnly (λ b _. IsMovedTo b p) old new → WritesOnly (λ b _. IsMovedPlace pieces b) old new
 place_only pieces i p old new at only =
     let is : get_or pieces i p ≡ p = get_or_from_slice_get pieces i p p at in
-    writes_weaker (λ b _. IsMovedTo b p) (λ b _. IsPlace pieces b) (λ b bytes to. (i, p, slice_get_within pieces i p at, is, to)) old new only
+    writes_weaker (λ b _. IsMovedTo b p) (λ b _. IsMovedPlace pieces b) (λ b bytes to. (i, p, slice_get_within pieces i p at, is, to)) old new only
 
 abbrev is_none : Option ℕ → Type 0
 is_none None = Unit {0}

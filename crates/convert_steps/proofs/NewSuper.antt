@@ -1,20 +1,21 @@
 -- The fields of a new superblock.
-use Rattle.std.proofs.Common.{◌≡◌, ℕ, ◌*◌, ◌-◌, ◌++◌, List, length, replicate, ◌∙◌, ap}
+use Rattle.convert_steps.proofs.Imports.{◌≡◌, ℕ, ◌*◌, ◌-◌, ◌++◌, List, length, replicate, ◌∙◌, ap, SUPER_INFO_OFFSET, device_body, PlannedChunk, Ids, boot_bytes, features, new_super}
+use Rattle.btrfs_format.specs.declared.flag.TheConstants.{HEADER_FLAG_WRITTEN}
+use Rattle.btrfs_format.specs.declared.object.TheConstants.{ROOT_TREE_DIR_OBJECTID}
+use Rattle.btrfs_format.specs.declared.size.TheConstants.{SYSTEM_CHUNK_ARRAY_SIZE}
 use Rattle.btr_tree_writer.specs.btr_space_items.declared.device.Device.{Device}
 use Rattle.btr_super.specs.declared.superblock.Super.{Super}
-use Rattle.space_items.specs.Chunks.{device_body}
-use Rattle.unit_plan.specs.declared.chunk.Chunk.{Chunk}
-use Rattle.command_answers.specs.vol_block.declared.ids.Ids.{Ids}
-use Rattle.convert_steps.specs.Superblock.{boot_bytes, features, new_super}
+use Rattle.btr_super.specs.Sums.{csum_number}
+use Rattle.btr_tree.specs.csum_kinds.declared.kind.SumKind.{SumKind}
 use Rattle.convert_steps.specs.declared.fields.NewRoots.{NewRoots}
 
-module _ (ids : Ids) (blocks nodesize : ℕ) (label : List ℕ) (roots : NewRoots) where
+module _ (ids : Ids) (blocks nodesize : ℕ) (sums : SumKind) (label : List ℕ) (roots : NewRoots) where
   -- with what is computed for it
-  abbrev pub by_parts : List ℕ → ℕ → ℕ → Device → Super
-  by_parts array size incompat device = record {
+  abbrev pub by_parts : List ℕ → ℕ → ℕ → ℕ → Device → Super
+  by_parts array size incompat kind device = record {
     fsid = ids.fsid;
-    bytenr = 65536;
-    flags = 1;
+    bytenr = SUPER_INFO_OFFSET;
+    flags = HEADER_FLAG_WRITTEN;
     generation = 1;
     root = roots.root.address;
     chunk_root = roots.chunk.address;
@@ -22,7 +23,7 @@ module _ (ids : Ids) (blocks nodesize : ℕ) (label : List ℕ) (roots : NewRoot
     log_root_transid = 0;
     total_bytes = 4096 * blocks;
     bytes_used = roots.used;
-    root_dir_objectid = 6;
+    root_dir_objectid = ROOT_TREE_DIR_OBJECTID;
     num_devices = 1;
     sectorsize = 4096;
     nodesize = nodesize;
@@ -33,7 +34,7 @@ module _ (ids : Ids) (blocks nodesize : ℕ) (label : List ℕ) (roots : NewRoot
     compat = 0;
     compat_ro = 0;
     incompat = incompat;
-    csum_type = 0;
+    csum_type = kind;
     root_level = roots.root.level;
     chunk_root_level = roots.chunk.level;
     log_root_level = 0;
@@ -41,18 +42,20 @@ module _ (ids : Ids) (blocks nodesize : ℕ) (label : List ℕ) (roots : NewRoot
     label = label;
     cache_generation = 0;
     uuid_tree_generation = 0;
+    metadata_uuid = replicate 16 0;
     sys_chunk_array = array;
     backup_roots = replicate 672 0;
   }
 
-  pub fields_are : (chunks list : List Chunk) (array : List ℕ) (size incompat : ℕ) (device : Device) → chunks ≡ list
-      → array ≡ boot_bytes ids chunks ++ replicate (2048 - length (boot_bytes ids chunks)) 0 → size ≡ length (boot_bytes ids chunks)
-      → incompat ≡ features nodesize → device ≡ device_body ids blocks chunks
-      → by_parts array size incompat device ≡ new_super ids blocks nodesize label list roots
+  pub fields_are : (chunks list : List PlannedChunk) (array : List ℕ) (size incompat kind : ℕ) (device : Device) → chunks ≡ list
+      → array ≡ boot_bytes ids chunks ++ replicate (SYSTEM_CHUNK_ARRAY_SIZE - length (boot_bytes ids chunks)) 0 → size ≡ length (boot_bytes ids chunks)
+      → incompat ≡ features nodesize → kind ≡ csum_number sums → device ≡ device_body ids blocks chunks
+      → by_parts array size incompat kind device ≡ new_super ids blocks nodesize sums label list roots
   unfolding new_super
-  fields_are chunks list array size incompat device same array_is size_is incompat_is device_is =
-      ap (λ (a : List ℕ). by_parts a size incompat device) array_is
-      ∙ (ap (λ (n : ℕ). by_parts (boot_bytes ids chunks ++ replicate (2048 - length (boot_bytes ids chunks)) 0) n incompat device) size_is
-      ∙ (ap (λ (n : ℕ). by_parts (boot_bytes ids chunks ++ replicate (2048 - length (boot_bytes ids chunks)) 0) (length (boot_bytes ids chunks)) n device) incompat_is
-      ∙ (ap (λ (d : Device). by_parts (boot_bytes ids chunks ++ replicate (2048 - length (boot_bytes ids chunks)) 0) (length (boot_bytes ids chunks)) (features nodesize) d) device_is
-      ∙ ap (λ (cs : List Chunk). new_super ids blocks nodesize label cs roots) same)))
+  fields_are chunks list array size incompat kind device same array_is size_is incompat_is kind_is device_is =
+      ap (λ (a : List ℕ). by_parts a size incompat kind device) array_is
+      ∙ (ap (λ (n : ℕ). by_parts (boot_bytes ids chunks ++ replicate (SYSTEM_CHUNK_ARRAY_SIZE - length (boot_bytes ids chunks)) 0) n incompat kind device) size_is
+      ∙ (ap (λ (n : ℕ). by_parts (boot_bytes ids chunks ++ replicate (SYSTEM_CHUNK_ARRAY_SIZE - length (boot_bytes ids chunks)) 0) (length (boot_bytes ids chunks)) n kind device) incompat_is
+      ∙ (ap (λ (n : ℕ). by_parts (boot_bytes ids chunks ++ replicate (SYSTEM_CHUNK_ARRAY_SIZE - length (boot_bytes ids chunks)) 0) (length (boot_bytes ids chunks)) (features nodesize) n device) kind_is
+      ∙ (ap (λ (d : Device). by_parts (boot_bytes ids chunks ++ replicate (SYSTEM_CHUNK_ARRAY_SIZE - length (boot_bytes ids chunks)) 0) (length (boot_bytes ids chunks)) (features nodesize) (csum_number sums) d) device_is
+      ∙ ap (λ (cs : List PlannedChunk). new_super ids blocks nodesize sums label cs roots) same))))

@@ -1,111 +1,105 @@
 -- What a crash leaves in each phase of the switch.
-use Rattle.std.proofs.Common.{◌≡◌, ◌≢◌, ◌⊎◌, inl, inr, ⊎_elim, ℕ, ◌<◌, List, [], length, set, Result, Ok, Err, OnOk, refl, sym, ◌∙◌, ap, subst, arith, get_or-set_same, get_or-set_other}
-use Rattle.std.proofs.lemmas.List.{length-set, ext_get_or}
-use Rattle.command_answers.specs.outside.History.{Image, History, block_at, reads, clock, IsSettled, IsBlock, LeftSince, WritesBlock, WritesOnly}
-use Rattle.command_answers.proofs.outside.Crash.{left_each, reads_only, write_only, writes_length, writes_then, writes_weaker}
-use Rattle.command_answers.proofs.outside.Phases.{only_not, set_stands, write_reads}
-use Rattle.btr_super.specs.Super.{mirror_bytes}
-use Rattle.convert_steps.specs.Switch.{IsMirror, IsCopy, IsCopyAt, IsPart, IsSwitched, HasCopies}
+use Rattle.convert_steps.proofs.Imports.{◌≡◌, ◌≢◌, ◌⊎◌, inl, inr, ⊎_elim, ℕ, ◌+◌, ◌<◌, List, [], length, set, Result, Ok, Err, OnOk, refl, sym, ◌∙◌, ap, subst, arith, get_or-set_same, get_or-set_other, length-set, ext_get_or, FIRST_MIRROR, SECOND_MIRROR, SUPER_BLOCK, Image, History, block_at, reads, clock, IsSettled, IsBlock, LeftSince, WritesBlock, WritesOnly, left_each, reads_only, write_only, writes_length, writes_then, writes_weaker, only_not, set_stands, write_reads, mirror_bytes, IsMirror, IsMirrorOf, IsCopy, IsCopyAt, IsSwitchPart, IsSwitched, HasCopies}
 
 not_mirror : ¬ IsMirror 16
 not_mirror mirror = ⊎_elim (λ eq. omega (arith, eq)) (λ eq. omega (arith, eq)) mirror
 
 -- block 16 differs, and no other
-switched : (superblock : List ℕ) (old image : Image) → length image ≡ length old → block_at image 16 ≡ superblock
-    → ((b : ℕ) → b ≢ 16 → block_at image b ≡ block_at old b) → IsSwitched superblock old image
-switched superblock old image size is others = record {
+switched : (superblock : List ℕ) (blocks : ℕ) (old image : Image) → length image ≡ length old → block_at image SUPER_BLOCK ≡ superblock
+    → ((b : ℕ) → b ≢ 16 → block_at image b ≡ block_at old b) → IsSwitched superblock blocks old image
+switched superblock blocks old image size is others = record {
   size = size;
   superblock_is = is;
   others = λ b not_superblock _. others b not_superblock;
 }
 
 -- while the superblock waits
-pub superblock_crash : (superblock : List ℕ) (h₀ h₁ : History) → IsSettled h₀ → WritesOnly (IsBlock 16 superblock) h₀ h₁ → (image : Image) → LeftSince (clock h₀) h₁ image
-    → (image ≡ reads h₀) ⊎ IsSwitched superblock (reads h₀) image
-superblock_crash superblock h₀ h₁ settled only image left =
+pub superblock_crash : (superblock : List ℕ) (blocks : ℕ) (h₀ h₁ : History) → IsSettled h₀ → WritesOnly (IsBlock 16 superblock) h₀ h₁ → (image : Image) → LeftSince (clock h₀) h₁ image
+    → (image ≡ reads h₀) ⊎ IsSwitched superblock blocks (reads h₀) image
+superblock_crash superblock blocks h₀ h₁ settled only image left =
     let each = left_each (IsBlock 16 superblock) h₀ h₁ settled only image left in
     let others : (b : ℕ) → b ≢ 16 → block_at image b ≡ block_at (reads h₀) b = only_not 16 superblock image (reads h₀) each.1 in
     ⊎_elim
     (λ same. inl (ext_get_or [] image (reads h₀) each.0 (λ b below.
     ⊎_elim (λ kept. kept) (λ is. subst (λ (n : ℕ). block_at image n ≡ block_at (reads h₀) n) (sym is.0) same) (each.1 b))))
-    (λ is. inr (switched superblock (reads h₀) image each.0 is.1 others))
+    (λ is. inr (switched superblock blocks (reads h₀) image each.0 is.1 others))
     (each.1 16)
 
 -- the superblock stands
-pub superblock_stands : (superblock : List ℕ) (h₀ h₁ : History) → 16 < length (reads h₀) → reads h₁ ≡ set (reads h₀) 16 superblock → IsSwitched superblock (reads h₀) (reads h₁)
-superblock_stands superblock h₀ h₁ long is =
-    switched superblock (reads h₀) (reads h₁)
+pub superblock_stands : (superblock : List ℕ) (blocks : ℕ) (h₀ h₁ : History) → 16 < length (reads h₀) → reads h₁ ≡ set (reads h₀) 16 superblock → IsSwitched superblock blocks (reads h₀) (reads h₁)
+superblock_stands superblock blocks h₀ h₁ long is =
+    switched superblock blocks (reads h₀) (reads h₁)
     (ap (λ (image : Image). length image) is ∙ length-set (reads h₀) 16 superblock)
-    (ap (λ (image : Image). block_at image 16) is ∙ get_or-set_same (reads h₀) 16 superblock [] long)
+    (ap (λ (image : Image). block_at image SUPER_BLOCK) is ∙ get_or-set_same (reads h₀) 16 superblock [] long)
     (λ b not. ap (λ (image : Image). block_at image b) is ∙ get_or-set_other (reads h₀) 16 b superblock [] not)
 
 -- what differs in the copies' blocks alone is switched too
 module _ (superblock : List ℕ) (blocks : ℕ) (old : Image) where
-  stays : (image mid : Image) → IsSwitched superblock old mid → length image ≡ length mid
-      → ((b : ℕ) → (block_at image b ≡ block_at mid b) ⊎ IsCopy superblock blocks b (block_at image b)) → IsSwitched superblock old image
+  stays : (image mid : Image) → IsSwitched superblock blocks old mid → length image ≡ length mid
+      → ((b : ℕ) → (block_at image b ≡ block_at mid b) ⊎ IsCopy superblock blocks b (block_at image b)) → IsSwitched superblock blocks old image
   stays image mid is size each = record {
     size = size ∙ is.size;
-    superblock_is = same 16 not_mirror ∙ is.superblock_is;
+    superblock_is = same 16 (λ mirror. not_mirror mirror.0) ∙ is.superblock_is;
     others = λ b not_superblock outside. same b outside ∙ is.others b not_superblock outside;
   }
     where
-      same : (b : ℕ) → ¬ IsMirror b → block_at image b ≡ block_at mid b
-      same b outside = ⊎_elim (λ kept. kept) (λ copy. absurd (outside copy.mirror)) (each b)
+      same : (b : ℕ) → ¬ IsMirrorOf blocks b → block_at image b ≡ block_at mid b
+      same b outside = ⊎_elim (λ kept. kept) (λ copy. absurd (outside (copy.mirror, copy.within))) (each b)
 
   -- once the superblock is on the disk, and copies may wait
-  pub copies_crash : (h₁ h₂ : History) → IsSettled h₁ → IsSwitched superblock old (reads h₁) → WritesOnly (IsCopy superblock blocks) h₁ h₂
-      → (image : Image) → LeftSince (clock h₁) h₂ image → IsSwitched superblock old image
+  pub copies_crash : (h₁ h₂ : History) → IsSettled h₁ → IsSwitched superblock blocks old (reads h₁) → WritesOnly (IsCopy superblock blocks) h₁ h₂
+      → (image : Image) → LeftSince (clock h₁) h₂ image → IsSwitched superblock blocks old image
   copies_crash h₁ h₂ settled is only image since =
       let each = left_each (IsCopy superblock blocks) h₁ h₂ settled only image since in
       stays image (reads h₁) is each.0 each.1
 
-  pub copies_stand : (h₁ h₂ : History) → IsSwitched superblock old (reads h₁) → WritesOnly (IsCopy superblock blocks) h₁ h₂ → IsSwitched superblock old (reads h₂)
+  pub copies_stand : (h₁ h₂ : History) → IsSwitched superblock blocks old (reads h₁) → WritesOnly (IsCopy superblock blocks) h₁ h₂ → IsSwitched superblock blocks old (reads h₂)
   copies_stand h₁ h₂ is only =
       stays (reads h₂) (reads h₁) is (writes_length (IsCopy superblock blocks) h₁ h₂ only) (reads_only (IsCopy superblock blocks) h₁ h₂ only)
 
 -- what each phase writes is part of what the switch writes
 module _ (superblock : List ℕ) (blocks : ℕ) where
-  pub superblock_part : (h₀ h₁ : History) → WritesOnly (IsBlock 16 superblock) h₀ h₁ → WritesOnly (IsPart superblock blocks) h₀ h₁
-  superblock_part h₀ h₁ = writes_weaker (IsBlock 16 superblock) (IsPart superblock blocks) (λ b bytes is. inl is) h₀ h₁
+  pub superblock_part : (h₀ h₁ : History) → WritesOnly (IsBlock 16 superblock) h₀ h₁ → WritesOnly (IsSwitchPart superblock blocks) h₀ h₁
+  superblock_part h₀ h₁ = writes_weaker (IsBlock 16 superblock) (IsSwitchPart superblock blocks) (λ b bytes is. inl is) h₀ h₁
 
-  pub copies_part : (h₀ h₁ h₂ : History) → WritesOnly (IsBlock 16 superblock) h₀ h₁ → WritesOnly (IsCopy superblock blocks) h₁ h₂ → WritesOnly (IsPart superblock blocks) h₀ h₂
+  pub copies_part : (h₀ h₁ h₂ : History) → WritesOnly (IsBlock 16 superblock) h₀ h₁ → WritesOnly (IsCopy superblock blocks) h₁ h₂ → WritesOnly (IsSwitchPart superblock blocks) h₀ h₂
   copies_part h₀ h₁ h₂ first then =
-      writes_then (IsPart superblock blocks) h₀ h₁ h₂ (superblock_part h₀ h₁ first)
-      (writes_weaker (IsCopy superblock blocks) (IsPart superblock blocks) (λ b bytes is. inr is) h₁ h₂ then)
+      writes_then (IsSwitchPart superblock blocks) h₀ h₁ h₂ (superblock_part h₀ h₁ first)
+      (writes_weaker (IsCopy superblock blocks) (IsSwitchPart superblock blocks) (λ b bytes is. inr is) h₁ h₂ then)
 
   pub copy_part : (place : ℕ) (h₀ h₁ : History) → WritesOnly (IsCopyAt place superblock blocks) h₀ h₁ → WritesOnly (IsCopy superblock blocks) h₀ h₁
   copy_part place h₀ h₁ = writes_weaker (IsCopyAt place superblock blocks) (IsCopy superblock blocks) (λ b bytes is. is.1) h₀ h₁
 
   -- both copies stand
-  pub both_stand : (h₀ h₁ h₂ : History) → (16384 < blocks → block_at (reads h₁) 16384 ≡ mirror_bytes 16384 superblock)
-      → (67108864 < blocks → block_at (reads h₂) 67108864 ≡ mirror_bytes 67108864 superblock)
-      → WritesOnly (IsCopyAt 67108864 superblock blocks) h₁ h₂ → HasCopies superblock blocks (reads h₂)
+  pub both_stand : (h₀ h₁ h₂ : History) → (FIRST_MIRROR + 1 < blocks → block_at (reads h₁) FIRST_MIRROR ≡ mirror_bytes FIRST_MIRROR superblock)
+      → (SECOND_MIRROR + 1 < blocks → block_at (reads h₂) SECOND_MIRROR ≡ mirror_bytes SECOND_MIRROR superblock)
+      → WritesOnly (IsCopyAt SECOND_MIRROR superblock blocks) h₁ h₂ → HasCopies superblock blocks (reads h₂)
   both_stand h₀ h₁ h₂ one two only b mirror below =
       ⊎_elim first second mirror
     where
-      first : b ≡ 16384 → block_at (reads h₂) b ≡ mirror_bytes b superblock
+      first : b ≡ FIRST_MIRROR → block_at (reads h₂) b ≡ mirror_bytes b superblock
       first eq =
-          let long : 16384 < blocks = omega (arith, eq, below) in
-          let kept : block_at (reads h₂) 16384 ≡ block_at (reads h₁) 16384 =
-          ⊎_elim (λ same. same) (λ is. absurd (omega (arith, is.0))) (reads_only (IsCopyAt 67108864 superblock blocks) h₁ h₂ only 16384) in
+          let long : FIRST_MIRROR + 1 < blocks = omega (arith, eq, below) in
+          let kept : block_at (reads h₂) FIRST_MIRROR ≡ block_at (reads h₁) FIRST_MIRROR =
+          ⊎_elim (λ same. same) (λ is. absurd (omega (arith, is.0))) (reads_only (IsCopyAt SECOND_MIRROR superblock blocks) h₁ h₂ only FIRST_MIRROR) in
           subst (λ (n : ℕ). block_at (reads h₂) n ≡ mirror_bytes n superblock) (sym eq) (kept ∙ one long)
 
-      second : b ≡ 67108864 → block_at (reads h₂) b ≡ mirror_bytes b superblock
+      second : b ≡ SECOND_MIRROR → block_at (reads h₂) b ≡ mirror_bytes b superblock
       second eq =
-          let long : 67108864 < blocks = omega (arith, eq, below) in
+          let long : SECOND_MIRROR + 1 < blocks = omega (arith, eq, below) in
           subst (λ (n : ℕ). block_at (reads h₂) n ≡ mirror_bytes n superblock) (sym eq) (two long)
 
   -- one copy was written, or its write failed
   module _ (place : ℕ) (bytes : List ℕ) (h₀ h₁ : History) {T E : Type 0} (result : Result T E) where
-    pub copy_only : IsMirror place → place < blocks → bytes ≡ mirror_bytes place superblock → WritesBlock h₀ place bytes result h₁ → WritesOnly (IsCopyAt place superblock blocks) h₀ h₁
+    pub copy_only : IsMirror place → place + 1 < blocks → bytes ≡ mirror_bytes place superblock → WritesBlock h₀ place bytes result h₁ → WritesOnly (IsCopyAt place superblock blocks) h₀ h₁
     copy_only mirror within is did =
         write_only (IsCopyAt place superblock blocks) h₀ h₁ place bytes result (refl, record { mirror = mirror; within = within; bytes_are = is }) did
 
     pub copy_stands : place < length (reads h₀) → bytes ≡ mirror_bytes place superblock → WritesBlock h₀ place bytes result h₁
-        → OnOk result (place < blocks → block_at (reads h₁) place ≡ mirror_bytes place superblock)
+        → OnOk result (place + 1 < blocks → block_at (reads h₁) place ≡ mirror_bytes place superblock)
     copy_stands long is did =
         on_then result (set_stands result (reads h₀) (reads h₁) place bytes long (write_reads h₀ h₁ place bytes result did))
       where
-        on_then : (r : Result T E) → OnOk r (block_at (reads h₁) place ≡ bytes) → OnOk r (place < blocks → block_at (reads h₁) place ≡ mirror_bytes place superblock)
+        on_then : (r : Result T E) → OnOk r (block_at (reads h₁) place ≡ bytes) → OnOk r (place + 1 < blocks → block_at (reads h₁) place ≡ mirror_bytes place superblock)
         on_then (Ok x) stands = λ below. stands ∙ is
         on_then (Err e) stands = tt

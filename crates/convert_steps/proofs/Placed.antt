@@ -1,25 +1,13 @@
 -- The object that has an inode number.
-use Rattle.std.proofs.Common.{◌≡◌, ◌<◌, ◌≤◌, ℕ, ◌+◌, ◌-◌, List, length, Option, Some, sym, ap, subst, ◌∙◌, ⊎_elim, arith}
-use Rattle.std.specs.Prelude.{Contains, slice_get}
-use Rattle.std.proofs.lemmas.Bool.{cases_lt}
-use Rattle.std.proofs.lemmas.Option.{slice_get-get_or, slice_get_within}
-use Rattle.indexmap.specs.IndexMap.{keys}
-use Rattle.command_answers.specs.outside.History.{Image}
+use Rattle.convert_steps.proofs.Imports.{◌≡◌, ◌<◌, ◌≤◌, ℕ, ◌+◌, ◌-◌, List, length, Option, Some, sym, ap, subst, ◌∙◌, ⊎_elim, arith, Contains, slice_get, cases_lt, slice_get-get_or, slice_get_within, keys, Image, ino_of_key, ObjectKey, root, AreNumbered, by_inode, IsOpened, IsAccepted, Volume}
 use Rattle.extent_pieces.proofs.Named.{numbered}
-use Rattle.reiser_volume.specs.reiser_volume_names.Names.{inode_of}
-use Rattle.reiser_volume.specs.reiser_volume_objects.declared.key.ObjectKey.{ObjectKey}
-use Rattle.reiser_volume.specs.reiser_volume_objects.Keys.{root}
-use Rattle.reiser_volume.specs.Numbers.{AreNumbered, by_inode}
-use Rattle.reiser_volume.specs.Opened.{IsOpened}
-use Rattle.reiser_volume.specs.Volume.{IsAccepted}
-use Rattle.reiser_volume.specs.declared.volume.Volume.{Volume}
 use Rattle.reiser_volume.proofs.Numbered.{inode_of_root, inode_before, inode_behind, place_before, place_behind}
 
 -- a named key has an inode, and by that its place
 pub record IsNumbered (keys : List ObjectKey) (key : ObjectKey) : Type 0 where
-  pub low : 256 ≤ inode_of keys key
-  pub few : inode_of keys key - 256 < length keys
-  pub there : slice_get (by_inode keys) (inode_of keys key - 256) ≡ Some key
+  pub low : 256 ≤ ino_of_key keys key
+  pub few : ino_of_key keys key - 256 < length keys
+  pub there : slice_get (by_inode keys) (ino_of_key keys key - 256) ≡ Some key
 
 module _ (keys : List ObjectKey) (at : ℕ) (are : AreNumbered at keys) (i : ℕ) (key : ObjectKey) (there : slice_get keys i ≡ Some key) where
   within : i < length keys
@@ -28,9 +16,9 @@ module _ (keys : List ObjectKey) (at : ℕ) (are : AreNumbered at keys) (i : ℕ
   root_within : at < length keys
   root_within = slice_get_within keys at root are.has_root
 
-  by : (n : ℕ) → inode_of keys key ≡ 256 + n → n < length keys → slice_get (by_inode keys) n ≡ Some key → IsNumbered keys key
+  by : (n : ℕ) → ino_of_key keys key ≡ 256 + n → n < length keys → slice_get (by_inode keys) n ≡ Some key → IsNumbered keys key
   by n is few found =
-      let same : n ≡ inode_of keys key - 256 = omega (arith, is) in
+      let same : n ≡ ino_of_key keys key - 256 = omega (arith, is) in
       record { low = omega (arith, is); few = omega (arith, is, few); there = subst (λ (m : ℕ). slice_get (by_inode keys) m ≡ Some key) same found }
 
   at_root : i ≡ at → IsNumbered keys key

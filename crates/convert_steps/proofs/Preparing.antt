@@ -1,32 +1,21 @@
 -- What is decided before the first write.
-use Rattle.std.proofs.Common.{◌≡◌, ℕ, Bool, List, Result, Err, sym, ap, subst, ◌∙◌, arith}
-use Rattle.indexmap.specs.IndexMap.{keys}
-use Rattle.reiser_volume.specs.reiser_volume_contents.Answers.{IsFaultOrMemory}
+use Rattle.convert_steps.proofs.Imports.{◌≡◌, ℕ, Bool, List, Result, Err, sym, ap, subst, ◌∙◌, arith, keys, IsFaultOrMemory, Image, VolAnswer, IsOpened, links_in, IsAccepted, used_of, Volume, HasEnoughSpace, IsAnswer, IsPlan, TellsSpace, AreSmall, need as need_of, Counts, IsPrepareAnswer, RefusesConversion, by_plan}
 use Rattle.command_answers.specs.outside.Fault.{HasCauseOf}
-use Rattle.command_answers.specs.outside.History.{Image}
 use Rattle.command_answers.specs.Answers.{of_volume}
 use Rattle.command_answers.specs.declared.answer.Answer.{Answer}
-use Rattle.command_answers.specs.declared.answer.Answer.TheVariants as answer
-use Rattle.command_answers.specs.refusals.declared.answer.VolAnswer.{VolAnswer}
-use Rattle.command_answers.specs.refusals.declared.answer.VolAnswer.TheVariants as vol
 use Rattle.extent_pieces.specs.Found.{IsFound}
 use Rattle.extent_pieces.specs.Laws.{HasPlan}
 use Rattle.extent_pieces.specs.Placed.{FitsPlan, IsCounted}
 use Rattle.extent_pieces.specs.declared.pieces.Pieces.{Pieces}
 use Rattle.extent_pieces.proofs.Fitting.{counted_pieces_fit}
 use Rattle.reiser_volume.specs.Answers.{RefusesVolume}
-use Rattle.reiser_volume.specs.Opened.{IsOpened, links_in}
-use Rattle.reiser_volume.specs.Volume.{IsAccepted, used_of}
-use Rattle.reiser_volume.specs.declared.volume.Volume.{Volume}
-use Rattle.unit_plan.specs.Choice.{HasEnoughSpace, IsAnswer, IsPlan, TellsSpace}
-use Rattle.unit_plan.specs.Needed.{AreSmall, need as need_of}
-use Rattle.unit_plan.specs.declared.counts.Counts.{Counts}
 use Rattle.unit_plan.specs.declared.need.Need.{Need}
 use Rattle.convert_options.specs.declared.options.Options.{Options}
 use Rattle.unit_plan.specs.declared.plan.Plan.{Plan}
 use Rattle.unit_plan.specs.declared.plan.PlanAnswer.{PlanAnswer}
+use Rattle.command_answers.specs.declared.answer.Answer.TheVariants as answer
+use Rattle.command_answers.specs.refusals.declared.answer.VolAnswer.TheVariants as vol
 use Rattle.unit_plan.specs.declared.plan.PlanAnswer.TheVariants as plan
-use Rattle.convert_steps.specs.Prepared.{IsPrepareAnswer, RefusesConversion, by_plan}
 
 pub by_open : (image : Image) (o : Options) (a : VolAnswer) → RefusesVolume image a → RefusesConversion image o (of_volume a)
 by_open image o (vol.Refused r) h = h

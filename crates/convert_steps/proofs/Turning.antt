@@ -1,26 +1,11 @@
 -- Pieces that are written one after the other hold what they are to hold.
-use Rattle.std.proofs.Common.{◌≡◌, ◌≢◌, ◌<◌, ◌≤◌, ◌⊎◌, ℕ, ◌+◌, Bool, true, false, List, length, get_or, Option, Some, refl, sym, ap, subst, ◌∙◌, true≢false, ⊎_elim, inl, inr, arith}
-use Rattle.std.specs.Prelude.{Contains, slice_get}
-use Rattle.std.proofs.lemmas.Bool.{cases_lt}
-use Rattle.std.proofs.lemmas.List.{get_or_past}
-use Rattle.std.proofs.lemmas.Option.{slice_get_within, slice_get-get_or, get_or_from_slice_get}
+use Rattle.convert_steps.proofs.Imports.{◌≡◌, ◌≢◌, ◌<◌, ◌≤◌, ◌⊎◌, ℕ, ◌+◌, Bool, true, false, List, length, get_or, Option, Some, refl, sym, ap, subst, ◌∙◌, true≢false, ⊎_elim, inl, inr, arith, Contains, slice_get, cases_lt, get_or_past, slice_get_within, slice_get-get_or, get_or_from_slice_get, Image, History, WritesOnly, block_at, reads, writes_length, reads_outside, tail_block, items_of, stat_at, IsOpened, used_of, Volume, Piece, CanMove, CanWrite, HoldMoved, HoldsPiece, IsMovedTo, IsMovedPlace}
 use Rattle.reiser_volume.specs.reiser_volume_contents.Laws.{SameUsed}
-use Rattle.command_answers.specs.outside.History.{Image, History, WritesOnly, block_at, reads}
-use Rattle.command_answers.proofs.outside.Crash.{writes_length}
-use Rattle.command_answers.proofs.outside.Phases.{reads_outside}
 use Rattle.reiser_volume.specs.reiser_bitmap.Bits.{has}
-use Rattle.reiser_volume.specs.reiser_volume_files.Bytes.{tail_block}
-use Rattle.reiser_volume.specs.reiser_volume_objects.Keys.{items_of}
 use Rattle.reiser_volume.specs.Laws.{IsSameVolume}
-use Rattle.reiser_volume.specs.Made.{stat_at}
-use Rattle.reiser_volume.specs.Opened.{IsOpened}
-use Rattle.reiser_volume.specs.Volume.{used_of}
-use Rattle.reiser_volume.specs.declared.volume.Volume.{Volume}
 use Rattle.reiser_volume.proofs.Holding.{used_length}
 use Rattle.reiser_volume.proofs.Unchanged.{opened_same, same_volume}
-use Rattle.reiser_volume.specs.reiser_walk.Items.{Item}
-use Rattle.unit_plan.specs.declared.piece.Piece.{Piece}
-use Rattle.convert_steps.specs.Moved.{CanMove, CanWrite, HoldMoved, HoldsPiece, IsMovedTo, IsPlace}
+use Rattle.reiser_volume.specs.reiser_walk.Items.{ReiserItem}
 use Rattle.convert_steps.proofs.Moving.{copy_moves, tail_moves}
 
 has_within : (set : List Bool) (b : ℕ) → has set b ≡ true → b < length set
@@ -29,12 +14,12 @@ has_within set b is = ⊎_elim (λ (less : b < length set). less) (λ (past : le
 -- all blocks but the places of the pieces are as they were
 pub record IsKept (pieces : List Piece) (image cur : Image) : Type 0 where
   pub size : length cur ≡ length image
-  pub others : (b : ℕ) → (IsPlace pieces b → ⊥) → block_at cur b ≡ block_at image b
+  pub others : (b : ℕ) → (IsMovedPlace pieces b → ⊥) → block_at cur b ≡ block_at image b
 
-pub kept_by : (pieces : List Piece) (image : Image) (old new : History) → reads old ≡ image → WritesOnly (λ b _. IsPlace pieces b) old new → IsKept pieces image (reads new)
+pub kept_by : (pieces : List Piece) (image : Image) (old new : History) → reads old ≡ image → WritesOnly (λ b _. IsMovedPlace pieces b) old new → IsKept pieces image (reads new)
 kept_by pieces image old new is only = record {
-  size = writes_length (λ b _. IsPlace pieces b) old new only ∙ ap (λ (i : Image). length i) is;
-  others = λ b outside. reads_outside (IsPlace pieces) old new only b outside ∙ ap (λ (i : Image). block_at i b) is;
+  size = writes_length (λ b _. IsMovedPlace pieces b) old new only ∙ ap (λ (i : Image). length i) is;
+  others = λ b outside. reads_outside (IsMovedPlace pieces) old new only b outside ∙ ap (λ (i : Image). block_at i b) is;
 }
 
 -- so many pieces hold what they are to hold
@@ -53,7 +38,7 @@ module _ (volume : Volume) (image : Image) (pieces : List Piece) (can : CanMove 
   single_at : (i : ℕ) (p : Piece) → slice_get pieces i ≡ Some p → p.from ≢ Some p.place → p.count ≡ 1
   single_at i p at = subst (λ (q : Piece). q.from ≢ Some q.place → q.count ≡ 1) (get_or_from_slice_get pieces i p p at) (can.single i p (slice_get_within pieces i p at))
 
-  place_at : (i : ℕ) (p : Piece) → slice_get pieces i ≡ Some p → p.from ≢ Some p.place → IsPlace pieces p.place
+  place_at : (i : ℕ) (p : Piece) → slice_get pieces i ≡ Some p → p.from ≢ Some p.place → IsMovedPlace pieces p.place
   place_at i p at moved = (i, p, slice_get_within pieces i p at, get_or_from_slice_get pieces i p p at, record { moved = moved; place = refl })
 
   apart_at : (j i : ℕ) (q p : Piece) → j < i → slice_get pieces j ≡ Some q → slice_get pieces i ≡ Some p → q.from ≢ Some q.place → p.from ≢ Some p.place → q.place ≢ p.place
@@ -113,7 +98,7 @@ module _ (volume : Volume) (image : Image) (pieces : List Piece) (can : CanMove 
       blocks = λ b k from few. holds.blocks b k from few ∙ used_stays cur kept (b + k) (can.sources p b k (among i p at) from few);
       tail = λ key k none named owner.
           holds.tail key k none named owner
-          ∙ ap (λ (items : List Item). tail_block (items_of key items) (stat_at items key).fields.size k) (same_at cur kept).items;
+          ∙ ap (λ (items : List ReiserItem). tail_block (items_of key items) (stat_at items key).fields.size k) (same_at cur kept).items;
     }
 
     pub held_more : HoldsPiece volume cur new p → Held volume image cur pieces i → Held volume image new pieces (i + 1)

@@ -10,7 +10,7 @@ use Rattle.reiser_volume.specs.Opened.{links_in}
 use Rattle.reiser_volume.specs.declared.volume.Volume.{Volume}
 use Rattle.unit_plan.specs.Chunks.{AreChunks}
 use Rattle.unit_plan.specs.Places.{node_places}
-use Rattle.unit_plan.specs.declared.chunk.Chunk.{Chunk}
+use Rattle.unit_plan.specs.declared.chunk.PlannedChunk.{PlannedChunk}
 use Rattle.convert_options.specs.Identifier.{is_nil}
 use Rattle.convert_options.specs.declared.options.LabelChoice.{LabelChoice}
 use Rattle.convert_options.specs.declared.options.LabelChoice.TheVariants as label
@@ -51,7 +51,7 @@ pub record Making : Type 0 where
   pub now : ℕ
   pub plan : Plan
   pub pieces : List Piece
-  pub chunks : List Chunk
+  pub chunks : List PlannedChunk
 
 -- It is one of the volume in these blocks.
 pub record IsMaking (image : Image) (m : Making) : Type 0 where

@@ -4,7 +4,7 @@ use Rattle.indexmap.specs.IndexMap.{keys}
 use Rattle.command_answers.specs.outside.History.{Image, block_at}
 use Rattle.reiser_volume.specs.reiser_bitmap.Bits.{has}
 use Rattle.reiser_volume.specs.reiser_volume_files.Bytes.{tail_block}
-use Rattle.reiser_volume.specs.reiser_volume_names.Names.{inode_of}
+use Rattle.reiser_volume.specs.reiser_volume_names.Names.{ino_of_key}
 use Rattle.reiser_volume.specs.reiser_volume_objects.Keys.{items_of}
 use Rattle.reiser_volume.specs.reiser_volume_objects.declared.key.ObjectKey.{ObjectKey}
 use Rattle.reiser_volume.specs.Made.{stat_at}
@@ -20,12 +20,12 @@ pub record IsMovedTo (b : ℕ) (p : Piece) : Type 0 where
   pub place : p.place ≡ b
 
 -- the block of such a piece
-abbrev pub IsPlace : List Piece → ℕ → Type 0
-IsPlace pieces b = Any (IsMovedTo b) pieces
+abbrev pub IsMovedPlace : List Piece → ℕ → Type 0
+IsMovedPlace pieces b = Any (IsMovedTo b) pieces
 
 -- the block of a file with direct items that a piece is for
 abbrev pub HasOwner : List ObjectKey → Piece → Type 0
-HasOwner keys p = p.from ≡ None → (key : ObjectKey) × (k : ℕ) × Contains keys key × (p.owner ≡ Some (inode_of keys key, k)) × (k < 2 ^ 52)
+HasOwner keys p = p.from ≡ None → (key : ObjectKey) × (k : ℕ) × Contains keys key × (p.owner ≡ Some (ino_of_key keys key, k)) × (k < 2 ^ 52)
 
 -- The pieces of an accepted volume that was opened can be written. Those that move have one block each, to a place of its own
 -- that the volume has and does not use; what they hold are used blocks, or blocks of files with direct items.
@@ -33,8 +33,8 @@ pub record CanMove (volume : Volume) (image : Image) (pieces : List Piece) : Typ
   pub accepted : IsAccepted image
   pub opened : IsOpened volume image
   pub single : All (λ p. p.from ≢ Some p.place → p.count ≡ 1) pieces
-  pub inside : (b : ℕ) → IsPlace pieces b → b < length image
-  pub unused : (b : ℕ) → IsPlace pieces b → has (used_of image) b ≡ false
+  pub inside : (b : ℕ) → IsMovedPlace pieces b → b < length image
+  pub unused : (b : ℕ) → IsMovedPlace pieces b → has (used_of image) b ≡ false
   pub apart : AllPairs (λ p q. p.from ≢ Some p.place → q.from ≢ Some q.place → p.place ≢ q.place) pieces
   pub sources : (p : Piece) (b j : ℕ) → Contains pieces p → p.from ≡ Some b → j < p.count → has (used_of image) (b + j) ≡ true
   pub owners : (p : Piece) → Contains pieces p → HasOwner (keys volume.named) p
@@ -43,7 +43,7 @@ pub record CanMove (volume : Volume) (image : Image) (pieces : List Piece) : Typ
 pub record HoldsPiece (volume : Volume) (image other : Image) (p : Piece) : Type 0 where
   pub blocks : (b j : ℕ) → p.from ≡ Some b → j < p.count → block_at other (p.place + j) ≡ block_at image (b + j)
   pub tail : (key : ObjectKey) (k : ℕ) → p.from ≡ None → Contains (keys volume.named) key
-      → p.owner ≡ Some (inode_of (keys volume.named) key, k) → block_at other p.place ≡ tail_block (items_of key (volume_items image)) (stat_at (volume_items image) key).fields.size k
+      → p.owner ≡ Some (ino_of_key (keys volume.named) key, k) → block_at other p.place ≡ tail_block (items_of key (volume_items image)) (stat_at (volume_items image) key).fields.size k
 
 -- each piece holds what it is to hold
 abbrev pub HoldMoved : Volume → Image → Image → List Piece → Type 0

@@ -54,6 +54,8 @@ RefusesConversion image o answer.ImageMissing = ⊥
 RefusesConversion image o (answer.ImageMoved block) = ⊥
 RefusesConversion image o (answer.ImageDamaged r) = ⊥
 RefusesConversion image o (answer.ReservedUsed block) = ⊥
+RefusesConversion image o (answer.NotSound part address) = ⊥
+RefusesConversion image o (answer.ImageShared tree) = ⊥
 RefusesConversion image o answer.Fault = Unit {0}
 RefusesConversion image o answer.Memory = Unit {0}
 
@@ -67,6 +69,8 @@ IsPrepareAnswer answer.ImageMissing = ⊥
 IsPrepareAnswer (answer.ImageMoved block) = ⊥
 IsPrepareAnswer (answer.ImageDamaged r) = ⊥
 IsPrepareAnswer (answer.ReservedUsed block) = ⊥
+IsPrepareAnswer (answer.NotSound part address) = ⊥
+IsPrepareAnswer (answer.ImageShared tree) = ⊥
 IsPrepareAnswer answer.Fault = Unit {0}
 IsPrepareAnswer answer.Memory = Unit {0}
 

@@ -1,6 +1,7 @@
 -- The trees of a converted volume.
 use Rattle.std.specs.Prelude.{◌≡◌, ◌≤◌, ℕ, ◌+◌, ◌*◌, ◌-◌, ◌^◌, List, [], ◌∷◌, ◌++◌, length, drop, take, if◌then◌else◌}
 use Rattle.std.specs.List.{sum_by}
+use Rattle.btrfs_format.specs.declared.object.TheConstants.{CHUNK_TREE, CONV_IMAGE_SUBVOL, CSUM_TREE, DATA_RELOC_TREE, DEV_TREE, EXTENT_TREE, FS_TREE, ROOT_TREE}
 use Rattle.command_answers.specs.outside.History.{Image}
 use Rattle.btr_tree.specs.btr_node.Leaf.{Item}
 use Rattle.btr_tree.specs.Counting.{node_bound, tree_nodes}
@@ -8,7 +9,7 @@ use Rattle.btr_tree.specs.Roots.{lengths_of}
 use Rattle.btr_tree.specs.declared.climb.Root.{Root}
 use Rattle.btr_tree.specs.btr_reader_walk.declared.tree.Form.{Form}
 use Rattle.file_items.specs.Small.{image_items, relocation_items}
-use Rattle.file_items.specs.Tree.{tree_items}
+use Rattle.file_items.specs.Tree.{fs_tree_items}
 use Rattle.convert_steps.specs.Source.{made_from}
 use Rattle.space_items.specs.Chunks.{chunk_items, device_items}
 use Rattle.space_items.specs.Extents.{extent_items, used_in}
@@ -45,10 +46,10 @@ pub record SameVolume (image other : Image) : Type 0 where
   pub used : SameUsed (used_of image) image other
 
 -- the trees that have a root item, by their numbers
-abbrev pub listed : VolumeTrees → List TreeRoot
-listed r =
-    record { tree = 2; root = r.extents } ∷ (record { tree = 4; root = r.device } ∷ (record { tree = 5; root = r.files } ∷ (record { tree = 7; root = r.sums }
-    ∷ (record { tree = 256; root = r.image } ∷ (record { tree = 2 ^ 64 - 9; root = r.relocation } ∷ [])))))
+abbrev pub rooted_trees : VolumeTrees → List TreeRoot
+rooted_trees r =
+    record { tree = EXTENT_TREE; root = r.extents } ∷ (record { tree = DEV_TREE; root = r.device } ∷ (record { tree = FS_TREE; root = r.files } ∷ (record { tree = CSUM_TREE; root = r.sums }
+    ∷ (record { tree = CONV_IMAGE_SUBVOL; root = r.image } ∷ (record { tree = DATA_RELOC_TREE; root = r.relocation } ∷ [])))))
 
 -- The trees lie one behind the other: the first slot of each.
 abbrev pub image_from : VolumeTrees → ℕ
@@ -71,7 +72,7 @@ extents_from r = root_from r + r.root.nodes
 
 -- the items of each tree
 abbrev pub file_tree_items : Image → Making → List Item
-file_tree_items image m = tree_items (made_from m.volume image m.options m.pieces)
+file_tree_items image m = fs_tree_items (made_from m.volume image m.options m.pieces)
 
 abbrev pub image_tree_items : Making → List Item
 image_tree_items m = image_items m.volume.sup.blocks m.pieces m.options.datasum m.now
@@ -81,37 +82,37 @@ abbrev pub sum_tree_items : Image → Making → List Item
 sum_tree_items other m = if m.options.datasum then sum_items m.options.sums other m.pieces else []
 
 abbrev pub root_tree_items : Making → VolumeTrees → List Item
-root_tree_items m r = root_items (listed r) (saved_index m) (new_ids m) m.now m.options.nodesize
+root_tree_items m r = root_items (rooted_trees r) (saved_index m) (new_ids m) m.now m.options.nodesize
 
 -- The nodes of all trees, ascending by address.
 abbrev pub nodes_from : Making → ℕ → ℕ → List Item → List TreeNode
 nodes_from m owner first items = nodes_of_tree owner m.options.nodesize (lengths_of items) (drop first (slots m))
 
-abbrev pub other_nodes : Image → Image → Making → VolumeTrees → List TreeNode
-other_nodes image other m r =
+abbrev pub nodes_of_others : Image → Image → Making → VolumeTrees → List TreeNode
+nodes_of_others image other m r =
     merged_nodes
-    (nodes_from m 5 0 (file_tree_items image m) ++ (nodes_from m 256 (image_from r) (image_tree_items m) ++ (nodes_from m (2 ^ 64 - 9) (relocation_from r) (relocation_items m.now)
-    ++ (nodes_from m 7 (sums_from r) (sum_tree_items other m) ++ (nodes_from m 4 (device_from r) (device_items (new_ids m) m.chunks) ++ nodes_from m 1 (root_from r) (root_tree_items m r))))))
-    (nodes_of_tree 3 m.options.nodesize (lengths_of (chunk_items (new_ids m) m.volume.sup.blocks m.chunks)) (chunk_slots m))
+    (nodes_from m FS_TREE 0 (file_tree_items image m) ++ (nodes_from m CONV_IMAGE_SUBVOL (image_from r) (image_tree_items m) ++ (nodes_from m DATA_RELOC_TREE (relocation_from r) (relocation_items m.now)
+    ++ (nodes_from m CSUM_TREE (sums_from r) (sum_tree_items other m) ++ (nodes_from m DEV_TREE (device_from r) (device_items (new_ids m) m.chunks) ++ nodes_from m ROOT_TREE (root_from r) (root_tree_items m r))))))
+    (nodes_of_tree CHUNK_TREE m.options.nodesize (lengths_of (chunk_items (new_ids m) m.volume.sup.blocks m.chunks)) (chunk_slots m))
 
 -- The extent tree tells of all nodes, its own among them. How many these are is a number that describes itself.
 pub record AreAllNodes (image other : Image) (m : Making) (r : VolumeTrees) (nodes : List TreeNode) : Type 0 where
-  pub is : nodes ≡ merged_nodes (other_nodes image other m r) (nodes_from m 2 (extents_from r) (extent_items m.chunks m.pieces nodes m.options.nodesize))
+  pub is : nodes ≡ merged_nodes (nodes_of_others image other m r) (nodes_from m EXTENT_TREE (extents_from r) (extent_items m.chunks m.pieces nodes m.options.nodesize))
 
 abbrev pub form : Making → Form
 form m = record { fsid = (new_ids m).fsid; nodesize = m.options.nodesize; sums = m.options.sums }
 
 -- The trees of the volume that stood in one image, with the checksums of another, stand on a third.
 pub record HasTrees (image other new : Image) (m : Making) (r : VolumeTrees) (nodes : List TreeNode) : Type 0 where
-  pub chunk : TreeStands new (form m) 3 (chunk_slots m) (chunk_items (new_ids m) m.volume.sup.blocks m.chunks) r.chunk
-  pub files : TreeStands new (form m) 5 (slots m) (file_tree_items image m) r.files
-  pub image_ : TreeStands new (form m) 256 (drop (image_from r) (slots m)) (image_tree_items m) r.image
-  pub relocation : TreeStands new (form m) (2 ^ 64 - 9) (drop (relocation_from r) (slots m)) (relocation_items m.now) r.relocation
-  pub sums : TreeStands new (form m) 7 (drop (sums_from r) (slots m)) (sum_tree_items other m) r.sums
-  pub device : TreeStands new (form m) 4 (drop (device_from r) (slots m)) (device_items (new_ids m) m.chunks) r.device
-  pub root : TreeStands new (form m) 1 (take r.root.nodes (drop (root_from r) (slots m))) (root_tree_items m r) r.root
+  pub chunk : TreeStands new (form m) CHUNK_TREE (chunk_slots m) (chunk_items (new_ids m) m.volume.sup.blocks m.chunks) r.chunk
+  pub files : TreeStands new (form m) FS_TREE (slots m) (file_tree_items image m) r.files
+  pub image_ : TreeStands new (form m) CONV_IMAGE_SUBVOL (drop (image_from r) (slots m)) (image_tree_items m) r.image
+  pub relocation : TreeStands new (form m) DATA_RELOC_TREE (drop (relocation_from r) (slots m)) (relocation_items m.now) r.relocation
+  pub sums : TreeStands new (form m) CSUM_TREE (drop (sums_from r) (slots m)) (sum_tree_items other m) r.sums
+  pub device : TreeStands new (form m) DEV_TREE (drop (device_from r) (slots m)) (device_items (new_ids m) m.chunks) r.device
+  pub root : TreeStands new (form m) ROOT_TREE (take r.root.nodes (drop (root_from r) (slots m))) (root_tree_items m r) r.root
   pub nodes_are : AreAllNodes image other m r nodes
-  pub extents : TreeStands new (form m) 2 (drop (extents_from r) (slots m)) (extent_items m.chunks m.pieces nodes m.options.nodesize) r.extents
+  pub extents : TreeStands new (form m) EXTENT_TREE (drop (extents_from r) (slots m)) (extent_items m.chunks m.pieces nodes m.options.nodesize) r.extents
 
 -- the bytes of all extents
 abbrev pub used_bytes : Making → List TreeNode → ℕ

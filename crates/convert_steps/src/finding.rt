@@ -4,34 +4,32 @@ ghost use Rattle.command_answers.specs.outside.Fault.{HasCause};
 ghost use Rattle.command_answers.specs.outside.History.{OverTold};
 ghost use Rattle.convert_steps.specs.Found.{IsFoundOn};
 
-use command_answers::{Block, BlockNo, BlockSource, Fault};
+use btrfs_format::block::SUPER_BLOCK;
+use command_answers::{Block, BlockSource, Fault};
 use reiser_volume::{Format, format_of};
-
-/// The block of the superblock, of both formats.
-pub const SUPERBLOCK: BlockNo = 16;
 
 /// Block 16 of a disk, zeros where there is none, and the format of the volume by it.
 #[derive(Clone, Copy, Debug)]
-pub struct Found {
+pub struct FormatFound {
     pub format: Format,
     pub block: Block,
 }
 
 /// The format of block 16; without that block it is neither.
-pub fn find_format<S: BlockSource>(src: &mut S) -> Result<Found, Fault>
+pub fn find_format<S: BlockSource>(src: &mut S) -> Result<FormatFound, Fault>
     ensures kept { S.kept src.old src.new }
     ensures found { OverTold S.tells (S.blocks src.old) (λ image. IfOk result (IsFoundOn image)) }
     ensures cause { HasCause (S.faults src.old) (S.faults src.new) result }
 {
     let mut block = Block::zero();
-    if src.len() <= SUPERBLOCK {
-        return Ok(Found {
+    if src.len() <= SUPER_BLOCK {
+        return Ok(FormatFound {
             format: Format::Neither,
             block,
         });
     }
-    src.read(SUPERBLOCK, &mut block)?;
-    Ok(Found {
+    src.read(SUPER_BLOCK, &mut block)?;
+    Ok(FormatFound {
         format: format_of(&block),
         block,
     })

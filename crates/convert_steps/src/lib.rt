@@ -12,7 +12,7 @@ mod trees;
 
 pub use command_answers::Answer;
 pub use fields::{NewRoots, superblock};
-pub use finding::{Found, SUPERBLOCK, find_format};
+pub use finding::{FormatFound, find_format};
 pub use form::{ids_of, label_of};
 pub use pieces::write_moved;
 pub use prepared::{Prepared, prepare};

@@ -6,16 +6,16 @@ ghost use Rattle.reiser_volume.specs.reiser_volume_contents.Answers.{IsFault, Is
 ghost use Rattle.command_answers.specs.outside.Fault.{HasCauseOf};
 ghost use Rattle.command_answers.specs.outside.History.{Image, block_at, reads, OverTold, WritesOnly};
 ghost use Rattle.reiser_volume.specs.reiser_volume_files.Bytes.{tail_block};
-ghost use Rattle.reiser_volume.specs.reiser_volume_names.Names.{inode_of};
+ghost use Rattle.reiser_volume.specs.reiser_volume_names.Names.{ino_of_key};
 ghost use Rattle.reiser_volume.specs.reiser_volume_objects.Keys.{items_of};
 ghost use Rattle.reiser_volume.specs.reiser_volume_objects.declared.key.ObjectKey.{ObjectKey as KeyOf};
 ghost use Rattle.reiser_volume.specs.Made.{stat_at};
 ghost use Rattle.reiser_volume.specs.Opened.{IsOpened};
 ghost use Rattle.reiser_volume.specs.Volume.{IsAccepted, volume_items};
-ghost use Rattle.convert_steps.specs.Moved.{CanMove, CanWrite, HasPlace, HoldMoved, HoldsPiece, IsMovedTo, IsPlace};
+ghost use Rattle.convert_steps.specs.Moved.{CanMove, CanWrite, HasPlace, HoldMoved, HoldsPiece, IsMovedTo, IsMovedPlace};
 
 use command_answers::{Access, Block, BlockNo, BlockSource, Disk, Rule, VolAnswer, VolumeRefusal};
-use reiser_volume::{Numbers, Volume};
+use reiser_volume::{InodeNumbers, Volume};
 use unit_plan::{Piece, PieceList};
 
 /// Writes copies and tails to their places. No other block is written.
@@ -30,7 +30,7 @@ pub fn write_moved<D: Disk, P: PieceList>(
     ensures open { D.opened disk.new ≡ D.opened disk.old }
     ensures size { D.size disk.new ≡ D.size disk.old }
     ensures borrow { D.borrow disk.new ≡ D.borrow disk.old }
-    ensures only { IsTrue D.tells → WritesOnly (λ b _. IsPlace (P.pieces pieces.now) b) (D.history disk.old) (D.history disk.new) }
+    ensures only { IsTrue D.tells → WritesOnly (λ b _. IsMovedPlace (P.pieces pieces.now) b) (D.history disk.old) (D.history disk.new) }
     ensures written { OverTold D.tells (reads (D.history disk.old)) (λ image. CanMove volume.now image (P.pieces pieces.now) →
         MatchResult result (λ _. HoldMoved volume.now image (reads (D.history disk.new)) (P.pieces pieces.now)) IsFault) }
     ensures cause { HasCauseOf VolAnswer.Fault (D.faults disk.old) (D.faults disk.new) result }
@@ -113,7 +113,7 @@ fn write_tail<D: Disk>(
     ensures size { D.size disk.new ≡ D.size disk.old }
     ensures borrow { D.borrow disk.new ≡ D.borrow disk.old }
     ensures only { IsTrue D.tells → WritesOnly (λ b _. b ≡ place) (D.history disk.old) (D.history disk.new) }
-    ensures written { OverTold D.tells (reads (D.history disk.old)) (λ image. IsAccepted image → IsOpened volume.now image → place < D.size disk.old → at < 2 ^ 52 → (key : KeyOf) → Contains (keys volume.now.named) key → inode ≡ inode_of (keys volume.now.named) key →
+    ensures written { OverTold D.tells (reads (D.history disk.old)) (λ image. IsAccepted image → IsOpened volume.now image → place < D.size disk.old → at < 2 ^ 52 → (key : KeyOf) → Contains (keys volume.now.named) key → inode ≡ ino_of_key (keys volume.now.named) key →
         MatchResult result (λ _. reads (D.history disk.new) ≡ slice_set image place (tail_block (items_of key (volume_items image)) (stat_at (volume_items image) key).fields.size at)) IsFault) }
     ensures cause { HasCauseOf VolAnswer.Fault (D.faults disk.old) (D.faults disk.new) result }
     ensures answers { IfErr result IsReadAnswer }
@@ -132,13 +132,13 @@ fn write_tail<D: Disk>(
 /// The place of the object that has an inode number, where there is one.
 fn place_of(volume: &Volume, inode: u64) -> Option<usize>
     ensures within { IfSome result (λ i. i < length (keys volume.now.named)) }
-    ensures named { (image : Image) → IsAccepted image → IsOpened volume.now image → (key : KeyOf) → Contains (keys volume.now.named) key → inode ≡ inode_of (keys volume.now.named) key → HasPlace (keys volume.now.named) key result }
+    ensures named { (image : Image) → IsAccepted image → IsOpened volume.now image → (key : KeyOf) → Contains (keys volume.now.named) key → inode ≡ ino_of_key (keys volume.now.named) key → HasPlace (keys volume.now.named) key result }
 {
     let n = inode.checked_sub(256)? as usize;
     if n >= volume.count() {
         return None;
     }
-    Some(Numbers::new(volume).place(n))
+    Some(InodeNumbers::new(volume).place(n))
 }
 
 /// What is answered where the device has not what it had when the volume was opened.

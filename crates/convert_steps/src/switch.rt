@@ -1,37 +1,35 @@
 // The switch to the new format.
-ghost use Rattle.std.specs.Prelude.{◌≡◌, ◌≤◌, ◌<◌, ◌⊎◌, slice_set, Some, IsTrue, OnOk};
+ghost use Rattle.std.specs.Prelude.{◌≡◌, ◌≤◌, ◌<◌, ◌+◌, ◌^◌, ◌⊎◌, slice_set, Some, IsTrue, OnOk};
 ghost use Rattle.command_answers.specs.outside.Fault.{HasCause};
 ghost use Rattle.command_answers.specs.outside.History.{block_at, reads, IsSettled, IsBlock, EachCrash, WritesOnly};
 ghost use Rattle.btr_super.specs.Super.{mirror_bytes};
-ghost use Rattle.convert_steps.specs.Switch.{IsMirror, IsPart, IsCopy, IsCopyAt, IsSwitched, HasCopies, mirror_places, on_volume};
+ghost use Rattle.convert_steps.specs.Switch.{IsMirror, IsSwitchPart, IsCopy, IsCopyAt, IsSwitched, HasCopies, mirror_places, on_volume};
 
 use btr_super::mirror;
+use btrfs_format::block::{FIRST_MIRROR, SECOND_MIRROR, SUPER_BLOCK};
 use command_answers::{Access, Block, BlockNo, Disk, Fault};
 
-/// The block of the superblock.
-const SUPERBLOCK: BlockNo = 16;
-
-/// The block of its first copy, as the Btrfs on-disk format documentation has it: at 64 MiB.
-const FIRST_COPY: BlockNo = 16384;
-
-/// The block of its second copy: at 256 GiB.
-const SECOND_COPY: BlockNo = 67_108_864;
-
-/// The blocks of the copies of a Btrfs superblock, each where a volume of so many blocks has it.
+/// The blocks of the copies of a Btrfs superblock, each where a volume of so many blocks has it. A copy never ends with the
+/// volume: Linux writes none there.
 pub fn mirror_places(blocks: u64) -> [Option<BlockNo>; 2]
     ensures { result ≡ mirror_places blocks }
 {
     [
-        on_volume(FIRST_COPY, blocks),
-        on_volume(SECOND_COPY, blocks),
+        on_volume(FIRST_MIRROR, blocks),
+        on_volume(SECOND_MIRROR, blocks),
     ]
 }
 
-/// A block, where a volume of so many blocks has it.
+/// A block, where a volume of so many blocks has it and more behind it.
 fn on_volume(block: BlockNo, blocks: u64) -> Option<BlockNo>
+    requires { block < 2 ^ 52 }
     ensures { result ≡ on_volume blocks block }
 {
-    if block < blocks { Some(block) } else { None }
+    if block + 1 < blocks {
+        Some(block)
+    } else {
+        None
+    }
 }
 
 /// Writes a Btrfs superblock to block 16, and then its copies, on a volume of so many blocks. Each of the two steps is on
@@ -43,12 +41,12 @@ pub fn switch_to<D: Disk>(disk: &mut D, superblock: &Block, blocks: u64) -> Resu
     requires room { 16 < blocks }
     requires in_range { blocks ≤ D.size disk.old }
     ensures crash { EachCrash D.tells (D.history disk.old) (D.history disk.new) (λ image.
-        (image ≡ reads (D.history disk.old)) ⊎ IsSwitched superblock.now.bytes (reads (D.history disk.old)) image) }
+        (image ≡ reads (D.history disk.old)) ⊎ IsSwitched superblock.now.bytes blocks (reads (D.history disk.old)) image) }
     ensures open { D.opened disk.new ≡ D.opened disk.old }
     ensures size { D.size disk.new ≡ D.size disk.old }
     ensures borrow { D.borrow disk.new ≡ D.borrow disk.old }
-    ensures only { IsTrue D.tells → WritesOnly (IsPart superblock.now.bytes blocks) (D.history disk.old) (D.history disk.new) }
-    ensures written { IsTrue D.tells → OnOk result (IsSwitched superblock.now.bytes (reads (D.history disk.old)) (reads (D.history disk.new))) }
+    ensures only { IsTrue D.tells → WritesOnly (IsSwitchPart superblock.now.bytes blocks) (D.history disk.old) (D.history disk.new) }
+    ensures written { IsTrue D.tells → OnOk result (IsSwitched superblock.now.bytes blocks (reads (D.history disk.old)) (reads (D.history disk.new))) }
     ensures copies { IsTrue D.tells → OnOk result (HasCopies superblock.now.bytes blocks (reads (D.history disk.new))) }
     ensures settled { IsTrue D.tells → OnOk result (IsSettled (D.history disk.new)) }
     ensures cause { HasCause (D.faults disk.old) (D.faults disk.new) result }
@@ -69,7 +67,7 @@ fn write_superblock<D: Disk>(disk: &mut D, superblock: &Block) -> Result<(), Fau
     ensures settled { IsTrue D.tells → OnOk result (IsSettled (D.history disk.new)) }
     ensures cause { HasCause (D.faults disk.old) (D.faults disk.new) result }
 {
-    disk.write(SUPERBLOCK, superblock)?;
+    disk.write(SUPER_BLOCK, superblock)?;
     disk.sync()
 }
 
@@ -85,8 +83,8 @@ fn write_copies<D: Disk>(disk: &mut D, superblock: &Block, blocks: u64) -> Resul
     ensures settled { IsTrue D.tells → OnOk result (IsSettled (D.history disk.new)) }
     ensures cause { HasCause (D.faults disk.old) (D.faults disk.new) result }
 {
-    write_copy(disk, superblock, FIRST_COPY, blocks)?;
-    write_copy(disk, superblock, SECOND_COPY, blocks)?;
+    write_copy(disk, superblock, FIRST_MIRROR, blocks)?;
+    write_copy(disk, superblock, SECOND_MIRROR, blocks)?;
     disk.sync()
 }
 
@@ -100,14 +98,15 @@ fn write_copy<D: Disk>(
     requires open { D.opened disk.old ≡ Some Access.Write }
     requires in_range { blocks ≤ D.size disk.old }
     requires mirror { IsMirror place }
+    requires small { place < 2 ^ 52 }
     ensures open { D.opened disk.new ≡ D.opened disk.old }
     ensures size { D.size disk.new ≡ D.size disk.old }
     ensures borrow { D.borrow disk.new ≡ D.borrow disk.old }
     ensures only { IsTrue D.tells → WritesOnly (IsCopyAt place superblock.now.bytes blocks) (D.history disk.old) (D.history disk.new) }
-    ensures written { IsTrue D.tells → OnOk result (place < blocks → block_at (reads (D.history disk.new)) place ≡ mirror_bytes place superblock.now.bytes) }
+    ensures written { IsTrue D.tells → OnOk result (place + 1 < blocks → block_at (reads (D.history disk.new)) place ≡ mirror_bytes place superblock.now.bytes) }
     ensures cause { HasCause (D.faults disk.old) (D.faults disk.new) result }
 {
-    if place >= blocks {
+    if place + 1 >= blocks {
         return Ok(());
     }
     let mut copy = Block::zero();

@@ -1,37 +1,18 @@
 -- One more tree stands.
-use Rattle.std.proofs.Common.{◌≡◌, ◌∙◌, ℕ, ◌++◌, Bool, true, false, List, [], if◌then◌else◌, drop, Result, Ok, Err, sym, ap, subst}
-use Rattle.std.specs.Prelude.{IfErr}
-use Rattle.std.specs.Result.{IsErrAnd, MatchResult}
-use Rattle.btr_tree.specs.outside.History.{Image}
-use Rattle.btr_tree.specs.btr_node.Leaf.{Item}
-use Rattle.btr_tree.specs.Roots.{lengths_of}
-use Rattle.btr_tree.specs.declared.climb.Root.{Root}
-use Rattle.file_items.specs.Stream.{FitsBlocks}
-use Rattle.file_items.specs.declared.items.Items.{Items}
-use Rattle.reiser_volume.specs.reiser_super.declared.superblock.Super.{Super}
-use Rattle.reiser_volume.specs.declared.volume.Volume.{Volume}
-use Rattle.space_items.specs.Nodes.{nodes_of_tree}
-use Rattle.btr_tree_writer.specs.Answers.{IsFailure}
-use Rattle.btr_tree_writer.specs.Trees.{TreeStands, form_of}
-use Rattle.btr_tree_writer.specs.declared.answer.WriteAnswer.{WriteAnswer}
-use Rattle.btr_tree_writer.specs.declared.trees.Trees.{Trees}
-use Rattle.unit_plan.specs.Pieces.{ArePlaced}
-use Rattle.unit_plan.specs.declared.piece.Piece.{Piece}
-use Rattle.convert_trees.specs.Adding.{Adds}
-use Rattle.convert_trees.specs.Sources.{FitsFiles, HasVolume}
+use Rattle.convert_trees.proofs.Imports.{◌≡◌, ◌∙◌, ℕ, ◌++◌, Bool, true, false, List, [], if◌then◌else◌, drop, Result, Ok, Err, sym, ap, subst, IfErr, IsErrAnd, MatchResult, Image, Item, lengths_of, Root, FitsBlocks, Items, Super, Volume, nodes_of_tree, IsFailure, TreeStands, read_form, WriteAnswer, Trees, ArePlaced, Piece, Adds, FitsFiles, HasPlacedPieces}
 use Rattle.convert_trees.proofs.Staying.{files_fit}
 
 pub adds_of : (r : Result Root WriteAnswer) (image : Image) (old new : Trees) (owner : ℕ) (items : List Item)
-    → MatchResult r (λ root. TreeStands image (form_of old.form) owner (drop old.taken old.slots) items root × (new.nodes ≡ old.nodes ++ nodes_of_tree owner old.form.nodesize (lengths_of items) (drop old.taken old.slots))) IsFailure
+    → MatchResult r (λ root. TreeStands image (read_form old.form) owner (drop old.taken old.slots) items root × (new.nodes ≡ old.nodes ++ nodes_of_tree owner old.form.nodesize (lengths_of items) (drop old.taken old.slots))) IsFailure
     → MatchResult r (λ root. Adds image old new owner items root) IsFailure
 adds_of (Ok root) image old new owner items told = record { stands = told.0; nodes = told.1 }
 adds_of (Err e) image old new owner items told = told
 
-pub fits_files : (items : Items) (volume : Volume) (pieces : List Piece) (image : Image) → HasVolume volume pieces image → FitsBlocks items volume image → FitsFiles items volume pieces image
+pub fits_files : (items : Items) (volume : Volume) (pieces : List Piece) (image : Image) → HasPlacedPieces volume pieces image → FitsBlocks items volume image → FitsFiles items volume pieces image
 fits_files items volume pieces image has blocks = files_fit items volume pieces image (record { accepted = has.accepted; opened = has.opened; room = has.room; placed = has.placed; blocks = blocks })
 
 -- the pieces lie on the opened volume
-pub placed_in : (volume : Volume) (pieces : List Piece) (image : Image) → HasVolume volume pieces image → ArePlaced volume.sup.blocks pieces
+pub placed_in : (volume : Volume) (pieces : List Piece) (image : Image) → HasPlacedPieces volume pieces image → ArePlaced volume.sup.blocks pieces
 placed_in volume pieces image has = subst (λ (s : Super). ArePlaced s.blocks pieces) (sym has.opened.sup) has.placed
 
 -- the items of a list from its first on

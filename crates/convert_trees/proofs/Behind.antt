@@ -1,11 +1,5 @@
 -- Writes to the slots that are left, tree after tree.
-use Rattle.std.proofs.Common.{◌≡◌, ◌∙◌, ℕ, ◌+◌, ◌-◌, ◌≤◌, List, drop, sym, ap, subst, arith}
-use Rattle.std.proofs.lemmas.List.{drop-drop, get_or-drop, length-drop}
-use Rattle.btr_tree.specs.outside.History.{History, WritesOnly}
-use Rattle.btr_tree.proofs.outside.Crash.{writes_then, writes_weaker}
-use Rattle.btr_tree.specs.Writing.{IsInSlots}
-use Rattle.btr_tree_writer.specs.declared.form.NodeForm.{NodeForm}
-use Rattle.btr_tree_writer.specs.declared.trees.Trees.{Trees}
+use Rattle.convert_trees.proofs.Imports.{◌≡◌, ◌∙◌, ℕ, ◌+◌, ◌-◌, ◌≤◌, List, drop, sym, ap, subst, arith, drop-drop, get_or-drop, length-drop, History, WritesOnly, writes_then, writes_weaker, IsInSlots, NodeForm, Trees}
 
 -- the same row, where maybe more slots are taken
 pub record IsLater (row later : Trees) : Type 0 where

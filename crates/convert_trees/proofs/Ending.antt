@@ -1,37 +1,6 @@
 -- All trees stand in the end.
-use Rattle.std.proofs.Common.{◌≡◌, ◌∙◌, ℕ, ◌+◌, ◌-◌, ◌^◌, ◌≤◌, ◌++◌, List, [], append_assoc, drop, length, sym, ap, subst, arith}
-use Rattle.std.proofs.lemmas.List.{drop-drop}
-use Rattle.btr_tree.specs.outside.History.{Image, History, reads, WritesOnly}
-use Rattle.btr_tree.specs.btr_node.Leaf.{Item}
-use Rattle.btr_tree.specs.btr_node.NodeSize.{IsNodeSize}
-use Rattle.btr_tree.specs.Building.{AreSlots}
-use Rattle.btr_tree.specs.Roots.{lengths_of}
-use Rattle.btr_tree.specs.Writing.{IsInSlots}
-use Rattle.btr_tree.specs.declared.climb.Root.{Root}
-use Rattle.convert_steps.specs.Making.{Making, chunk_slots, new_ids, slots}
-use Rattle.convert_steps.specs.Standing.{HasTrees, IsFor, file_tree_items, form, image_from, nodes_from, relocation_from, root_from, root_tree_items, sums_from, device_from, image_tree_items, sum_tree_items, used_bytes}
-use Rattle.convert_steps.specs.declared.trees.VolumeTrees.{VolumeTrees}
-use Rattle.file_items.specs.Small.{relocation_items}
-use Rattle.reiser_volume.specs.declared.volume.Volume.{Volume}
-use Rattle.space_items.specs.Chunks.{chunk_items, device_items}
-use Rattle.space_items.specs.Extents.{extent_items}
-use Rattle.space_items.specs.Nodes.{merged_nodes, nodes_of_tree}
-use Rattle.space_items.specs.declared.node.TreeNode.{TreeNode}
-use Rattle.btr_tree_writer.specs.Trees.{TreeStands}
-use Rattle.btr_tree_writer.specs.declared.form.NodeForm.{NodeForm}
-use Rattle.btr_tree_writer.specs.declared.trees.Trees.{Trees}
-use Rattle.btr_tree_writer.proofs.Rows.{slots_left}
-use Rattle.unit_plan.specs.Laws.{AreApart}
-use Rattle.unit_plan.specs.Places.{node_places}
-use Rattle.unit_plan.specs.declared.chunk.Chunk.{Chunk}
-use Rattle.convert_options.specs.declared.options.Options.{Options}
-use Rattle.unit_plan.specs.declared.piece.Piece.{Piece}
-use Rattle.unit_plan.specs.declared.plan.Plan.{Plan}
-use Rattle.btr_tree.specs.vol_block.declared.ids.Ids.{Ids}
-use Rattle.convert_trees.specs.Adding.{Adds}
-use Rattle.convert_trees.specs.First.{AddsFirst, FirstItems, first_count, first_items}
-use Rattle.convert_trees.specs.RootTree.{AddsLast, root_count, saved_in, slots_needed}
-use Rattle.convert_trees.specs.declared.roots.FirstRoots.{FirstRoots}
+use Rattle.convert_trees.proofs.Imports.{◌≡◌, ◌∙◌, ℕ, ◌+◌, ◌-◌, ◌^◌, ◌≤◌, ◌++◌, List, [], append_assoc, drop, length, sym, ap, subst, arith, drop-drop, CHUNK_TREE, CONV_IMAGE_SUBVOL, CSUM_TREE, DATA_RELOC_TREE, DEV_TREE, EXTENT_TREE, FS_TREE, ROOT_TREE, Image, History, reads, WritesOnly, Item, IsNodeSize, AreSlots, lengths_of, IsInSlots, Root, Making, chunk_slots, new_ids, slots, HasTrees, IsFor, file_tree_items, form, root_from, root_tree_items, image_tree_items, sum_tree_items, used_bytes, VolumeTrees, relocation_items, Volume, chunk_items, device_items, extent_items, merged_nodes, nodes_of_tree, TreeNode, TreeStands, NodeForm, Trees, slots_left, AreUnitsApart, node_places, PlannedChunk, Options, Piece, Plan, Ids, Adds, AddsFirst, FirstItems, first_count, first_items, AddsLast, root_count, saved_in, slots_needed, FirstRoots}
+use Rattle.convert_steps.specs.Standing.{image_from, nodes_from, relocation_from, sums_from, device_from}
 use Rattle.convert_trees.proofs.Behind.{IsInRest, writes_behind}
 use Rattle.convert_trees.proofs.Front.{in_front}
 use Rattle.convert_trees.proofs.Opening.{files_in}
@@ -83,13 +52,13 @@ last_fits row size places taken index now pieces chunks others given a b c d few
     (subst (λ (n : ℕ). slots_needed size.nodesize taken (root_count size index now) pieces chunks n ≤ length places) (sym d) few)))
 
 -- What is known in the end, told of the arguments: the rows before and behind the trees, and the trees that were added.
-pub record Ends (volume : Volume) (o : Options) (ids : Ids) (now : ℕ) (plan : Plan) (pieces : List Piece) (chunks : List Chunk) (image other : Image) (chunk_row chunk_end row end : Trees) (chunk : Root) (first : FirstRoots) (h₁ h₂ h₃ : History) (t : VolumeTrees) : Type 0 where
+pub record Ends (volume : Volume) (o : Options) (ids : Ids) (now : ℕ) (plan : Plan) (pieces : List Piece) (chunks : List PlannedChunk) (image other : Image) (chunk_row chunk_end row end : Trees) (chunk : Root) (first : FirstRoots) (h₁ h₂ h₃ : History) (t : VolumeTrees) : Type 0 where
   pub size : IsNodeSize o.nodesize
-  pub apart : AreApart plan.system plan.metadata
+  pub apart : AreUnitsApart plan.system plan.metadata
   pub serve : AreSlots o.nodesize (node_places o.nodesize plan.metadata)
   pub chunk_fresh : chunk_row ≡ row_with (node_form o ids) (node_places o.nodesize plan.system) 0 []
   pub row_fresh : row ≡ row_with (node_form o ids) (node_places o.nodesize plan.metadata) 0 []
-  pub chunk_adds : Adds (reads h₁) chunk_row chunk_end 3 (chunk_items ids volume.sup.blocks chunks) chunk
+  pub chunk_adds : Adds (reads h₁) chunk_row chunk_end CHUNK_TREE (chunk_items ids volume.sup.blocks chunks) chunk
   pub first_adds : AddsFirst (reads h₂) row end (first_items volume pieces o ids now chunks other) first
   pub goes : Goes row end (first_nodes first) h₁ h₂
   pub only : WritesOnly (λ b _. IsInRest end b) h₂ h₃
@@ -134,8 +103,8 @@ module _ (image other : Image) (m : Making) (chunk_row chunk_end row end : Trees
 
   abbrev told : List TreeNode
   told =
-      nodes_from m 5 0 (file_tree_items image m) ++ (nodes_from m 256 (image_from t) (image_tree_items m) ++ (nodes_from m (2 ^ 64 - 9) (relocation_from t) (relocation_items m.now)
-      ++ (nodes_from m 7 (sums_from t) (sum_tree_items other m) ++ nodes_from m 4 (device_from t) (device_items (new_ids m) m.chunks))))
+      nodes_from m FS_TREE 0 (file_tree_items image m) ++ (nodes_from m CONV_IMAGE_SUBVOL (image_from t) (image_tree_items m) ++ (nodes_from m DATA_RELOC_TREE (relocation_from t) (relocation_items m.now)
+      ++ (nodes_from m CSUM_TREE (sums_from t) (sum_tree_items other m) ++ nodes_from m DEV_TREE (device_from t) (device_items (new_ids m) m.chunks))))
 
   end_is : end ≡ row_with written (slots m) (root_from t) told
   end_is =
@@ -156,17 +125,17 @@ module _ (image other : Image) (m : Making) (chunk_row chunk_end row end : Trees
       stands_before (form m) owner (root_from t - n) (drop n (slots m)) list root h₂ h₃ ends.size (slots_left size n (slots m) ends.serve) (omega (arith, few))
       (subst (λ (xs : List ℕ). WritesOnly (λ b _. IsInSlots size xs b) h₂ h₃) split behind) stands
 
-  added : Adds (reads h₁) (row_with written (chunk_slots m) 0 []) chunk_end 3 (chunk_items (new_ids m) m.volume.sup.blocks m.chunks) t.chunk
+  added : Adds (reads h₁) (row_with written (chunk_slots m) 0 []) chunk_end CHUNK_TREE (chunk_items (new_ids m) m.volume.sup.blocks m.chunks) t.chunk
   added =
-      subst (λ (r : Root). Adds (reads h₁) (row_with written (chunk_slots m) 0 []) chunk_end 3 (chunk_items (new_ids m) m.volume.sup.blocks m.chunks) r) (sym ends.chunk_same)
-      (subst (λ (x : Trees). Adds (reads h₁) x chunk_end 3 (chunk_items (new_ids m) m.volume.sup.blocks m.chunks) chunk) ends.chunk_fresh ends.chunk_adds)
+      subst (λ (r : Root). Adds (reads h₁) (row_with written (chunk_slots m) 0 []) chunk_end CHUNK_TREE (chunk_items (new_ids m) m.volume.sup.blocks m.chunks) r) (sym ends.chunk_same)
+      (subst (λ (x : Trees). Adds (reads h₁) x chunk_end CHUNK_TREE (chunk_items (new_ids m) m.volume.sup.blocks m.chunks) chunk) ends.chunk_fresh ends.chunk_adds)
 
   -- the chunk tree lies in units of its own
-  chunk_stands : TreeStands (reads h₃) (form m) 3 (chunk_slots m) (chunk_items (new_ids m) m.volume.sup.blocks m.chunks) t.chunk
+  chunk_stands : TreeStands (reads h₃) (form m) CHUNK_TREE (chunk_slots m) (chunk_items (new_ids m) m.volume.sup.blocks m.chunks) t.chunk
   chunk_stands =
       let all : WritesOnly (λ b _. IsInRest row b) h₁ h₃ = writes_behind row end h₁ h₂ h₃ (goes_later row end (first_nodes first) h₁ h₂ ends.goes) ends.goes.only ends.only in
       let there : WritesOnly (λ b _. IsInSlots size (slots m) b) h₁ h₃ = subst (λ (x : Trees). WritesOnly (λ b _. IsInRest x b) h₁ h₃) ends.row_fresh all in
-      stands_beside (λ b. IsInSlots size (slots m) b) (form m) 3 (chunk_slots m) (chunk_items (new_ids m) m.volume.sup.blocks m.chunks) t.chunk h₁ h₃
+      stands_beside (λ b. IsInSlots size (slots m) b) (form m) CHUNK_TREE (chunk_slots m) (chunk_items (new_ids m) m.volume.sup.blocks m.chunks) t.chunk h₁ h₃
       (λ b one other. units_apart size m.plan.system m.plan.metadata b ends.size ends.apart (in_front size t.chunk.nodes (chunk_slots m) b one) other)
       there added.stands
 
@@ -175,11 +144,11 @@ module _ (image other : Image) (m : Making) (chunk_row chunk_end row end : Trees
     last.nodes,
     record {
       chunk = chunk_stands;
-      files = still 5 0 (file_tree_items image m) t.files (omega arith) adds.files;
-      image_ = still 256 (image_from t) (image_tree_items m) t.image (omega arith) adds.image_;
-      relocation = still (2 ^ 64 - 9) (relocation_from t) (relocation_items m.now) t.relocation (omega arith) adds.relocation;
-      sums = still 7 (sums_from t) (sum_tree_items other m) t.sums (omega arith) adds.sums;
-      device = still 4 (device_from t) (device_items (new_ids m) m.chunks) t.device (omega arith) adds.device;
+      files = still FS_TREE 0 (file_tree_items image m) t.files (omega arith) adds.files;
+      image_ = still CONV_IMAGE_SUBVOL (image_from t) (image_tree_items m) t.image (omega arith) adds.image_;
+      relocation = still DATA_RELOC_TREE (relocation_from t) (relocation_items m.now) t.relocation (omega arith) adds.relocation;
+      sums = still CSUM_TREE (sums_from t) (sum_tree_items other m) t.sums (omega arith) adds.sums;
+      device = still DEV_TREE (device_from t) (device_items (new_ids m) m.chunks) t.device (omega arith) adds.device;
       root = last.root;
       nodes_are = record { is = all_nodes };
       extents = last.extents;
@@ -188,28 +157,28 @@ module _ (image other : Image) (m : Making) (chunk_row chunk_end row end : Trees
   )
     where
       own : List TreeNode
-      own = nodes_of_tree 2 size (lengths_of (extent_items m.chunks m.pieces last.nodes size)) (drop (root_from t + t.root.nodes) (slots m))
+      own = nodes_of_tree EXTENT_TREE size (lengths_of (extent_items m.chunks m.pieces last.nodes size)) (drop (root_from t + t.root.nodes) (slots m))
 
       rooted : List TreeNode
-      rooted = nodes_from m 1 (root_from t) (root_tree_items m t)
+      rooted = nodes_from m ROOT_TREE (root_from t) (root_tree_items m t)
 
       a : List TreeNode
-      a = nodes_from m 5 0 (file_tree_items image m)
+      a = nodes_from m FS_TREE 0 (file_tree_items image m)
 
       b : List TreeNode
-      b = nodes_from m 256 (image_from t) (image_tree_items m)
+      b = nodes_from m CONV_IMAGE_SUBVOL (image_from t) (image_tree_items m)
 
       c : List TreeNode
-      c = nodes_from m (2 ^ 64 - 9) (relocation_from t) (relocation_items m.now)
+      c = nodes_from m DATA_RELOC_TREE (relocation_from t) (relocation_items m.now)
 
       d : List TreeNode
-      d = nodes_from m 7 (sums_from t) (sum_tree_items other m)
+      d = nodes_from m CSUM_TREE (sums_from t) (sum_tree_items other m)
 
       e : List TreeNode
-      e = nodes_from m 4 (device_from t) (device_items (new_ids m) m.chunks)
+      e = nodes_from m DEV_TREE (device_from t) (device_items (new_ids m) m.chunks)
 
       chunked : List TreeNode
-      chunked = nodes_of_tree 3 size (lengths_of (chunk_items (new_ids m) m.volume.sup.blocks m.chunks)) (chunk_slots m)
+      chunked = nodes_of_tree CHUNK_TREE size (lengths_of (chunk_items (new_ids m) m.volume.sup.blocks m.chunks)) (chunk_slots m)
 
       all_nodes : last.nodes ≡ merged_nodes (merged_nodes (a ++ (b ++ (c ++ (d ++ (e ++ rooted))))) chunked) own
       all_nodes =

@@ -1,19 +1,7 @@
 -- Lists that ascend are no longer than their bound.
-use Rattle.std.proofs.Common.{◌≡◌, ◌∙◌, ℕ, zero, suc, ◌+◌, ◌^◌, ◌<◌, ◌≤◌, List, [], ◌∷◌, length, get_or, sym, ap, subst, arith}
-use Rattle.std.specs.List.{All, AllPairs}
-use Rattle.std.proofs.lemmas.List.{length-map, length-take}
-use Rattle.btr_tree.specs.Roots.{lengths_of}
-use Rattle.space_items.specs.Extents.{extent_items}
-use Rattle.space_items.specs.Nodes.{AreNodes, merged_nodes, nodes_of_tree}
-use Rattle.space_items.specs.Stream.{ArePieces}
-use Rattle.space_items.specs.declared.node.TreeNode.{TreeNode}
+use Rattle.convert_trees.proofs.Imports.{◌≡◌, ◌∙◌, ℕ, zero, suc, ◌+◌, ◌^◌, ◌<◌, ◌≤◌, List, [], ◌∷◌, length, get_or, sym, ap, subst, arith, All, AllPairs, length-map, length-take, EXTENT_TREE, lengths_of, extent_items, AreNodes, merged_nodes, nodes_of_tree, ArePieces, TreeNode, length-merge, IsSlotRow, Trees, PlannedChunk, Piece}
 use Rattle.space_items.proofs.Ascending.{merged_are_nodes}
-use Rattle.space_items.proofs.Merges.{length-merge}
 use Rattle.space_items.proofs.NodeMerge.{node_cmp}
-use Rattle.btr_tree_writer.specs.Row.{IsRow}
-use Rattle.btr_tree_writer.specs.declared.trees.Trees.{Trees}
-use Rattle.unit_plan.specs.declared.chunk.Chunk.{Chunk}
-use Rattle.unit_plan.specs.declared.piece.Piece.{Piece}
 
 module _ {A : Type 0} (f : A → ℕ) where
   rises : (xs : List A) → AllPairs (λ a b. f a < f b) xs → (d : A) (i : ℕ) → i < length xs → i ≤ f (get_or xs i d)
@@ -37,15 +25,15 @@ pub merged_fit : (all nodes others : List TreeNode) → all ≡ merged_nodes nod
 merged_fit all nodes others is are also few = subst AreNodes (sym is) (merged_are_nodes nodes others are also few)
 
 -- as many nodes as slots are taken
-pub row_few : (t : Trees) → IsRow t → length t.nodes ≡ t.taken
+pub row_few : (t : Trees) → IsSlotRow t → length t.nodes ≡ t.taken
 row_few t is = omega (arith, length-map t.nodes (λ (n : TreeNode). n.address), ap (λ (xs : List ℕ). length xs) is.nodes, length-take t.taken t.slots, is.within)
 
 -- of a list that is told
-pub same_nodes : (chunks : List Chunk) (pieces : List Piece) (nodesize : ℕ) (given all others old more : List TreeNode) (slots rest : List ℕ) → given ≡ all → others ≡ merged_nodes old more → slots ≡ rest
-    → all ≡ merged_nodes others (nodes_of_tree 2 nodesize (lengths_of (extent_items chunks pieces all nodesize)) slots)
-    → given ≡ merged_nodes (merged_nodes old more) (nodes_of_tree 2 nodesize (lengths_of (extent_items chunks pieces given nodesize)) rest)
+pub same_nodes : (chunks : List PlannedChunk) (pieces : List Piece) (nodesize : ℕ) (given all others old more : List TreeNode) (slots rest : List ℕ) → given ≡ all → others ≡ merged_nodes old more → slots ≡ rest
+    → all ≡ merged_nodes others (nodes_of_tree EXTENT_TREE nodesize (lengths_of (extent_items chunks pieces all nodesize)) slots)
+    → given ≡ merged_nodes (merged_nodes old more) (nodes_of_tree EXTENT_TREE nodesize (lengths_of (extent_items chunks pieces given nodesize)) rest)
 same_nodes chunks pieces nodesize given all others old more slots rest is are at told =
     is ∙ (told
-    ∙ (ap (λ (ns : List TreeNode). merged_nodes ns (nodes_of_tree 2 nodesize (lengths_of (extent_items chunks pieces all nodesize)) slots)) are
-    ∙ (ap (λ (ss : List ℕ). merged_nodes (merged_nodes old more) (nodes_of_tree 2 nodesize (lengths_of (extent_items chunks pieces all nodesize)) ss)) at
-    ∙ ap (λ (ns : List TreeNode). merged_nodes (merged_nodes old more) (nodes_of_tree 2 nodesize (lengths_of (extent_items chunks pieces ns nodesize)) rest)) (sym is))))
+    ∙ (ap (λ (ns : List TreeNode). merged_nodes ns (nodes_of_tree EXTENT_TREE nodesize (lengths_of (extent_items chunks pieces all nodesize)) slots)) are
+    ∙ (ap (λ (ss : List ℕ). merged_nodes (merged_nodes old more) (nodes_of_tree EXTENT_TREE nodesize (lengths_of (extent_items chunks pieces all nodesize)) ss)) at
+    ∙ ap (λ (ns : List TreeNode). merged_nodes (merged_nodes old more) (nodes_of_tree EXTENT_TREE nodesize (lengths_of (extent_items chunks pieces ns nodesize)) rest)) (sym is))))

@@ -1,23 +1,5 @@
 -- The first slots that are left, and those behind them: they share no block.
-use Rattle.std.proofs.Common.{◌≡◌, ◌≢◌, ◌∙◌, inl, inr, ℕ, ◌+◌, ◌*◌, ◌%◌, ◌^◌, ◌<◌, ◌≤◌, List, length, take, drop, get_or, sym, subst, arith}
-use Rattle.std.specs.List.{All}
-use Rattle.std.proofs.lemmas.List.{get_or-drop, get_or-take, get_or_default, length-drop, length-take}
-use Rattle.std.proofs.lemmas.List.Elements.{All-drop, All-take}
-use Rattle.btr_tree.specs.outside.History.{History, reads, WritesOnly}
-use Rattle.btr_tree.proofs.outside.Crash.{writes_weaker}
-use Rattle.btr_tree.proofs.outside.Phases.{reads_outside}
-use Rattle.btr_tree.specs.btr_node.Leaf.{Item}
-use Rattle.btr_tree.specs.btr_node.NodeSize.{IsNodeSize}
-use Rattle.btr_tree.specs.Building.{AreSlots}
-use Rattle.btr_tree.specs.Writing.{IsInNode, IsInSlots}
-use Rattle.btr_tree.specs.declared.climb.Root.{Root}
-use Rattle.btr_tree.specs.btr_reader_walk.declared.tree.Form.{Form}
-use Rattle.btr_tree_writer.specs.Row.{IsRow}
-use Rattle.btr_tree_writer.specs.Trees.{TreeStands}
-use Rattle.btr_tree_writer.specs.declared.form.NodeForm.{NodeForm}
-use Rattle.btr_tree_writer.specs.declared.trees.Trees.{Trees}
-use Rattle.btr_tree_writer.proofs.Others.{by_nodes}
-use Rattle.btr_tree_writer.proofs.Rows.{slots_left}
+use Rattle.convert_trees.proofs.Imports.{◌≡◌, ◌≢◌, ◌∙◌, inl, inr, ℕ, ◌+◌, ◌*◌, ◌%◌, ◌^◌, ◌<◌, ◌≤◌, List, length, take, drop, get_or, sym, subst, arith, All, get_or-drop, get_or-take, get_or_default, length-drop, length-take, All-drop, All-take, History, reads, WritesOnly, writes_weaker, reads_outside, Item, IsNodeSize, AreSlots, IsInNode, IsInSlots, Root, Form, IsSlotRow, TreeStands, NodeForm, Trees, by_nodes, slots_left}
 use Rattle.convert_trees.proofs.Behind.{IsInRest, IsLater, still_in_rest}
 
 by_size : (P : ℕ → Type 0) → P 4096 → P 8192 → P 16384 → P 32768 → P 65536 → (n : ℕ) → IsNodeSize n → P n
@@ -71,11 +53,11 @@ module _ (n m taken : ℕ) (slots : List ℕ) (are : AreSlots n slots) where
         apart_nodes a c b (λ is. are.apart i j c (omega (arith, early)) within (same ∙ (is ∙ sym at'))) n size (subst (λ (x : ℕ). x % n ≡ 0) at (are.aligned i a inside)) (subst (λ (x : ℕ). x % n ≡ 0) at' (are.aligned j c within)) front.4 behind.4
 
 -- the same by what was called with
-pub kept_serve_so : (row : Trees) (form : NodeForm) (m : ℕ) (slots : List ℕ) → IsRow row → row.form ≡ form → slots ≡ take m (drop row.taken row.slots) → AreSlots form.nodesize slots
+pub kept_serve_so : (row : Trees) (form : NodeForm) (m : ℕ) (slots : List ℕ) → IsSlotRow row → row.form ≡ form → slots ≡ take m (drop row.taken row.slots) → AreSlots form.nodesize slots
 kept_serve_so row form m slots is same are =
     subst (λ (f : NodeForm). AreSlots f.nodesize slots) same (subst (AreSlots row.form.nodesize) (sym are) (kept_serve row.form.nodesize m row.taken row.slots is.slots))
 
-pub kept_inside_so : (row : Trees) (form : NodeForm) (m : ℕ) (slots : List ℕ) (old new : ℕ) → IsRow row → row.form ≡ form → slots ≡ take m (drop row.taken row.slots) → new ≡ old
+pub kept_inside_so : (row : Trees) (form : NodeForm) (m : ℕ) (slots : List ℕ) (old new : ℕ) → IsSlotRow row → row.form ≡ form → slots ≡ take m (drop row.taken row.slots) → new ≡ old
     → All (λ a. a + row.form.nodesize ≤ 4096 * old) row.slots → All (λ a. a + form.nodesize ≤ 4096 * new) slots
 kept_inside_so row form m slots old new is same are stays all =
     subst (λ (k : ℕ). All (λ a. a + form.nodesize ≤ 4096 * k) slots) (sym stays)

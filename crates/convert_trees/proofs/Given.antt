@@ -1,35 +1,7 @@
 -- What a conversion gives to the writing of its trees, told of its arguments.
-use Rattle.std.proofs.Common.{◌≡◌, ◌∙◌, ℕ, ◌+◌, ◌<◌, ◌≤◌, Bool, true, List, length, Some, sym, ap, subst}
-use Rattle.std.specs.Prelude.{Contains}
-use Rattle.btr_tree.specs.outside.History.{Image}
-use Rattle.btr_tree.specs.btr_node.Leaf.{Item}
-use Rattle.btr_tree.specs.Counting.{tree_nodes}
-use Rattle.btr_tree.specs.Roots.{lengths_of}
-use Rattle.convert_steps.specs.Making.{IsMaking, Making, new_ids, slots}
-use Rattle.convert_steps.specs.Standing.{AllFit, IsFor, SameVolume, chunk_count, image_tree_items, no_trees, nodes_for, root_tree_items, sum_tree_items}
-use Rattle.convert_steps.specs.extent_pieces.Laws.{LiesInUnit}
+use Rattle.convert_trees.proofs.Imports.{◌≡◌, ◌∙◌, ℕ, ◌+◌, ◌<◌, ◌≤◌, Bool, true, List, length, Some, sym, ap, subst, Contains, Image, Item, tree_nodes, lengths_of, IsMaking, Making, new_ids, slots, AllFit, IsFor, SameVolume, chunk_count, image_tree_items, no_trees, nodes_for, root_tree_items, sum_tree_items, LiesInUnit, all_at, image_items, relocation_items, has, IsOpened, superblock, used_of, Volume, chunk_items, device_items, FitLeaves, NodeForm, AreChunks, ArePlaced, node_places, PlannedChunk, Options, Piece, Plan, Ids, first_count, first_items, root_count, saved_in, slots_needed, HasPlacedPieces}
 use Rattle.convert_steps.proofs.extent_pieces.Apart.{places_are_apart}
-use Rattle.convert_steps.proofs.extent_pieces.Lists.{all_at}
-use Rattle.file_items.specs.Small.{image_items, relocation_items}
-use Rattle.reiser_volume.specs.reiser_bitmap.Bits.{has}
-use Rattle.reiser_volume.specs.Opened.{IsOpened}
-use Rattle.reiser_volume.specs.Volume.{superblock, used_of}
-use Rattle.reiser_volume.specs.declared.volume.Volume.{Volume}
 use Rattle.reiser_volume.proofs.Holding.{used_length}
-use Rattle.space_items.specs.Chunks.{chunk_items, device_items}
-use Rattle.space_items.specs.StreamLaws.{FitLeaves}
-use Rattle.btr_tree_writer.specs.declared.form.NodeForm.{NodeForm}
-use Rattle.unit_plan.specs.Chunks.{AreChunks}
-use Rattle.unit_plan.specs.Pieces.{ArePlaced}
-use Rattle.unit_plan.specs.Places.{node_places}
-use Rattle.unit_plan.specs.declared.chunk.Chunk.{Chunk}
-use Rattle.convert_options.specs.declared.options.Options.{Options}
-use Rattle.unit_plan.specs.declared.piece.Piece.{Piece}
-use Rattle.unit_plan.specs.declared.plan.Plan.{Plan}
-use Rattle.btr_tree.specs.vol_block.declared.ids.Ids.{Ids}
-use Rattle.convert_trees.specs.First.{first_count, first_items}
-use Rattle.convert_trees.specs.RootTree.{root_count, saved_in, slots_needed}
-use Rattle.convert_trees.specs.Sources.{HasVolume}
 use Rattle.convert_trees.proofs.Staying.{volume_stays}
 use Rattle.convert_trees.proofs.Opening.{files_in, files_same}
 use Rattle.convert_trees.proofs.Untouched.{stays_used}
@@ -38,10 +10,10 @@ use Rattle.convert_trees.proofs.Untouched.{stays_used}
 abbrev pub node_form : Options → Ids → NodeForm
 node_form o ids = record { ids = ids; nodesize = o.nodesize; sums = o.sums }
 
-pub record Given (volume : Volume) (o : Options) (ids : Ids) (now : ℕ) (plan : Plan) (pieces : List Piece) (chunks : List Chunk) (image other : Image) : Type 0 where
+pub record Given (volume : Volume) (o : Options) (ids : Ids) (now : ℕ) (plan : Plan) (pieces : List Piece) (chunks : List PlannedChunk) (image other : Image) : Type 0 where
   pub are : AreChunks plan volume.sup.blocks chunks
   pub opened : IsOpened volume image
-  pub volume_there : HasVolume volume pieces other
+  pub volume_there : HasPlacedPieces volume pieces other
   pub moved : (p : Piece) → Contains pieces p → LiesInUnit plan.data_ p
   pub stay : (p : Piece) (b : ℕ) → Contains pieces p → p.from ≡ Some p.place → p.place ≤ b → b < p.place + p.count → has volume.bitmap b ≡ true
   pub files_same : files_in volume o pieces other ≡ files_in volume o pieces image
@@ -53,7 +25,7 @@ pub record Given (volume : Volume) (o : Options) (ids : Ids) (now : ℕ) (plan :
       (tree_nodes o.nodesize (lengths_of (chunk_items ids volume.sup.blocks chunks))) ≤ length (node_places o.nodesize plan.metadata)
 
 module _ (image other : Image) (m : Making) (is : IsMaking image m) (same : SameVolume image other) (fit : AllFit image other m) where
-  there : HasVolume m.volume m.pieces image
+  there : HasPlacedPieces m.volume m.pieces image
   there =
       let of = is.has_pieces in
       let well = places_are_apart image of.found m.options m.plan m.pieces of.plan_ of.placed in
@@ -67,7 +39,7 @@ module _ (image other : Image) (m : Making) (is : IsMaking image m) (same : Same
   bitmap_is : m.volume.bitmap ≡ used_of image
   bitmap_is = is.has_pieces.opened.bitmap
 
-  still : HasVolume m.volume m.pieces other
+  still : HasPlacedPieces m.volume m.pieces other
   still =
       volume_stays m.volume m.pieces image other
       (record { as_many = same.as_many; blocks = λ b used. same.used b (ap (λ (bits : List Bool). has bits b) (sym bitmap_is) ∙ used) })

@@ -1,27 +1,5 @@
 -- A row of slots goes on: the trees behind leave those before as they are, and what the trees are made from.
-use Rattle.std.proofs.Common.{◌≡◌, ◌∙◌, ℕ, ◌+◌, ◌%◌, ◌<◌, ◌≤◌, ◌++◌, List, drop, take, length, sym, ap, subst, arith}
-use Rattle.std.proofs.lemmas.List.{drop-drop, get_or-drop, get_or-take, get_or_default, length-drop, length-take}
-use Rattle.btr_tree.specs.outside.History.{Image, History, block_at, reads, WritesOnly}
-use Rattle.btr_tree.proofs.outside.Crash.{writes_length}
-use Rattle.btr_tree.proofs.outside.Phases.{reads_outside}
-use Rattle.btr_tree.specs.btr_node.Leaf.{Item}
-use Rattle.btr_tree.specs.btr_node.NodeSize.{IsNodeSize}
-use Rattle.btr_tree.specs.Building.{AreSlots}
-use Rattle.btr_tree.specs.Roots.{lengths_of}
-use Rattle.btr_tree.specs.Writing.{IsInSlots}
-use Rattle.btr_tree.specs.declared.climb.Root.{Root}
-use Rattle.btr_tree.specs.btr_reader_walk.declared.tree.Form.{Form}
-use Rattle.space_items.specs.Nodes.{nodes_of_tree}
-use Rattle.space_items.specs.declared.node.TreeNode.{TreeNode}
-use Rattle.btr_tree_writer.specs.Row.{IsRow}
-use Rattle.btr_tree_writer.specs.Source.{LieApart, SameWhere}
-use Rattle.btr_tree_writer.specs.Trees.{TreeStands, form_of}
-use Rattle.btr_tree_writer.specs.declared.form.NodeForm.{NodeForm}
-use Rattle.btr_tree_writer.specs.declared.trees.Trees.{Trees}
-use Rattle.btr_tree_writer.proofs.Others.{by_nodes}
-use Rattle.btr_tree_writer.proofs.Rows.{slots_left}
-use Rattle.convert_trees.specs.Adding.{Adds}
-use Rattle.convert_trees.specs.First.{left_from}
+use Rattle.convert_trees.proofs.Imports.{◌≡◌, ◌∙◌, ℕ, ◌+◌, ◌%◌, ◌<◌, ◌≤◌, ◌++◌, List, drop, take, length, sym, ap, subst, arith, drop-drop, get_or-drop, get_or-take, get_or_default, length-drop, length-take, Image, History, block_at, reads, WritesOnly, writes_length, reads_outside, Item, IsNodeSize, AreSlots, lengths_of, IsInSlots, Root, Form, nodes_of_tree, TreeNode, IsSlotRow, LieApart, SameWhere, TreeStands, read_form, NodeForm, Trees, by_nodes, slots_left, Adds, left_from}
 use Rattle.convert_trees.proofs.Behind.{IsInRest, IsLater, later_by, writes_behind}
 use Rattle.convert_trees.proofs.Front.{apart_nodes}
 
@@ -84,19 +62,19 @@ still_apart needs row later n old new goes apart =
 
 -- One more tree stands at the slots from number n on, at the end of all writes, and its nodes are told.
 pub record Stood (image : Image) (row : Trees) (n owner : ℕ) (items : List Item) (root : Root) (before after : List TreeNode) : Type 0 where
-  pub stands : TreeStands image (form_of row.form) owner (left_from row n) items root
+  pub stands : TreeStands image (read_form row.form) owner (left_from row n) items root
   pub nodes : after ≡ before ++ nodes_of_tree owner row.form.nodesize (lengths_of items) (left_from row n)
 
 module _ (row old new : Trees) (n owner : ℕ) (items : List Item) (root : Root) (h₀ h₁ h₂ h₃ : History) where
-  pub stood : IsRow row → Goes row old n h₀ h₁ → Goes old new root.nodes h₁ h₂ → WritesOnly (λ b _. IsInRest new b) h₂ h₃ → Adds (reads h₂) old new owner items root
+  pub stood : IsSlotRow row → Goes row old n h₀ h₁ → Goes old new root.nodes h₁ h₂ → WritesOnly (λ b _. IsInRest new b) h₂ h₃ → Adds (reads h₂) old new owner items root
       → Stood (reads h₃) row n owner items root old.nodes new.nodes
   stood is goes one behind adds =
       let both = goes_then row old new n root.nodes h₀ h₁ h₂ goes one in
       let rest = rest_is row old n h₀ h₁ goes in
-      let formed : TreeStands (reads h₂) (form_of row.form) owner (drop old.taken old.slots) items root =
-      subst (λ (f : NodeForm). TreeStands (reads h₂) (form_of f) owner (drop old.taken old.slots) items root) goes.form adds.stands in
-      let there : TreeStands (reads h₂) (form_of row.form) owner (left_from row n) items root =
-      subst (λ (s : List ℕ). TreeStands (reads h₂) (form_of row.form) owner s items root) rest formed in
+      let formed : TreeStands (reads h₂) (read_form row.form) owner (drop old.taken old.slots) items root =
+      subst (λ (f : NodeForm). TreeStands (reads h₂) (read_form f) owner (drop old.taken old.slots) items root) goes.form adds.stands in
+      let there : TreeStands (reads h₂) (read_form row.form) owner (left_from row n) items root =
+      subst (λ (s : List ℕ). TreeStands (reads h₂) (read_form row.form) owner s items root) rest formed in
       let sized : WritesOnly (λ b _. IsInSlots row.form.nodesize (drop new.taken new.slots) b) h₂ h₃ =
       subst (λ (f : NodeForm). WritesOnly (λ b _. IsInSlots f.nodesize (drop new.taken new.slots) b) h₂ h₃) both.form behind in
       let after : drop new.taken new.slots ≡ drop root.nodes (left_from row n) =
@@ -105,7 +83,7 @@ module _ (row old new : Trees) (n owner : ℕ) (items : List Item) (root : Root)
       subst (λ (s : List ℕ). WritesOnly (λ b _. IsInSlots row.form.nodesize s b) h₂ h₃) after sized in
       let left = slots_left row.form.nodesize n (drop row.taken row.slots) (slots_left row.form.nodesize row.taken row.slots is.slots) in
       record {
-        stands = stands_before (form_of row.form) owner root.nodes (left_from row n) items root h₂ h₃ is.size left (omega arith) written there;
+        stands = stands_before (read_form row.form) owner root.nodes (left_from row n) items root h₂ h₃ is.size left (omega arith) written there;
         nodes =
             subst (λ (s : List ℕ). new.nodes ≡ old.nodes ++ nodes_of_tree owner row.form.nodesize (lengths_of items) s) rest
             (subst (λ (f : NodeForm). new.nodes ≡ old.nodes ++ nodes_of_tree owner f.nodesize (lengths_of items) (drop old.taken old.slots)) goes.form adds.nodes);

@@ -1,8 +1,5 @@
 -- Counting the elements of a list that have a property, one after the other.
-use Rattle.std.proofs.Common.{◌≡◌, ◌∙◌, ℕ, zero, suc, ◌+◌, ◌<◌, Bool, true, false, List, [], ◌∷◌, length, take, get_or, count_by, Option, Some, refl, sym, ap, arith}
-use Rattle.std.specs.Prelude.{slice_get, unwrap_or}
-use Rattle.std.proofs.lemmas.List.Sums.{count_by_more_no, count_by_more_yes}
-use Rattle.std.proofs.lemmas.Option.{unwrap_or-slice_get}
+use Rattle.convert_trees.proofs.Imports.{◌≡◌, ◌∙◌, ℕ, zero, suc, ◌+◌, ◌<◌, Bool, true, false, List, [], ◌∷◌, length, take, get_or, count_by, Option, Some, refl, sym, ap, arith, slice_get, unwrap_or, count_by_more_no, count_by_more_yes, unwrap_or-slice_get}
 
 module _ {X : Type 0} (p : X → Bool) where
   there : (xs : List X) (i : ℕ) → i < length xs → (x : X) × (slice_get xs i ≡ Some x)

@@ -7,6 +7,7 @@ pub mod Few
 pub mod Front
 pub mod Given
 pub mod Going
+pub mod Imports
 pub mod Indexing
 pub mod Opening
 pub mod Placing

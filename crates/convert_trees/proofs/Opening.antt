@@ -1,41 +1,8 @@
 -- The trees that are written first: what each needs is there, and all stand in the end.
-use Rattle.std.proofs.Common.{◌≡◌, ◌∙◌, ℕ, ◌+◌, ◌-◌, ◌^◌, ◌≤◌, ◌++◌, Bool, List, [], if◌then◌else◌, drop, length, append_assoc, refl, sym, ap, subst, arith}
-use Rattle.std.proofs.lemmas.List.{length-drop}
-use Rattle.indexmap.specs.IndexMap.{keys}
-use Rattle.btr_tree.specs.outside.History.{Image, History, WritesOnly, reads}
-use Rattle.btr_tree.proofs.outside.Crash.{writes_none}
-use Rattle.btr_tree.specs.btr_node.Leaf.{Item}
-use Rattle.btr_tree.specs.btr_node.NodeSize.{IsNodeSize}
-use Rattle.btr_tree.specs.Counting.{tree_nodes}
-use Rattle.btr_tree.specs.Roots.{lengths_of}
-use Rattle.btr_tree.specs.declared.climb.Root.{Root}
-use Rattle.file_items.specs.Tree.{Source, source_of, tree_items}
-use Rattle.reiser_volume.specs.reiser_volume_contents.Laws.{SameUsed}
-use Rattle.reiser_volume.specs.reiser_bitmap.Bits.{has}
-use Rattle.reiser_volume.specs.Opened.{links_in}
-use Rattle.reiser_volume.specs.Volume.{IsAccepted, superblock, used_of}
-use Rattle.reiser_volume.proofs.Unchanged.{same_volume}
-use Rattle.reiser_volume.specs.reiser_walk.Items.{Item as ReiserItem}
-use Rattle.space_items.specs.StreamLaws.{FitLeaves}
-use Rattle.space_items.specs.Sums.{sum_items}
-use Rattle.space_items.specs.declared.node.TreeNode.{TreeNode}
-use Rattle.space_items.proofs.OwnBound.{roomy}
-use Rattle.reiser_volume.specs.declared.volume.Volume.{Volume}
-use Rattle.btr_tree_writer.specs.Row.{IsRow}
-use Rattle.btr_tree_writer.specs.Source.{LieApart, SameWhere}
-use Rattle.btr_tree_writer.specs.Trees.{AreWritable}
-use Rattle.btr_tree_writer.specs.declared.form.NodeForm.{NodeForm}
-use Rattle.btr_tree_writer.specs.declared.trees.Trees.{Trees}
-use Rattle.btr_tree_writer.proofs.Rows.{apart_left}
-use Rattle.unit_plan.specs.declared.chunk.Chunk.{Chunk}
-use Rattle.convert_options.specs.declared.options.Options.{Options}
-use Rattle.unit_plan.specs.declared.piece.Piece.{Piece}
-use Rattle.btr_tree.specs.vol_block.declared.ids.Ids.{Ids}
-use Rattle.convert_trees.specs.Adding.{Adds}
-use Rattle.convert_trees.specs.First.{AddsFirst, FirstItems, device_from, first_items, image_from, nodes_from, relocation_from, sums_from}
-use Rattle.convert_trees.specs.Sources.{HasVolume, IsInPieces, IsUsed}
+use Rattle.convert_trees.proofs.Imports.{◌≡◌, ◌∙◌, ℕ, ◌+◌, ◌-◌, ◌^◌, ◌≤◌, ◌++◌, Bool, List, [], if◌then◌else◌, drop, length, append_assoc, refl, sym, ap, subst, arith, length-drop, CONV_IMAGE_SUBVOL, CSUM_TREE, DATA_RELOC_TREE, DEV_TREE, FS_TREE, keys, Image, History, WritesOnly, reads, writes_none, Item, IsNodeSize, tree_nodes, lengths_of, Root, SameUsed, has, links_in, IsAccepted, superblock, used_of, same_volume, FitLeaves, sum_items, TreeNode, roomy, Volume, IsSlotRow, LieApart, SameWhere, AreWritable, NodeForm, Trees, apart_left, PlannedChunk, Options, Piece, Ids, Adds, AddsFirst, FirstItems, device_from, first_items, image_from, nodes_from, relocation_from, sums_from, HasPlacedPieces, IsInPieces, IsUsedBlock, FirstRoots}
+use Rattle.file_items.specs.Tree.{Source, source_of, fs_tree_items}
+use Rattle.reiser_volume.specs.reiser_walk.Items.{ReiserItem}
 use Rattle.convert_trees.proofs.Staying.{volume_stays}
-use Rattle.convert_trees.specs.declared.roots.FirstRoots.{FirstRoots}
 use Rattle.convert_trees.proofs.Behind.{IsInRest}
 use Rattle.convert_trees.proofs.Going.{Goes, Stood, goes_by, goes_then, rest_is, same_where, still_apart}
 use Rattle.convert_trees.proofs.Sums.{sum_items_same}
@@ -46,12 +13,12 @@ goes_none row h = record { form = refl; slots = refl; taken = omega arith; only 
 
 -- the items of the file tree, read off these blocks
 abbrev pub files_in : Volume → Options → List Piece → Image → List Item
-files_in volume o pieces image = tree_items (source_of volume pieces o.inline o.datasum image)
+files_in volume o pieces image = fs_tree_items (source_of volume pieces o.inline o.datasum image)
 
 -- they are decided by the used blocks
 pub files_same : (volume : Volume) (o : Options) (pieces : List Piece) (image other : Image) → IsAccepted image → SameUsed (used_of image) image other → (superblock image).blocks ≤ length other
     → files_in volume o pieces other ≡ files_in volume o pieces image
-files_same volume o pieces image other accepted same room = ap (λ (items : List ReiserItem). tree_items (made_from items)) (same_volume image other accepted same room).items
+files_same volume o pieces image other accepted same room = ap (λ (items : List ReiserItem). fs_tree_items (made_from items)) (same_volume image other accepted same room).items
   where
     made_from : List ReiserItem → Source
     made_from items = record {
@@ -66,21 +33,21 @@ files_same volume o pieces image other accepted same room = ap (λ (items : List
 
 -- what the trees are made from when the first is begun: the volume, whose used blocks and pieces no slot touches
 pub record Begins (volume : Volume) (pieces : List Piece) (row : Trees) (image : Image) (h : History) : Type 0 where
-  pub is_row : IsRow row
+  pub is_row : IsSlotRow row
   pub blocks : reads h ≡ image
-  pub there : HasVolume volume pieces image
-  pub used : LieApart (IsUsed volume) row.form.nodesize row.slots
+  pub there : HasPlacedPieces volume pieces image
+  pub used : LieApart (IsUsedBlock volume) row.form.nodesize row.slots
   pub placed : LieApart (IsInPieces pieces) row.form.nodesize row.slots
 
 module _ (volume : Volume) (pieces : List Piece) (row : Trees) (image : Image) (h₀ : History) (begins : Begins volume pieces row image h₀) (mid : Trees) (n : ℕ) (h : History) (goes : Goes row mid n h₀ h) where
-  pub has_still : HasVolume volume pieces (reads h)
+  pub has_still : HasPlacedPieces volume pieces (reads h)
   has_still =
       volume_stays volume pieces image (reads h)
-      (same_where (IsUsed volume) row image h₀ h (apart_left (IsUsed volume) row.form.nodesize row.taken row.slots begins.used) begins.blocks goes.only)
+      (same_where (IsUsedBlock volume) row image h₀ h (apart_left (IsUsedBlock volume) row.form.nodesize row.taken row.slots begins.used) begins.blocks goes.only)
       begins.there
 
-  pub used_still : LieApart (IsUsed volume) mid.form.nodesize mid.slots
-  used_still = still_apart (IsUsed volume) row mid n h₀ h goes begins.used
+  pub used_still : LieApart (IsUsedBlock volume) mid.form.nodesize mid.slots
+  used_still = still_apart (IsUsedBlock volume) row mid n h₀ h goes begins.used
 
   pub placed_still : LieApart (IsInPieces pieces) mid.form.nodesize mid.slots
   placed_still = still_apart (IsInPieces pieces) row mid n h₀ h goes begins.placed
@@ -91,7 +58,7 @@ module _ (volume : Volume) (pieces : List Piece) (row : Trees) (image : Image) (
       (sum_items_same o.sums image (reads h) pieces
       (same_where (IsInPieces pieces) row image h₀ h (apart_left (IsInPieces pieces) row.form.nodesize row.taken row.slots begins.placed) begins.blocks goes.only))
 
-  pub items_still : (o : Options) (ids : Ids) (now : ℕ) (chunks : List Chunk) → first_items volume pieces o ids now chunks (reads h) ≡ first_items volume pieces o ids now chunks image
+  pub items_still : (o : Options) (ids : Ids) (now : ℕ) (chunks : List PlannedChunk) → first_items volume pieces o ids now chunks (reads h) ≡ first_items volume pieces o ids now chunks image
   items_still o ids now chunks =
       ap (λ (files : List Item). items_with files (if o.datasum then sum_items o.sums (reads h) pieces else [])) files_are
       ∙ ap (λ (sums : List Item). items_with (files_in volume o pieces image) sums) (sums_still o)
@@ -99,8 +66,8 @@ module _ (volume : Volume) (pieces : List Piece) (row : Trees) (image : Image) (
       items_with : List Item → List Item → FirstItems
       items_with files sums = record (first_items volume pieces o ids now chunks image) { files = files; sums = sums }
 
-      same : SameWhere (IsUsed volume) image (reads h)
-      same = same_where (IsUsed volume) row image h₀ h (apart_left (IsUsed volume) row.form.nodesize row.taken row.slots begins.used) begins.blocks goes.only
+      same : SameWhere (IsUsedBlock volume) image (reads h)
+      same = same_where (IsUsedBlock volume) row image h₀ h (apart_left (IsUsedBlock volume) row.form.nodesize row.taken row.slots begins.used) begins.blocks goes.only
 
       files_are : files_in volume o pieces (reads h) ≡ files_in volume o pieces image
       files_are =
@@ -109,7 +76,7 @@ module _ (volume : Volume) (pieces : List Piece) (row : Trees) (image : Image) (
           (subst (λ (k : ℕ). (superblock image).blocks ≤ k) (sym same.as_many) begins.there.room)
 
 -- a tree can be written where slots are left for its nodes
-pub writable : (row mid : Trees) (n : ℕ) (h₀ h : History) (items : List Item) → IsRow row → Goes row mid n h₀ h → FitLeaves items → row.taken + n + tree_nodes row.form.nodesize (lengths_of items) ≤ length row.slots
+pub writable : (row mid : Trees) (n : ℕ) (h₀ h : History) (items : List Item) → IsSlotRow row → Goes row mid n h₀ h → FitLeaves items → row.taken + n + tree_nodes row.form.nodesize (lengths_of items) ≤ length row.slots
     → AreWritable mid.form.nodesize (drop mid.taken mid.slots) items
 writable row mid n h₀ h items is goes fit few =
     subst (λ (f : NodeForm). AreWritable f.nodesize (drop mid.taken mid.slots) items) (sym goes.form)
@@ -133,8 +100,8 @@ pub record Step (volume : Volume) (pieces : List Piece) (row : Trees) (image : I
   pub to : Goes row new m h₀ h₂
   pub adds : Adds (reads h₂) old new owner items root
   pub count : root.nodes ≡ tree_nodes row.form.nodesize (lengths_of items)
-  pub there : HasVolume volume pieces (reads h₂)
-  pub used : LieApart (IsUsed volume) new.form.nodesize new.slots
+  pub there : HasPlacedPieces volume pieces (reads h₂)
+  pub used : LieApart (IsUsedBlock volume) new.form.nodesize new.slots
   pub placed : LieApart (IsInPieces pieces) new.form.nodesize new.slots
   pub sums : (o : Options) → (if o.datasum then sum_items o.sums (reads h₂) pieces else []) ≡ (if o.datasum then sum_items o.sums image pieces else [])
 
@@ -160,15 +127,15 @@ more : (a b c x y : List TreeNode) → b ≡ a ++ x → c ≡ b ++ y → c ≡ a
 more a b c x y first second = second ∙ (ap (λ (ns : List TreeNode). ns ++ y) first ∙ append_assoc a x y)
 
 pub adds_first : (image : Image) (row one two three four five : Trees) (items : FirstItems) (r : FirstRoots)
-    → Stood image row 0 5 items.files r.files row.nodes one.nodes → Stood image row (image_from r) 256 items.image_ r.image one.nodes two.nodes
-    → Stood image row (relocation_from r) (2 ^ 64 - 9) items.relocation r.relocation two.nodes three.nodes → Stood image row (sums_from r) 7 items.sums r.sums three.nodes four.nodes
-    → Stood image row (device_from r) 4 items.device r.device four.nodes five.nodes → AddsFirst image row five items r
+    → Stood image row 0 FS_TREE items.files r.files row.nodes one.nodes → Stood image row (image_from r) CONV_IMAGE_SUBVOL items.image_ r.image one.nodes two.nodes
+    → Stood image row (relocation_from r) DATA_RELOC_TREE items.relocation r.relocation two.nodes three.nodes → Stood image row (sums_from r) CSUM_TREE items.sums r.sums three.nodes four.nodes
+    → Stood image row (device_from r) DEV_TREE items.device r.device four.nodes five.nodes → AddsFirst image row five items r
 adds_first image row one two three four five items r files saved relocation sums device =
-    let a : List TreeNode = nodes_from row 5 0 items.files in
-    let b : List TreeNode = nodes_from row 256 (image_from r) items.image_ in
-    let c : List TreeNode = nodes_from row (2 ^ 64 - 9) (relocation_from r) items.relocation in
-    let d : List TreeNode = nodes_from row 7 (sums_from r) items.sums in
-    let e : List TreeNode = nodes_from row 4 (device_from r) items.device in
+    let a : List TreeNode = nodes_from row FS_TREE 0 items.files in
+    let b : List TreeNode = nodes_from row CONV_IMAGE_SUBVOL (image_from r) items.image_ in
+    let c : List TreeNode = nodes_from row DATA_RELOC_TREE (relocation_from r) items.relocation in
+    let d : List TreeNode = nodes_from row CSUM_TREE (sums_from r) items.sums in
+    let e : List TreeNode = nodes_from row DEV_TREE (device_from r) items.device in
     record {
       files = files.stands;
       image_ = saved.stands;

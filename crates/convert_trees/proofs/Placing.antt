@@ -1,8 +1,5 @@
 -- The slots of whole units.
-use Rattle.std.proofs.Common.{ℕ, zero, suc, ◌+◌, ◌*◌, ◌/◌, ◌^◌, ◌<◌, ◌≤◌, List, [], ◌∷◌, length, get_or, arith}
-use Rattle.std.specs.List.{All, AllPairs}
-use Rattle.btr_tree.specs.btr_node.NodeSize.{IsNodeSize}
-use Rattle.unit_plan.specs.Places.{node_places, ArePlaces}
+use Rattle.convert_trees.proofs.Imports.{ℕ, zero, suc, ◌+◌, ◌*◌, ◌/◌, ◌^◌, ◌<◌, ◌≤◌, List, [], ◌∷◌, length, get_or, arith, All, AllPairs, IsNodeSize, node_places, ArePlaces}
 use Rattle.unit_plan.proofs.Placing.{places_serve}
 
 -- ascending numbers are no more than their bound

@@ -1,34 +1,5 @@
 -- The root tree at the slots that were kept for it, and the extent tree behind it.
-use Rattle.std.proofs.Common.{◌≡◌, ◌∙◌, ℕ, ◌+◌, ◌-◌, ◌*◌, ◌≤◌, ◌++◌, List, length, take, drop, refl, sym, ap, subst, arith}
-use Rattle.std.proofs.lemmas.List.{length-drop, length-take}
-use Rattle.btr_tree.specs.outside.History.{History, reads, WritesOnly}
-use Rattle.btr_tree.specs.btr_node.Leaf.{Item}
-use Rattle.btr_tree.specs.btr_node.NodeSize.{IsNodeSize}
-use Rattle.btr_tree.specs.Counting.{node_bound, tree_nodes}
-use Rattle.btr_tree.specs.Roots.{lengths_of}
-use Rattle.btr_tree.specs.Writing.{IsInSlots}
-use Rattle.btr_tree.specs.declared.climb.Root.{Root}
-use Rattle.convert_steps.specs.Standing.{no_trees}
-use Rattle.convert_steps.specs.declared.trees.VolumeTrees.{VolumeTrees}
-use Rattle.space_items.specs.Extents.{extent_items}
-use Rattle.space_items.specs.Nodes.{merged_nodes, nodes_of_tree}
-use Rattle.space_items.specs.Laws.{AreIds}
-use Rattle.space_items.specs.Own.{extent_bytes, own_bound}
-use Rattle.space_items.specs.Roots.{root_items}
-use Rattle.space_items.specs.declared.node.TreeNode.{TreeNode}
-use Rattle.space_items.proofs.Ordered.{root_items_fit}
-use Rattle.space_items.proofs.OwnBound.{bound_up, roomy}
-use Rattle.btr_tree_writer.specs.Row.{IsRow}
-use Rattle.btr_tree_writer.specs.Trees.{AreWritable, TreeStands, form_of}
-use Rattle.btr_tree_writer.specs.declared.form.NodeForm.{NodeForm}
-use Rattle.btr_tree_writer.specs.declared.trees.Trees.{Trees}
-use Rattle.unit_plan.specs.declared.chunk.Chunk.{Chunk}
-use Rattle.unit_plan.specs.declared.piece.Piece.{Piece}
-use Rattle.convert_trees.specs.Adding.{AddsExtents}
-use Rattle.convert_trees.specs.RootTree.{AddsLast, root_count, slots_needed}
-use Rattle.convert_trees.specs.Roots.{listed}
-use Rattle.convert_trees.specs.declared.last.WrittenExtents.{WrittenExtents}
-use Rattle.convert_trees.specs.declared.roots.FirstRoots.{FirstRoots}
+use Rattle.convert_trees.proofs.Imports.{◌≡◌, ◌∙◌, ℕ, ◌+◌, ◌-◌, ◌*◌, ◌≤◌, ◌++◌, List, length, take, drop, refl, sym, ap, subst, arith, length-drop, length-take, EXTENT_TREE, ROOT_TREE, History, reads, WritesOnly, Item, IsNodeSize, node_bound, tree_nodes, lengths_of, IsInSlots, Root, no_trees, VolumeTrees, extent_items, merged_nodes, nodes_of_tree, AreIds, extent_bytes, own_bound, root_items, TreeNode, root_items_fit, bound_up, roomy, IsSlotRow, AreWritable, TreeStands, read_form, NodeForm, Trees, PlannedChunk, Piece, AddsExtents, AddsLast, root_count, slots_needed, listed, WrittenExtents, FirstRoots}
 use Rattle.convert_trees.proofs.Few.{few_merged, row_few}
 use Rattle.convert_trees.proofs.Front.{stands_behind}
 use Rattle.convert_trees.proofs.Rooted.{ascends, roots_alike}
@@ -61,7 +32,7 @@ fits_left : (low high taken count total all later : ℕ) → low ≤ high → ta
 fits_left low high taken count total all later up enough same is = omega (arith, up, enough, same, is)
 
 -- there are slots for the bound of the extent tree's nodes behind those that were kept
-room_behind : (n count : ℕ) (row mid : Trees) (chunks : List Chunk) (pieces : List Piece) (others : List TreeNode) → IsNodeSize n → IsRow mid → mid.slots ≡ row.slots → mid.taken ≡ row.taken + count
+room_behind : (n count : ℕ) (row mid : Trees) (chunks : List PlannedChunk) (pieces : List Piece) (others : List TreeNode) → IsNodeSize n → IsSlotRow mid → mid.slots ≡ row.slots → mid.taken ≡ row.taken + count
     → slots_needed n row.taken count (length pieces) (length chunks) (length others) ≤ length row.slots
     → own_bound chunks pieces (merged_nodes mid.nodes others) n ≤ length mid.slots - mid.taken
 room_behind n count row mid chunks pieces others size is same more enough =
@@ -71,8 +42,8 @@ room_behind n count row mid chunks pieces others size is same more enough =
     let high : ℕ = extent_bytes (length pieces) (length chunks) (row.taken + count + length others) in
     fits_left (node_bound low n) (node_bound high n) row.taken count (length row.slots) (length mid.slots) mid.taken (bound_up low high n size (omega (arith, few))) enough (ap (λ (s : List ℕ). length s) same) more
 
-pub room_left : (row mid : Trees) (form : NodeForm) (index saved now : ℕ) (first : FirstRoots) (extents : Root) (slots : List ℕ) (chunks : List Chunk) (pieces : List Piece) (others : List TreeNode)
-    → row.form ≡ form → index ≡ saved → IsRow row → IsRow mid → mid.slots ≡ row.slots → mid.taken ≡ row.taken + length slots
+pub room_left : (row mid : Trees) (form : NodeForm) (index saved now : ℕ) (first : FirstRoots) (extents : Root) (slots : List ℕ) (chunks : List PlannedChunk) (pieces : List Piece) (others : List TreeNode)
+    → row.form ≡ form → index ≡ saved → IsSlotRow row → IsSlotRow mid → mid.slots ≡ row.slots → mid.taken ≡ row.taken + length slots
     → slots ≡ take (tree_nodes form.nodesize (lengths_of (root_items (listed first extents) index form.ids now form.nodesize))) (drop row.taken row.slots)
     → slots_needed row.form.nodesize row.taken (root_count row.form saved now) (length pieces) (length chunks) (length others) ≤ length row.slots
     → own_bound chunks pieces (merged_nodes mid.nodes others) form.nodesize ≤ length mid.slots - mid.taken
@@ -108,25 +79,25 @@ all_with chunk first x root = record {
   used = x.used;
 }
 
-module _ (old new : History) (row mid later : Trees) (slots : List ℕ) (index now : ℕ) (chunks : List Chunk) (pieces : List Piece) (others : List TreeNode) (chunk : Root) (first : FirstRoots) (x : WrittenExtents) (root : Root) where
+module _ (old new : History) (row mid later : Trees) (slots : List ℕ) (index now : ℕ) (chunks : List PlannedChunk) (pieces : List Piece) (others : List TreeNode) (chunk : Root) (first : FirstRoots) (x : WrittenExtents) (root : Root) where
   abbrev items : NodeForm → List Item
   items form = root_items (listed first x.root) index form.ids now form.nodesize
 
-  both_stand : IsRow row → mid.form ≡ row.form → mid.slots ≡ row.slots → mid.taken ≡ row.taken + root.nodes
-      → mid.nodes ≡ row.nodes ++ nodes_of_tree 1 row.form.nodesize (lengths_of (items row.form)) (drop row.taken row.slots)
+  both_stand : IsSlotRow row → mid.form ≡ row.form → mid.slots ≡ row.slots → mid.taken ≡ row.taken + root.nodes
+      → mid.nodes ≡ row.nodes ++ nodes_of_tree ROOT_TREE row.form.nodesize (lengths_of (items row.form)) (drop row.taken row.slots)
       → WritesOnly (λ b _. IsInSlots row.form.nodesize (take root.nodes (drop row.taken row.slots)) b) old new
       → AddsExtents (reads old) mid later chunks pieces others x
-      → TreeStands (reads new) (form_of row.form) 1 (take root.nodes (drop row.taken row.slots)) (items row.form) root
+      → TreeStands (reads new) (read_form row.form) ROOT_TREE (take root.nodes (drop row.taken row.slots)) (items row.form) root
       → AddsLast (reads new) row index now chunks pieces others (all_with chunk first x root)
   both_stand is forms at taken nodes only adds stands =
-      let ns : List TreeNode = row.nodes ++ nodes_of_tree 1 row.form.nodesize (lengths_of (items row.form)) (drop row.taken row.slots) in
+      let ns : List TreeNode = row.nodes ++ nodes_of_tree ROOT_TREE row.form.nodesize (lengths_of (items row.form)) (drop row.taken row.slots) in
       let known : AddsExtents (reads old) (behind row ns root.nodes) later chunks pieces others x =
       subst (λ (t : Trees). AddsExtents (reads old) t later chunks pieces others x) (same_row mid row ns root.nodes forms at taken nodes) adds in
       record {
         nodes = known.nodes;
         root = stands;
         extents =
-            stands_behind old new (form_of row.form) 2 root.nodes row.taken row.slots (extent_items chunks pieces known.nodes row.form.nodesize) x.root is.size is.slots only known.adds.stands;
+            stands_behind old new (read_form row.form) EXTENT_TREE root.nodes row.taken row.slots (extent_items chunks pieces known.nodes row.form.nodesize) x.root is.size is.slots only known.adds.stands;
         are_all = known.are_all;
         used = known.used;
       }
@@ -134,13 +105,13 @@ module _ (old new : History) (row mid later : Trees) (slots : List ℕ) (index n
   -- by what was called with
   abbrev Stand : NodeForm → Type 0
   Stand form =
-      mid.nodes ≡ row.nodes ++ nodes_of_tree 1 form.nodesize (lengths_of (items form)) (drop row.taken row.slots)
+      mid.nodes ≡ row.nodes ++ nodes_of_tree ROOT_TREE form.nodesize (lengths_of (items form)) (drop row.taken row.slots)
       → slots ≡ take (tree_nodes form.nodesize (lengths_of (items form))) (drop row.taken row.slots)
       → WritesOnly (λ b _. IsInSlots form.nodesize slots b) old new
-      → TreeStands (reads new) (form_of form) 1 slots (items form) root
+      → TreeStands (reads new) (read_form form) ROOT_TREE slots (items form) root
       → AddsLast (reads new) row index now chunks pieces others (all_with chunk first x root)
 
-  stand : IsRow row → mid.form ≡ row.form → mid.slots ≡ row.slots → mid.taken ≡ row.taken + length slots → AddsExtents (reads old) mid later chunks pieces others x
+  stand : IsSlotRow row → mid.form ≡ row.form → mid.slots ≡ row.slots → mid.taken ≡ row.taken + length slots → AddsExtents (reads old) mid later chunks pieces others x
       → tree_nodes row.form.nodesize (lengths_of (items row.form)) ≤ length row.slots - row.taken → Stand row.form
   stand is forms at taken adds few nodes are only stands =
       let count : tree_nodes row.form.nodesize (lengths_of (items row.form)) ≡ root.nodes = sym stands.count in
@@ -148,8 +119,8 @@ module _ (old new : History) (row mid later : Trees) (slots : List ℕ) (index n
       let long : length slots ≡ root.nodes = omega (arith, ap (λ (s : List ℕ). length s) kept, length-take root.nodes (drop row.taken row.slots), length-drop row.taken row.slots, few, count) in
       both_stand is forms at (taken ∙ ap (λ (k : ℕ). row.taken + k) long) nodes
       (subst (λ (s : List ℕ). WritesOnly (λ b _. IsInSlots row.form.nodesize s b) old new) kept only) adds
-      (subst (λ (s : List ℕ). TreeStands (reads new) (form_of row.form) 1 s (items row.form) root) kept stands)
+      (subst (λ (s : List ℕ). TreeStands (reads new) (read_form row.form) ROOT_TREE s (items row.form) root) kept stands)
 
-  pub last_stand : (form : NodeForm) → row.form ≡ form → IsRow row → mid.form ≡ row.form → mid.slots ≡ row.slots → mid.taken ≡ row.taken + length slots → AddsExtents (reads old) mid later chunks pieces others x
+  pub last_stand : (form : NodeForm) → row.form ≡ form → IsSlotRow row → mid.form ≡ row.form → mid.slots ≡ row.slots → mid.taken ≡ row.taken + length slots → AddsExtents (reads old) mid later chunks pieces others x
       → tree_nodes row.form.nodesize (lengths_of (items row.form)) ≤ length row.slots - row.taken → Stand form
   last_stand form same is forms at taken adds few = subst Stand same (stand is forms at taken adds few)

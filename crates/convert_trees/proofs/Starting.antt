@@ -1,39 +1,6 @@
 -- What the trees need is there when the writing begins.
-use Rattle.std.proofs.Common.{◌≡◌, ℕ, ◌+◌, ◌≤◌, Bool, true, false, List, [], if◌then◌else◌, drop, length, refl, sym, subst, arith}
-use Rattle.std.specs.List.{All}
-use Rattle.std.specs.Prelude.{Contains}
-use Rattle.std.proofs.lemmas.List.Elements.{All-nil}
-use Rattle.btr_tree.specs.outside.History.{Image, History, reads}
-use Rattle.btr_tree.specs.btr_node.Leaf.{Item}
-use Rattle.btr_tree.specs.btr_node.NodeSize.{IsNodeSize}
-use Rattle.btr_tree.specs.Counting.{tree_nodes}
-use Rattle.btr_tree.specs.Roots.{lengths_of}
-use Rattle.btr_tree.specs.csum_kinds.declared.kind.SumKind.{SumKind}
-use Rattle.convert_steps.proofs.extent_pieces.Lists.{all_at}
-use Rattle.reiser_volume.specs.reiser_bitmap.Units.{IsFreeUnit}
-use Rattle.reiser_volume.specs.declared.volume.Volume.{Volume}
-use Rattle.space_items.specs.Laws.{AreIds, FitTree}
-use Rattle.space_items.specs.Stream.{ArePieces}
-use Rattle.space_items.specs.StreamLaws.{FitLeaves}
-use Rattle.space_items.specs.Sums.{sum_items}
-use Rattle.space_items.proofs.Ordered.{chunk_items_fit}
-use Rattle.space_items.proofs.OwnBound.{roomy}
-use Rattle.space_items.proofs.StreamOrder.{sum_items_fit}
-use Rattle.btr_tree_writer.specs.Row.{IsRow}
-use Rattle.btr_tree_writer.specs.Source.{LieApart}
-use Rattle.btr_tree_writer.specs.Trees.{AreWritable}
-use Rattle.btr_tree_writer.specs.declared.form.NodeForm.{NodeForm}
-use Rattle.btr_tree_writer.specs.declared.trees.Trees.{Trees}
-use Rattle.unit_plan.specs.Laws.{AreApart, IsSoundPlan}
-use Rattle.unit_plan.specs.Places.{node_places}
-use Rattle.unit_plan.specs.declared.chunk.Chunk.{Chunk}
+use Rattle.convert_trees.proofs.Imports.{◌≡◌, ℕ, ◌+◌, ◌≤◌, Bool, true, false, List, [], if◌then◌else◌, drop, length, refl, sym, subst, arith, All, Contains, All-nil, Image, History, reads, Item, IsNodeSize, tree_nodes, lengths_of, SumKind, all_at, IsFreeUnit, Volume, AreIds, FitTree, ArePieces, FitLeaves, sum_items, chunk_items_fit, roomy, sum_items_fit, IsSlotRow, LieApart, AreWritable, NodeForm, Trees, AreUnitsApart, IsSoundPlan, node_places, PlannedChunk, Options, Piece, Plan, Ids, FirstItems, FitFirst, first_items, HasPlacedPieces, IsInPieces, IsUsedBlock}
 use Rattle.unit_plan.specs.declared.need.Need.{Need}
-use Rattle.convert_options.specs.declared.options.Options.{Options}
-use Rattle.unit_plan.specs.declared.piece.Piece.{Piece}
-use Rattle.unit_plan.specs.declared.plan.Plan.{Plan}
-use Rattle.btr_tree.specs.vol_block.declared.ids.Ids.{Ids}
-use Rattle.convert_trees.specs.First.{FirstItems, FitFirst, first_items}
-use Rattle.convert_trees.specs.Sources.{HasVolume, IsInPieces, IsUsed}
 use Rattle.convert_trees.proofs.Ending.{row_with}
 use Rattle.convert_trees.proofs.Going.{Goes}
 use Rattle.convert_trees.proofs.Opening.{Begins, has_still, items_still}
@@ -55,15 +22,15 @@ fresh_writable row form places items fresh size fit few =
     subst (λ (x : Trees). AreWritable x.form.nodesize (drop x.taken x.slots) items) (sym fresh)
     (record { order = fit.ascend; short = λ i d inside. omega (arith, fit.short i d inside, roomy form.nodesize size); few = few })
 
-module _ (volume : Volume) (o : Options) (ids : Ids) (now : ℕ) (plan : Plan) (pieces : List Piece) (chunks : List Chunk) (image other : Image) (given : Given volume o ids now plan pieces chunks image other) (size : IsNodeSize o.nodesize) where
+module _ (volume : Volume) (o : Options) (ids : Ids) (now : ℕ) (plan : Plan) (pieces : List Piece) (chunks : List PlannedChunk) (image other : Image) (given : Given volume o ids now plan pieces chunks image other) (size : IsNodeSize o.nodesize) where
   -- slots of units that are free, and not for data
-  pub begins : (units : List ℕ) (row : Trees) (h : History) → All (IsFreeUnit volume.bitmap) units → AreApart units plan.data_ → row ≡ row_with (node_form o ids) (node_places o.nodesize units) 0 [] → IsRow row → reads h ≡ other
+  pub begins : (units : List ℕ) (row : Trees) (h : History) → All (IsFreeUnit volume.bitmap) units → AreUnitsApart units plan.data_ → row ≡ row_with (node_form o ids) (node_places o.nodesize units) 0 [] → IsSlotRow row → reads h ≡ other
       → Begins volume pieces row other h
   begins units row h free apart fresh is_row is = record {
     is_row = is_row;
     blocks = is;
     there = given.volume_there;
-    used = subst (λ (x : Trees). LieApart (IsUsed volume) x.form.nodesize x.slots) (sym fresh) (units_unused volume.bitmap o.nodesize units size all_free);
+    used = subst (λ (x : Trees). LieApart (IsUsedBlock volume) x.form.nodesize x.slots) (sym fresh) (units_unused volume.bitmap o.nodesize units size all_free);
     placed =
         subst (λ (x : Trees). LieApart (IsInPieces pieces) x.form.nodesize x.slots) (sym fresh)
         (pieces_apart volume.bitmap o.nodesize units plan.data_ pieces size all_free apart given.moved given.stay);
@@ -85,15 +52,15 @@ module _ (volume : Volume) (o : Options) (ids : Ids) (now : ℕ) (plan : Plan) (
 
   -- What the trees that are written first need is there, where only the chunk tree was written before.
   pub record Ready (row : Trees) (h : History) : Type 0 where
-    pub there : HasVolume volume pieces (reads h)
-    pub used : LieApart (IsUsed volume) row.form.nodesize row.slots
+    pub there : HasPlacedPieces volume pieces (reads h)
+    pub used : LieApart (IsUsedBlock volume) row.form.nodesize row.slots
     pub placed : LieApart (IsInPieces pieces) row.form.nodesize row.slots
     pub same : first_items volume pieces o ids now chunks (reads h) ≡ first_items volume pieces o ids now chunks other
     pub fit : FitFirst row (first_items volume pieces o ids now chunks (reads h))
 
   pub ready : (need : Need) (chunk_row chunk_end row : Trees) (n : ℕ) (start h : History) → IsSoundPlan volume.bitmap need plan → reads start ≡ other
-      → chunk_row ≡ row_with (node_form o ids) (node_places o.nodesize plan.system) 0 [] → IsRow chunk_row → Goes chunk_row chunk_end n start h
-      → row ≡ row_with (node_form o ids) (node_places o.nodesize plan.metadata) 0 [] → IsRow row → ArePieces pieces → AreIds ids → Ready row h
+      → chunk_row ≡ row_with (node_form o ids) (node_places o.nodesize plan.system) 0 [] → IsSlotRow chunk_row → Goes chunk_row chunk_end n start h
+      → row ≡ row_with (node_form o ids) (node_places o.nodesize plan.metadata) 0 [] → IsSlotRow row → ArePieces pieces → AreIds ids → Ready row h
   ready need chunk_row chunk_end row n start h sound is chunk_fresh chunk_is goes fresh row_is are_pieces are_ids =
       let chunk_begins = begins plan.system chunk_row start sound.system.free sound.system_data chunk_fresh chunk_is is in
       let starts = begins plan.metadata row start sound.metadata.free sound.metadata_data fresh row_is is in

@@ -1,22 +1,8 @@
 -- What is read of a volume stays while blocks are written that it does not use.
-use Rattle.std.proofs.Common.{◌≡◌, ◌∙◌, ℕ, ◌≤◌, List, length, sym, ap, subst}
-use Rattle.btr_tree.specs.outside.History.{Image}
-use Rattle.file_items.specs.Stream.{ahead, FitsRestBlocks}
+use Rattle.convert_trees.proofs.Imports.{◌≡◌, ◌∙◌, ℕ, ◌≤◌, List, length, sym, ap, subst, Image, ahead, FitsRestBlocks, Items, SameUsed, has, Super, IsOpened, IsAccepted, superblock, used_of, Volume, opened_same, same_volume, SameWhere, ArePlaced, Piece, FitsFiles, HasPlacedPieces, IsUsedBlock, ReadsVolume}
 use Rattle.file_items.proofs.Unchanged.{ahead_same}
-use Rattle.file_items.specs.declared.items.Items.{Items}
 use Rattle.file_items.specs.declared.items.Rest.{Rest}
 use Rattle.file_items.specs.declared.items.Rest.TheVariants as rest
-use Rattle.reiser_volume.specs.reiser_volume_contents.Laws.{SameUsed}
-use Rattle.reiser_volume.specs.reiser_bitmap.Bits.{has}
-use Rattle.reiser_volume.specs.reiser_super.declared.superblock.Super.{Super}
-use Rattle.reiser_volume.specs.Opened.{IsOpened}
-use Rattle.reiser_volume.specs.Volume.{IsAccepted, superblock, used_of}
-use Rattle.reiser_volume.specs.declared.volume.Volume.{Volume}
-use Rattle.reiser_volume.proofs.Unchanged.{opened_same, same_volume}
-use Rattle.btr_tree_writer.specs.Source.{SameWhere}
-use Rattle.unit_plan.specs.Pieces.{ArePlaced}
-use Rattle.unit_plan.specs.declared.piece.Piece.{Piece}
-use Rattle.convert_trees.specs.Sources.{FitsFiles, HasVolume, IsUsed, ReadsFiles}
 
 rest_blocks : (r : Rest) (volume : Volume) (image other : Image) → IsAccepted other → IsOpened volume other → FitsRestBlocks r volume image → FitsRestBlocks r volume other
 rest_blocks rest.Nothing volume image other accepted opened fits = fits
@@ -28,8 +14,8 @@ rest_blocks (rest.Files f) volume image other accepted opened fits = record {
   numbers_are = fits.numbers_are;
 }
 
-files_read_on : (items : Items) (volume : Volume) (pieces : List Piece) (image other : Image) → SameWhere (IsUsed volume) image other → ReadsFiles items volume pieces image
-    → ReadsFiles items volume pieces other × (ahead items volume pieces other ≡ ahead items volume pieces image)
+files_read_on : (items : Items) (volume : Volume) (pieces : List Piece) (image other : Image) → SameWhere (IsUsedBlock volume) image other → ReadsVolume items volume pieces image
+    → ReadsVolume items volume pieces other × (ahead items volume pieces other ≡ ahead items volume pieces image)
 files_read_on items volume pieces image other same fits =
     let used : SameUsed (used_of image) image other = λ b is. same.blocks b (ap (λ bits. has bits b) fits.opened.bitmap ∙ is) in
     let room = subst (λ (n : ℕ). (superblock image).blocks ≤ n) (sym same.as_many) fits.room in
@@ -45,11 +31,11 @@ files_read_on items volume pieces image other same fits =
       ahead_same items volume pieces image other v.items,
     )
 
-pub files_fit : (items : Items) (volume : Volume) (pieces : List Piece) (image : Image) → ReadsFiles items volume pieces image → FitsFiles items volume pieces image
+pub files_fit : (items : Items) (volume : Volume) (pieces : List Piece) (image : Image) → ReadsVolume items volume pieces image → FitsFiles items volume pieces image
 files_fit items volume pieces image here = record { here = here; stay = λ other same. files_read_on items volume pieces image other same here }
 
 -- a volume stays where its used blocks do
-pub volume_stays : (volume : Volume) (pieces : List Piece) (image other : Image) → SameWhere (IsUsed volume) image other → HasVolume volume pieces image → HasVolume volume pieces other
+pub volume_stays : (volume : Volume) (pieces : List Piece) (image other : Image) → SameWhere (IsUsedBlock volume) image other → HasPlacedPieces volume pieces image → HasPlacedPieces volume pieces other
 volume_stays volume pieces image other same is =
     let used : SameUsed (used_of image) image other = λ b marked. same.blocks b (ap (λ bits. has bits b) is.opened.bitmap ∙ marked) in
     let room = subst (λ (n : ℕ). (superblock image).blocks ≤ n) (sym same.as_many) is.room in

@@ -1,22 +1,9 @@
 -- The checksums of pieces, over a disk whose other blocks are written.
-use Rattle.std.proofs.Common.{◌≡◌, ◌∙◌, ℕ, zero, suc, ◌+◌, ◌-◌, ◌*◌, ◌^◌, ◌<◌, ◌≤◌, min, List, [], ◌∷◌, ◌++◌, map, take, drop, refl, ap, arith}
+use Rattle.convert_trees.proofs.Imports.{◌≡◌, ◌∙◌, ℕ, zero, suc, ◌+◌, ◌-◌, ◌*◌, ◌^◌, ◌<◌, ◌≤◌, min, List, [], ◌∷◌, ◌++◌, map, take, drop, refl, ap, arith, All, flat_map, range_with_len, min-le_right, All-drop, All-head, All-tail, EXTENT_CSUM, EXTENT_CSUM_OBJECTID, Image, block_at, make_key, Item, SumKind, all_from_contains, left_of, block_sum, run_items, sum_items, sums_item, SameWhere, Piece, FitsSumBlocks, IsInPieces}
 use Rattle.std.specs.Int.{div_ceil}
-use Rattle.std.specs.List.{All, flat_map, range_with_len}
-use Rattle.std.proofs.Math.Nat.{min-le_right}
-use Rattle.std.proofs.lemmas.List.Elements.{All-drop, All-head, All-tail}
-use Rattle.btr_tree.specs.outside.History.{Image, block_at}
-use Rattle.btr_tree.specs.btr_keys.Key.{make_key}
-use Rattle.btr_tree.specs.btr_node.Leaf.{Item}
 use Rattle.btr_tree.specs.csum_kinds.Kind.{kind_sum, kind_width}
-use Rattle.btr_tree.specs.csum_kinds.declared.kind.SumKind.{SumKind}
-use Rattle.reiser_volume.proofs.reiser_bitmap.Ranges.{all_from_contains}
-use Rattle.space_items.specs.Stream.{left_of}
-use Rattle.space_items.specs.Sums.{block_sum, run_items, sum_items, sums_item}
 use Rattle.space_items.specs.declared.sum_stream.SumStream.{SumStream}
-use Rattle.btr_tree_writer.specs.Source.{SameWhere}
 use Rattle.unit_plan.specs.Sums.{sums_in_item}
-use Rattle.unit_plan.specs.declared.piece.Piece.{Piece}
-use Rattle.convert_trees.specs.Sources.{FitsSumBlocks, IsInPieces}
 
 map_same : {X : Type 0} (f g : ℕ → X) (a n : ℕ) → ((k : ℕ) → a ≤ k → k < a + n → g k ≡ f k) → map g (range_with_len a n) ≡ map f (range_with_len a n)
 map_same f g a zero same = refl
@@ -40,7 +27,7 @@ module _ (sums : SumKind) (image other : Image) where
 
   item_same : (first count : ℕ) → Same first count → sums_item sums other first count ≡ sums_item sums image first count
   item_same first count same =
-      ap (λ (body : List ℕ). (make_key (2 ^ 64 - 10) 128 (4096 * first), body))
+      ap (λ (body : List ℕ). (make_key EXTENT_CSUM_OBJECTID EXTENT_CSUM (4096 * first), body))
       (flat_same (block_sum sums image) (block_sum sums other) first count (λ b low high. ap (λ (bytes : List ℕ). take (kind_width sums) (kind_sum sums bytes)) (same b low high)))
 
   run_same : (first count : ℕ) → Same first count → run_items sums other first count ≡ run_items sums image first count

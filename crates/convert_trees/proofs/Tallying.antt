@@ -1,9 +1,5 @@
 -- The items of a list, counted one after the other.
-use Rattle.std.proofs.Common.{◌≡◌, ◌∙◌, ℕ, ◌+◌, ◌<◌, ◌≤◌, inl, inr, List, [], ◌∷◌, ◌++◌, length, take, get_or, sym, ap, arith}
-use Rattle.std.proofs.lemmas.List.{map-append, take_more}
-use Rattle.btr_tree.specs.btr_node.Leaf.{Item}
-use Rattle.btr_tree.specs.btr_node.NodeSize.{IsNodeSize}
-use Rattle.btr_tree.specs.Roots.{lengths_of}
+use Rattle.convert_trees.proofs.Imports.{◌≡◌, ◌∙◌, ℕ, ◌+◌, ◌<◌, ◌≤◌, inl, inr, List, [], ◌∷◌, ◌++◌, length, take, get_or, sym, ap, arith, map-append, take_more, Item, IsNodeSize, lengths_of}
 
 pub small_size : (n : ℕ) → IsNodeSize n → n ≤ 65536
 small_size n (inl is) = omega (arith, is)

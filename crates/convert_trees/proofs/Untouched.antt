@@ -1,36 +1,17 @@
 -- The slots of a plan's units touch no used block and no piece.
-use Rattle.std.proofs.Common.{◌≡◌, ◌≢◌, ◌∙◌, ℕ, ◌+◌, ◌*◌, ◌/◌, ◌^◌, ◌<◌, ◌≤◌, ◌⊎◌, ◌++◌, ⊎_elim, Bool, true, false, List, [], ◌∷◌, take, drop, Option, Some, None, refl, sym, ap, subst, arith, true≢false, take-append-drop}
-use Rattle.std.specs.Prelude.{Contains}
-use Rattle.std.specs.List.{range_with_len}
+use Rattle.convert_trees.proofs.Imports.{◌≡◌, ◌≢◌, ◌∙◌, ℕ, ◌+◌, ◌*◌, ◌/◌, ◌^◌, ◌<◌, ◌≤◌, ◌⊎◌, ◌++◌, ⊎_elim, Bool, true, false, List, [], ◌∷◌, take, drop, Option, Some, None, refl, sym, ap, subst, arith, true≢false, take-append-drop, Contains, range_with_len, Contains-append_cases, Contains-append_left, Contains-append_right, Image, IsNodeSize, IsInNode, IsInSlots, HasPlan, HoldsUsed, LiesInUnit, all_at, has, IsFreeUnit, contains_cases, contains_head, contains_tail, range_contains, used_of, LieApart, AreUnitsApart, node_places, places_in, Options, Piece, Plan, IsInPieces}
 use Rattle.std.specs.List.Sorted.{IsPermutation}
 use Rattle.std.proofs.lemmas.Bool.{cases_eq}
-use Rattle.std.proofs.lemmas.List.Elements.{Contains-append_cases, Contains-append_left, Contains-append_right}
 use Rattle.std.proofs.lemmas.List.Sorted.{Contains-permutation, IsPermutation-sym}
 use Rattle.reiser_volume.proofs.fs_paths.Lists.{from_flat_map, from_map}
-use Rattle.btr_tree.specs.outside.History.{Image}
-use Rattle.btr_tree.specs.btr_node.NodeSize.{IsNodeSize}
-use Rattle.btr_tree.specs.Writing.{IsInNode, IsInSlots}
 use Rattle.convert_steps.specs.extent_pieces.Files.{owner, tails}
 use Rattle.convert_steps.specs.extent_pieces.Found.{files_of}
-use Rattle.convert_steps.specs.extent_pieces.Laws.{HasPlan, HoldsUsed, LiesInUnit}
 use Rattle.convert_steps.specs.extent_pieces.Pieces.{Owners, pieces as all_pieces}
-use Rattle.convert_steps.specs.extent_pieces.Placed.{ArePlaced, at_place, at_places, blocks_of_units}
+use Rattle.convert_steps.specs.extent_pieces.Placed.{WerePlaced, at_place, at_places, blocks_of_units}
 use Rattle.convert_steps.specs.extent_pieces.declared.pieces.Pieces.{Pieces}
 use Rattle.convert_steps.proofs.extent_pieces.Covering.{pieces_cover_used}
-use Rattle.convert_steps.proofs.extent_pieces.Lists.{all_at}
-use Rattle.reiser_volume.specs.reiser_bitmap.Bits.{has}
-use Rattle.reiser_volume.specs.reiser_bitmap.Units.{IsFreeUnit}
-use Rattle.reiser_volume.proofs.reiser_bitmap.Ranges.{contains_cases, contains_head, contains_tail, range_contains}
-use Rattle.reiser_volume.specs.Volume.{used_of}
-use Rattle.btr_tree_writer.specs.Source.{LieApart}
-use Rattle.unit_plan.specs.Laws.{AreApart}
 use Rattle.unit_plan.specs.Needed.{nodes_in_unit}
-use Rattle.unit_plan.specs.Places.{node_places, places_in}
-use Rattle.convert_options.specs.declared.options.Options.{Options}
-use Rattle.unit_plan.specs.declared.piece.Piece.{Piece}
-use Rattle.unit_plan.specs.declared.plan.Plan.{Plan}
 use Rattle.unit_plan.proofs.Starts.{among_contains}
-use Rattle.convert_trees.specs.Sources.{IsInPieces}
 
 -- a block of a node that lies in a unit
 in_unit : (nodesize u k b : ℕ) → IsNodeSize nodesize → k < nodes_in_unit nodesize → IsInNode nodesize (2 ^ 20 * u + nodesize * k) b → u ≡ b / 256
@@ -55,7 +36,7 @@ in_units nodesize units b size found =
     subst (λ (u : ℕ). Contains units u) (in_unit nodesize unit.0 node.0 b size (omega (arith, few.1)) inside) unit.1
 
 -- the slots of units that are apart share no block
-pub units_apart : (nodesize : ℕ) (units others : List ℕ) (b : ℕ) → IsNodeSize nodesize → AreApart units others → IsInSlots nodesize (node_places nodesize units) b → IsInSlots nodesize (node_places nodesize others) b → ⊥
+pub units_apart : (nodesize : ℕ) (units others : List ℕ) (b : ℕ) → IsNodeSize nodesize → AreUnitsApart units others → IsInSlots nodesize (node_places nodesize units) b → IsInSlots nodesize (node_places nodesize others) b → ⊥
 units_apart nodesize units others b size apart one other = apart (b / 256) (in_units nodesize units b size one) (in_units nodesize others b size other)
 
 -- a block of a free unit is unused
@@ -64,7 +45,7 @@ units_unused used nodesize units size free b marked inside =
     true≢false (sym marked ∙ (free (b / 256) (in_units nodesize units b size inside)).unused b refl)
 
 -- a piece that stays holds used blocks, another one lies in a data unit
-pub pieces_apart : (used : List Bool) (nodesize : ℕ) (units data_ : List ℕ) (pieces : List Piece) → IsNodeSize nodesize → ((u : ℕ) → Contains units u → IsFreeUnit used u) → AreApart units data_
+pub pieces_apart : (used : List Bool) (nodesize : ℕ) (units data_ : List ℕ) (pieces : List Piece) → IsNodeSize nodesize → ((u : ℕ) → Contains units u → IsFreeUnit used u) → AreUnitsApart units data_
     → ((p : Piece) → Contains pieces p → LiesInUnit data_ p) → ((p : Piece) (b : ℕ) → Contains pieces p → p.from ≡ Some p.place → p.place ≤ b → b < p.place + p.count → has used b ≡ true)
     → LieApart (IsInPieces pieces) nodesize (node_places nodesize units)
 pieces_apart used nodesize units data_ pieces size free apart moved kept b within inside =
@@ -110,7 +91,7 @@ placed_one (q ∷ old) (b ∷ bs) p h =
     (λ (later : Contains (at_places old bs) p). let of = placed_one old bs p later in record { was = of.was; among = contains_tail of.was q old of.among; from = of.from; count = of.count })
     (contains_cases p (at_place q b) (at_places old bs) h)
 
-was_one : (kept : ℕ) (units : List ℕ) (old placed : List Piece) (p : Piece) → ArePlaced kept units old placed → Contains placed p → WasOne old p
+was_one : (kept : ℕ) (units : List ℕ) (old placed : List Piece) (p : Piece) → WerePlaced kept units old placed → Contains placed p → WasOne old p
 was_one kept units old placed p are among =
     let split : take kept old ++ drop kept old ≡ old = take-append-drop kept old in
     ⊎_elim
@@ -122,7 +103,7 @@ was_one kept units old placed p are among =
     (Contains-permutation placed (take kept old ++ at_places (drop kept old) (blocks_of_units units)) p (IsPermutation-sym (take kept old ++ at_places (drop kept old) (blocks_of_units units)) placed are.same) among))
 
 -- the blocks of a piece that stays are used
-pub stays_used : (image : Image) (found : Pieces) (o : Options) (plan : Plan) (placed : List Piece) → HasPlan image found o plan → ArePlaced found.kept plan.data_ found.items.items placed
+pub stays_used : (image : Image) (found : Pieces) (o : Options) (plan : Plan) (placed : List Piece) → HasPlan image found o plan → WerePlaced found.kept plan.data_ found.items.items placed
     → (p : Piece) (b : ℕ) → Contains placed p → p.from ≡ Some p.place → p.place ≤ b → b < p.place + p.count → has (used_of image) b ≡ true
 stays_used image found o plan placed has_plan are p b among stays low high =
     let used : List Bool = used_of image in

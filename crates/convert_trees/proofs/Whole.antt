@@ -1,14 +1,5 @@
 -- Writes to the slots of a plan, and all trees as they stand after the last of them.
-use Rattle.std.proofs.Common.{◌≡◌, ℕ, ◌⊎◌, inl, inr, List, drop, Result, Ok, Err, IfOk, subst}
-use Rattle.std.specs.Result.{MatchResult}
-use Rattle.btr_tree.specs.outside.History.{History, WritesOnly}
-use Rattle.btr_tree.proofs.outside.Crash.{writes_then, writes_weaker}
-use Rattle.btr_tree.specs.Writing.{IsInSlots}
-use Rattle.btr_tree_writer.specs.Answers.{IsFailure}
-use Rattle.btr_tree_writer.specs.declared.answer.WriteAnswer.{WriteAnswer}
-use Rattle.btr_tree_writer.specs.declared.trees.Trees.{Trees}
-use Rattle.unit_plan.specs.Places.{node_places}
-use Rattle.unit_plan.specs.declared.plan.Plan.{Plan}
+use Rattle.convert_trees.proofs.Imports.{◌≡◌, ℕ, ◌⊎◌, inl, inr, List, drop, Result, Ok, Err, IfOk, subst, MatchResult, History, WritesOnly, writes_then, writes_weaker, IsInSlots, IsFailure, WriteAnswer, Trees, node_places, Plan}
 use Rattle.convert_trees.proofs.Behind.{IsInRest, in_left}
 
 -- a block of the units for nodes

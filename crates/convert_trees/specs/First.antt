@@ -1,20 +1,21 @@
 -- The trees that are written first, one behind the other.
 use Rattle.std.specs.Prelude.{◌≡◌, ◌≤◌, ℕ, ◌+◌, ◌-◌, ◌^◌, List, [], ◌++◌, drop, length, if◌then◌else◌}
+use Rattle.btrfs_format.specs.declared.object.TheConstants.{CONV_IMAGE_SUBVOL, CSUM_TREE, DATA_RELOC_TREE, DEV_TREE, FS_TREE}
 use Rattle.btr_tree.specs.outside.History.{Image}
 use Rattle.btr_tree.specs.btr_node.Leaf.{Item}
 use Rattle.btr_tree.specs.Counting.{tree_nodes}
 use Rattle.btr_tree.specs.Roots.{lengths_of}
 use Rattle.file_items.specs.Small.{image_items, relocation_items}
-use Rattle.file_items.specs.Tree.{source_of, tree_items}
+use Rattle.file_items.specs.Tree.{source_of, fs_tree_items}
 use Rattle.reiser_volume.specs.declared.volume.Volume.{Volume}
 use Rattle.space_items.specs.Chunks.{device_items}
 use Rattle.space_items.specs.Nodes.{nodes_of_tree}
 use Rattle.space_items.specs.StreamLaws.{FitLeaves}
 use Rattle.space_items.specs.Sums.{sum_items}
 use Rattle.space_items.specs.declared.node.TreeNode.{TreeNode}
-use Rattle.btr_tree_writer.specs.Trees.{TreeStands, form_of}
+use Rattle.btr_tree_writer.specs.Trees.{TreeStands, read_form}
 use Rattle.btr_tree_writer.specs.declared.trees.Trees.{Trees}
-use Rattle.unit_plan.specs.declared.chunk.Chunk.{Chunk}
+use Rattle.unit_plan.specs.declared.chunk.PlannedChunk.{PlannedChunk}
 use Rattle.convert_options.specs.declared.options.Options.{Options}
 use Rattle.unit_plan.specs.declared.piece.Piece.{Piece}
 use Rattle.btr_tree.specs.vol_block.declared.ids.Ids.{Ids}
@@ -29,9 +30,9 @@ pub record FirstItems : Type 0 where
   pub device : List Item
 
 -- those of a volume, its pieces and chunks, with the checksums of the blocks of a disk
-abbrev pub first_items : Volume → List Piece → Options → Ids → ℕ → List Chunk → Image → FirstItems
+abbrev pub first_items : Volume → List Piece → Options → Ids → ℕ → List PlannedChunk → Image → FirstItems
 first_items volume pieces o ids now chunks image = record {
-  files = tree_items (source_of volume pieces o.inline o.datasum image);
+  files = fs_tree_items (source_of volume pieces o.inline o.datasum image);
   image_ = image_items volume.sup.blocks pieces o.datasum now;
   relocation = relocation_items now;
   sums = if o.datasum then sum_items o.sums image pieces else [];
@@ -76,10 +77,10 @@ nodes_from row owner n items = nodes_of_tree owner row.form.nodesize (lengths_of
 
 -- They stand one behind the other at the first slots that were not taken, and their nodes are told.
 pub record AddsFirst (image : Image) (old new : Trees) (items : FirstItems) (r : FirstRoots) : Type 0 where
-  pub files : TreeStands image (form_of old.form) 5 (left_from old 0) items.files r.files
-  pub image_ : TreeStands image (form_of old.form) 256 (left_from old (image_from r)) items.image_ r.image
-  pub relocation : TreeStands image (form_of old.form) (2 ^ 64 - 9) (left_from old (relocation_from r)) items.relocation r.relocation
-  pub sums : TreeStands image (form_of old.form) 7 (left_from old (sums_from r)) items.sums r.sums
-  pub device : TreeStands image (form_of old.form) 4 (left_from old (device_from r)) items.device r.device
-  pub nodes : new.nodes ≡ old.nodes ++ (nodes_from old 5 0 items.files ++ (nodes_from old 256 (image_from r) items.image_
-      ++ (nodes_from old (2 ^ 64 - 9) (relocation_from r) items.relocation ++ (nodes_from old 7 (sums_from r) items.sums ++ nodes_from old 4 (device_from r) items.device))))
+  pub files : TreeStands image (read_form old.form) FS_TREE (left_from old 0) items.files r.files
+  pub image_ : TreeStands image (read_form old.form) CONV_IMAGE_SUBVOL (left_from old (image_from r)) items.image_ r.image
+  pub relocation : TreeStands image (read_form old.form) DATA_RELOC_TREE (left_from old (relocation_from r)) items.relocation r.relocation
+  pub sums : TreeStands image (read_form old.form) CSUM_TREE (left_from old (sums_from r)) items.sums r.sums
+  pub device : TreeStands image (read_form old.form) DEV_TREE (left_from old (device_from r)) items.device r.device
+  pub nodes : new.nodes ≡ old.nodes ++ (nodes_from old FS_TREE 0 items.files ++ (nodes_from old CONV_IMAGE_SUBVOL (image_from r) items.image_
+      ++ (nodes_from old DATA_RELOC_TREE (relocation_from r) items.relocation ++ (nodes_from old CSUM_TREE (sums_from r) items.sums ++ nodes_from old DEV_TREE (device_from r) items.device))))

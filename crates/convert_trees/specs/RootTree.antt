@@ -1,11 +1,12 @@
 -- The root tree in a row of slots, and the extent tree behind it.
 use Rattle.std.specs.Prelude.{◌≡◌, ℕ, ◌+◌, ◌*◌, ◌++◌, count_by, List, drop, take}
 use Rattle.std.specs.List.{sum_by}
+use Rattle.btrfs_format.specs.declared.object.TheConstants.{EXTENT_TREE, ROOT_TREE}
 use Rattle.btr_tree.specs.outside.History.{Image}
 use Rattle.btr_tree.specs.btr_node.Leaf.{Item}
 use Rattle.btr_tree.specs.Counting.{node_bound, tree_nodes}
 use Rattle.btr_tree.specs.Roots.{lengths_of}
-use Rattle.convert_steps.specs.Standing.{listed as listed_of, no_trees}
+use Rattle.convert_steps.specs.Standing.{rooted_trees as listed_of, no_trees}
 use Rattle.convert_steps.specs.declared.trees.VolumeTrees.{VolumeTrees}
 use Rattle.reiser_volume.specs.reiser_volume_objects.Keys.{root as root_key, same_key}
 use Rattle.reiser_volume.specs.Opened.{links_in}
@@ -15,10 +16,10 @@ use Rattle.space_items.specs.Nodes.{merged_nodes, nodes_of_tree}
 use Rattle.space_items.specs.Own.{extent_bytes}
 use Rattle.space_items.specs.Roots.{root_items}
 use Rattle.space_items.specs.declared.node.TreeNode.{TreeNode}
-use Rattle.btr_tree_writer.specs.Trees.{TreeStands, form_of}
+use Rattle.btr_tree_writer.specs.Trees.{TreeStands, read_form}
 use Rattle.btr_tree_writer.specs.declared.form.NodeForm.{NodeForm}
 use Rattle.btr_tree_writer.specs.declared.trees.Trees.{Trees}
-use Rattle.unit_plan.specs.declared.chunk.Chunk.{Chunk}
+use Rattle.unit_plan.specs.declared.chunk.PlannedChunk.{PlannedChunk}
 use Rattle.unit_plan.specs.declared.piece.Piece.{Piece}
 
 -- The index of the root's entry for the tree of the saved image. It is the root's last; the first entry has index 2.
@@ -41,11 +42,11 @@ slots_needed nodesize taken count pieces chunks others =
 
 -- The root tree stands at the first slots that were not taken, and tells where all others begin. The extent tree stands
 -- behind it. It tells of all nodes, its own among them, and the bytes of all extents are told.
-pub record AddsLast (image : Image) (row : Trees) (index now : ℕ) (chunks : List Chunk) (pieces : List Piece) (others : List TreeNode) (t : VolumeTrees) : Type 0 where
+pub record AddsLast (image : Image) (row : Trees) (index now : ℕ) (chunks : List PlannedChunk) (pieces : List Piece) (others : List TreeNode) (t : VolumeTrees) : Type 0 where
   pub nodes : List TreeNode
-  pub root : TreeStands image (form_of row.form) 1 (take t.root.nodes (drop row.taken row.slots)) (items_of_root row.form index now t) t.root
-  pub extents : TreeStands image (form_of row.form) 2 (drop (row.taken + t.root.nodes) row.slots) (extent_items chunks pieces nodes row.form.nodesize) t.extents
+  pub root : TreeStands image (read_form row.form) ROOT_TREE (take t.root.nodes (drop row.taken row.slots)) (items_of_root row.form index now t) t.root
+  pub extents : TreeStands image (read_form row.form) EXTENT_TREE (drop (row.taken + t.root.nodes) row.slots) (extent_items chunks pieces nodes row.form.nodesize) t.extents
   pub are_all : nodes ≡ merged_nodes
-      (merged_nodes (row.nodes ++ nodes_of_tree 1 row.form.nodesize (lengths_of (items_of_root row.form index now t)) (drop row.taken row.slots)) others)
-      (nodes_of_tree 2 row.form.nodesize (lengths_of (extent_items chunks pieces nodes row.form.nodesize)) (drop (row.taken + t.root.nodes) row.slots))
+      (merged_nodes (row.nodes ++ nodes_of_tree ROOT_TREE row.form.nodesize (lengths_of (items_of_root row.form index now t)) (drop row.taken row.slots)) others)
+      (nodes_of_tree EXTENT_TREE row.form.nodesize (lengths_of (extent_items chunks pieces nodes row.form.nodesize)) (drop (row.taken + t.root.nodes) row.slots))
   pub used : t.used ≡ sum_by (used_in pieces nodes row.form.nodesize) chunks

@@ -1,7 +1,7 @@
 -- The roots that the root tree tells of.
 use Rattle.std.specs.Prelude.{◌^◌, ◌<◌, List}
 use Rattle.btr_tree.specs.declared.climb.Root.{Root}
-use Rattle.convert_steps.specs.Standing.{no_trees, listed as listed_of}
+use Rattle.convert_steps.specs.Standing.{no_trees, rooted_trees as listed_of}
 use Rattle.space_items.specs.declared.node.TreeRoot.{TreeRoot}
 use Rattle.convert_trees.specs.declared.roots.FirstRoots.{FirstRoots}
 

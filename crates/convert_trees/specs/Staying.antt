@@ -8,7 +8,7 @@ use Rattle.space_items.specs.Stream.{sums_ahead}
 use Rattle.space_items.specs.declared.sum_stream.SumStream.{SumStream}
 use Rattle.btr_tree_writer.specs.Source.{SameWhere}
 use Rattle.unit_plan.specs.declared.piece.Piece.{Piece}
-use Rattle.convert_trees.specs.Sources.{FitsFiles, FitsSumBlocks, IsInPieces, IsUsed}
+use Rattle.convert_trees.specs.Sources.{FitsFiles, FitsSumBlocks, IsInPieces, IsUsedBlock}
 
 both_same : (needs : ℕ → Type 0) (image other third : Image) → SameWhere needs image other → SameWhere needs other third → SameWhere needs image third
 both_same needs image other third same more = record {
@@ -16,14 +16,14 @@ both_same needs image other third same more = record {
   blocks = λ b needed. more.blocks b needed ∙ same.blocks b needed;
 }
 
-pub files_stay : (items : Items) (volume : Volume) (pieces : List Piece) (image other : Image) → SameWhere (IsUsed volume) image other → FitsFiles items volume pieces image
+pub files_stay : (items : Items) (volume : Volume) (pieces : List Piece) (image other : Image) → SameWhere (IsUsedBlock volume) image other → FitsFiles items volume pieces image
     → FitsFiles items volume pieces other × (ahead items volume pieces other ≡ ahead items volume pieces image)
 files_stay items volume pieces image other same fits =
     let there = fits.stay other same in (
       record {
         here = there.0;
         stay = λ third more.
-            let beyond = fits.stay third (both_same (IsUsed volume) image other third same more) in
+            let beyond = fits.stay third (both_same (IsUsedBlock volume) image other third same more) in
             (beyond.0, beyond.1 ∙ sym there.1);
       },
       there.1,

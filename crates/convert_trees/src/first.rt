@@ -7,18 +7,18 @@ ghost use Rattle.btr_tree.specs.btr_node.Leaf.{Item};
 ghost use Rattle.btr_tree.specs.Writing.{IsInSlots};
 ghost use Rattle.file_items.specs.Small.{image_items, relocation_items};
 ghost use Rattle.file_items.specs.Stream.{ahead};
-ghost use Rattle.file_items.specs.Tree.{source_of, tree_items};
+ghost use Rattle.file_items.specs.Tree.{source_of, fs_tree_items};
 ghost use Rattle.space_items.specs.Chunks.{chunk_items, device_items};
 ghost use Rattle.space_items.specs.Stream.{ArePieces};
 ghost use Rattle.space_items.specs.Sums.{sum_items};
 ghost use Rattle.btr_tree_writer.specs.Answers.{IsFailure};
-ghost use Rattle.btr_tree_writer.specs.Row.{IsRow};
+ghost use Rattle.btr_tree_writer.specs.Row.{IsSlotRow};
 ghost use Rattle.btr_tree_writer.specs.Source.{LieApart};
-ghost use Rattle.btr_tree_writer.specs.Trees.{AreWritable, form_of};
+ghost use Rattle.btr_tree_writer.specs.Trees.{AreWritable, read_form};
 ghost use Rattle.unit_plan.specs.Chunks.{AreChunks, FitsVolume};
 ghost use Rattle.unit_plan.specs.Pieces.{ArePlaced};
-ghost use Rattle.unit_plan.specs.declared.chunk.Chunk.{Chunk as ChunkOf};
-ghost use Rattle.convert_trees.specs.Sources.{FitsFiles, HasVolume, IsInPieces, IsLiveFiles, IsUsed, end_of};
+ghost use Rattle.unit_plan.specs.declared.chunk.PlannedChunk.{PlannedChunk as PlannedChunkOf};
+ghost use Rattle.convert_trees.specs.Sources.{FitsFiles, HasPlacedPieces, IsInPieces, IsLiveFiles, IsUsedBlock, pieces_end};
 ghost use Rattle.convert_trees.specs.Adding.{Adds};
 
 use crate::sources::{FileItems, SumItems};
@@ -26,22 +26,12 @@ use crate::writing::Writing;
 use btr_item_list::ItemList;
 use btr_tree::{Access, Disk, Root};
 use btr_tree_writer::{ListItems, Trees, WriteAnswer};
+use btrfs_format::object::{
+    CHUNK_TREE, CONV_IMAGE_SUBVOL, CSUM_TREE, DATA_RELOC_TREE, DEV_TREE, FS_TREE,
+};
 use file_items::Items;
 use space_items::{checksums, chunks, devices};
 use unit_plan::PieceList;
-
-/// The numbers of trees.
-const CHUNK_TREE: u64 = 3;
-
-const DEVICE_TREE: u64 = 4;
-
-const FILE_TREE: u64 = 5;
-
-const SUM_TREE: u64 = 7;
-
-const IMAGE_TREE: u64 = 256;
-
-const RELOCATION_TREE: u64 = u64::MAX - 8;
 
 /// Writes the file tree. It is read off the used blocks of the volume.
 pub fn write_files<D: Disk, P: PieceList>(
@@ -49,14 +39,14 @@ pub fn write_files<D: Disk, P: PieceList>(
     disk: &mut D,
     w: &Writing<'_, P>,
 ) -> Result<Root, WriteAnswer>
-    requires row { IsRow row.old }
+    requires row { IsSlotRow row.old }
     requires open { D.opened disk.old ≡ Some Access.Write }
     requires in_range { All (λ a. a + row.old.form.nodesize ≤ 4096 * D.size disk.old) row.old.slots }
-    ensures row { OnOk result (IsRow row.new) }
+    ensures row { OnOk result (IsSlotRow row.new) }
     ensures same { (row.new.form ≡ row.old.form) × (row.new.slots ≡ row.old.slots) }
     ensures taken { IfOk result (λ root. row.new.taken ≡ row.old.taken + root.nodes) }
-    ensures tree { OverTold D.tells (D.blocks disk.old) (λ other. HasVolume w.now.volume.now (P.pieces w.now.pieces.now) other → LieApart (IsUsed w.now.volume.now) row.old.form.nodesize row.old.slots → AreWritable row.old.form.nodesize (drop row.old.taken row.old.slots) (tree_items (source_of w.now.volume.now (P.pieces w.now.pieces.now) w.now.options.now.inline w.now.options.now.datasum other))
-        → MatchResult result (λ root. Adds (reads (D.history disk.new)) row.old row.new 5 (tree_items (source_of w.now.volume.now (P.pieces w.now.pieces.now) w.now.options.now.inline w.now.options.now.datasum other)) root) IsFailure) }
+    ensures tree { OverTold D.tells (D.blocks disk.old) (λ other. HasPlacedPieces w.now.volume.now (P.pieces w.now.pieces.now) other → LieApart (IsUsedBlock w.now.volume.now) row.old.form.nodesize row.old.slots → AreWritable row.old.form.nodesize (drop row.old.taken row.old.slots) (fs_tree_items (source_of w.now.volume.now (P.pieces w.now.pieces.now) w.now.options.now.inline w.now.options.now.datasum other))
+        → MatchResult result (λ root. Adds (reads (D.history disk.new)) row.old row.new FS_TREE (fs_tree_items (source_of w.now.volume.now (P.pieces w.now.pieces.now) w.now.options.now.inline w.now.options.now.datasum other)) root) IsFailure) }
     ensures open { D.opened disk.new ≡ D.opened disk.old }
     ensures size { D.size disk.new ≡ D.size disk.old }
     ensures borrow { D.borrow disk.new ≡ D.borrow disk.old }
@@ -64,7 +54,7 @@ pub fn write_files<D: Disk, P: PieceList>(
     ensures cause { HasCauseOf WriteAnswer.Fault (D.faults disk.old) (D.faults disk.new) result }
 {
     let items = Items::tree5(w.alloc, w.volume, w.pieces, w.options, w.time)?;
-    write_file_tree(row, disk, w, FILE_TREE, items)
+    write_file_tree(row, disk, w, FS_TREE, items)
 }
 
 /// Writes the tree of the saved image.
@@ -73,15 +63,15 @@ pub fn write_image<D: Disk, P: PieceList>(
     disk: &mut D,
     w: &Writing<'_, P>,
 ) -> Result<Root, WriteAnswer>
-    requires row { IsRow row.old }
+    requires row { IsSlotRow row.old }
     requires open { D.opened disk.old ≡ Some Access.Write }
     requires in_range { All (λ a. a + row.old.form.nodesize ≤ 4096 * D.size disk.old) row.old.slots }
     requires moment { w.now.time < 2 ^ 63 }
-    ensures row { OnOk result (IsRow row.new) }
+    ensures row { OnOk result (IsSlotRow row.new) }
     ensures same { (row.new.form ≡ row.old.form) × (row.new.slots ≡ row.old.slots) }
     ensures taken { IfOk result (λ root. row.new.taken ≡ row.old.taken + root.nodes) }
-    ensures tree { OverTold D.tells (D.blocks disk.old) (λ other. HasVolume w.now.volume.now (P.pieces w.now.pieces.now) other → LieApart (IsUsed w.now.volume.now) row.old.form.nodesize row.old.slots → w.now.volume.now.sup.blocks < 2 ^ 52 → AreWritable row.old.form.nodesize (drop row.old.taken row.old.slots) (image_items w.now.volume.now.sup.blocks (P.pieces w.now.pieces.now) w.now.options.now.datasum w.now.time)
-        → MatchResult result (λ root. Adds (reads (D.history disk.new)) row.old row.new 256 (image_items w.now.volume.now.sup.blocks (P.pieces w.now.pieces.now) w.now.options.now.datasum w.now.time) root) IsFailure) }
+    ensures tree { OverTold D.tells (D.blocks disk.old) (λ other. HasPlacedPieces w.now.volume.now (P.pieces w.now.pieces.now) other → LieApart (IsUsedBlock w.now.volume.now) row.old.form.nodesize row.old.slots → w.now.volume.now.sup.blocks < 2 ^ 52 → AreWritable row.old.form.nodesize (drop row.old.taken row.old.slots) (image_items w.now.volume.now.sup.blocks (P.pieces w.now.pieces.now) w.now.options.now.datasum w.now.time)
+        → MatchResult result (λ root. Adds (reads (D.history disk.new)) row.old row.new CONV_IMAGE_SUBVOL (image_items w.now.volume.now.sup.blocks (P.pieces w.now.pieces.now) w.now.options.now.datasum w.now.time) root) IsFailure) }
     ensures open { D.opened disk.new ≡ D.opened disk.old }
     ensures size { D.size disk.new ≡ D.size disk.old }
     ensures borrow { D.borrow disk.new ≡ D.borrow disk.old }
@@ -89,7 +79,7 @@ pub fn write_image<D: Disk, P: PieceList>(
     ensures cause { HasCauseOf WriteAnswer.Fault (D.faults disk.old) (D.faults disk.new) result }
 {
     let items = Items::image(w.alloc, w.volume, w.pieces, w.options, w.time)?;
-    write_file_tree(row, disk, w, IMAGE_TREE, items)
+    write_file_tree(row, disk, w, CONV_IMAGE_SUBVOL, items)
 }
 
 /// Writes the relocation tree.
@@ -98,15 +88,15 @@ pub fn write_relocation<D: Disk, P: PieceList>(
     disk: &mut D,
     w: &Writing<'_, P>,
 ) -> Result<Root, WriteAnswer>
-    requires row { IsRow row.old }
+    requires row { IsSlotRow row.old }
     requires open { D.opened disk.old ≡ Some Access.Write }
     requires in_range { All (λ a. a + row.old.form.nodesize ≤ 4096 * D.size disk.old) row.old.slots }
     requires moment { w.now.time < 2 ^ 63 }
-    ensures row { OnOk result (IsRow row.new) }
+    ensures row { OnOk result (IsSlotRow row.new) }
     ensures same { (row.new.form ≡ row.old.form) × (row.new.slots ≡ row.old.slots) }
     ensures taken { IfOk result (λ root. row.new.taken ≡ row.old.taken + root.nodes) }
-    ensures tree { OverTold D.tells (D.blocks disk.old) (λ other. HasVolume w.now.volume.now (P.pieces w.now.pieces.now) other → LieApart (IsUsed w.now.volume.now) row.old.form.nodesize row.old.slots → AreWritable row.old.form.nodesize (drop row.old.taken row.old.slots) (relocation_items w.now.time)
-        → MatchResult result (λ root. Adds (reads (D.history disk.new)) row.old row.new (2 ^ 64 - 9) (relocation_items w.now.time) root) IsFailure) }
+    ensures tree { OverTold D.tells (D.blocks disk.old) (λ other. HasPlacedPieces w.now.volume.now (P.pieces w.now.pieces.now) other → LieApart (IsUsedBlock w.now.volume.now) row.old.form.nodesize row.old.slots → AreWritable row.old.form.nodesize (drop row.old.taken row.old.slots) (relocation_items w.now.time)
+        → MatchResult result (λ root. Adds (reads (D.history disk.new)) row.old row.new DATA_RELOC_TREE (relocation_items w.now.time) root) IsFailure) }
     ensures open { D.opened disk.new ≡ D.opened disk.old }
     ensures size { D.size disk.new ≡ D.size disk.old }
     ensures borrow { D.borrow disk.new ≡ D.borrow disk.old }
@@ -114,7 +104,7 @@ pub fn write_relocation<D: Disk, P: PieceList>(
     ensures cause { HasCauseOf WriteAnswer.Fault (D.faults disk.old) (D.faults disk.new) result }
 {
     let items = Items::relocation(w.alloc, w.time)?;
-    write_file_tree(row, disk, w, RELOCATION_TREE, items)
+    write_file_tree(row, disk, w, DATA_RELOC_TREE, items)
 }
 
 /// Writes the tree of this number, of the items that come of a file tree.
@@ -125,14 +115,14 @@ fn write_file_tree<D: Disk, P: PieceList>(
     number: u64,
     items: Items,
 ) -> Result<Root, WriteAnswer>
-    requires row { IsRow row.old }
+    requires row { IsSlotRow row.old }
     requires open { D.opened disk.old ≡ Some Access.Write }
     requires in_range { All (λ a. a + row.old.form.nodesize ≤ 4096 * D.size disk.old) row.old.slots }
     requires live { IsLiveFiles items w.now.volume.now (P.pieces w.now.pieces.now) }
-    ensures row { OnOk result (IsRow row.new) }
+    ensures row { OnOk result (IsSlotRow row.new) }
     ensures same { (row.new.form ≡ row.old.form) × (row.new.slots ≡ row.old.slots) }
     ensures taken { IfOk result (λ root. row.new.taken ≡ row.old.taken + root.nodes) }
-    ensures tree { OverTold D.tells (D.blocks disk.old) (λ other. FitsFiles items w.now.volume.now (P.pieces w.now.pieces.now) other → LieApart (IsUsed w.now.volume.now) row.old.form.nodesize row.old.slots → (all : List Item) → ahead items w.now.volume.now (P.pieces w.now.pieces.now) other ≡ all → AreWritable row.old.form.nodesize (drop row.old.taken row.old.slots) all
+    ensures tree { OverTold D.tells (D.blocks disk.old) (λ other. FitsFiles items w.now.volume.now (P.pieces w.now.pieces.now) other → LieApart (IsUsedBlock w.now.volume.now) row.old.form.nodesize row.old.slots → (all : List Item) → ahead items w.now.volume.now (P.pieces w.now.pieces.now) other ≡ all → AreWritable row.old.form.nodesize (drop row.old.taken row.old.slots) all
         → MatchResult result (λ root. Adds (reads (D.history disk.new)) row.old row.new number all root) IsFailure) }
     ensures open { D.opened disk.new ≡ D.opened disk.old }
     ensures size { D.size disk.new ≡ D.size disk.old }
@@ -154,16 +144,16 @@ pub fn write_sums<D: Disk, P: PieceList>(
     disk: &mut D,
     w: &Writing<'_, P>,
 ) -> Result<Root, WriteAnswer>
-    requires row { IsRow row.old }
+    requires row { IsSlotRow row.old }
     requires open { D.opened disk.old ≡ Some Access.Write }
     requires in_range { All (λ a. a + row.old.form.nodesize ≤ 4096 * D.size disk.old) row.old.slots }
     requires pieces { ArePieces (P.pieces w.now.pieces.now) }
-    requires places { end_of (P.pieces w.now.pieces.now) ≤ D.size disk.old }
-    ensures row { OnOk result (IsRow row.new) }
+    requires places { pieces_end (P.pieces w.now.pieces.now) ≤ D.size disk.old }
+    ensures row { OnOk result (IsSlotRow row.new) }
     ensures same { (row.new.form ≡ row.old.form) × (row.new.slots ≡ row.old.slots) }
     ensures taken { IfOk result (λ root. row.new.taken ≡ row.old.taken + root.nodes) }
     ensures tree { OverTold D.tells (D.blocks disk.old) (λ other. LieApart (IsInPieces (P.pieces w.now.pieces.now)) row.old.form.nodesize row.old.slots → AreWritable row.old.form.nodesize (drop row.old.taken row.old.slots) (if w.now.options.now.datasum then sum_items w.now.options.now.sums other (P.pieces w.now.pieces.now) else [])
-        → MatchResult result (λ root. Adds (reads (D.history disk.new)) row.old row.new 7 (if w.now.options.now.datasum then sum_items w.now.options.now.sums other (P.pieces w.now.pieces.now) else []) root) IsFailure) }
+        → MatchResult result (λ root. Adds (reads (D.history disk.new)) row.old row.new CSUM_TREE (if w.now.options.now.datasum then sum_items w.now.options.now.sums other (P.pieces w.now.pieces.now) else []) root) IsFailure) }
     ensures open { D.opened disk.new ≡ D.opened disk.old }
     ensures size { D.size disk.new ≡ D.size disk.old }
     ensures borrow { D.borrow disk.new ≡ D.borrow disk.old }
@@ -172,13 +162,13 @@ pub fn write_sums<D: Disk, P: PieceList>(
 {
     if !w.options.datasum {
         let none = ItemList::new(w.alloc);
-        return row.write(w.alloc, disk, SUM_TREE, &mut ListItems::new(&none));
+        return row.write(w.alloc, disk, CSUM_TREE, &mut ListItems::new(&none));
     }
     let mut items = SumItems {
         sums: checksums(w.alloc, w.pieces, w.options.sums)?,
         pieces: w.pieces,
     };
-    row.write(w.alloc, disk, SUM_TREE, &mut items)
+    row.write(w.alloc, disk, CSUM_TREE, &mut items)
 }
 
 /// Writes the device tree.
@@ -187,16 +177,16 @@ pub fn write_devices<D: Disk, P: PieceList>(
     disk: &mut D,
     w: &Writing<'_, P>,
 ) -> Result<Root, WriteAnswer>
-    requires row { IsRow row.old }
+    requires row { IsSlotRow row.old }
     requires open { D.opened disk.old ≡ Some Access.Write }
     requires in_range { All (λ a. a + row.old.form.nodesize ≤ 4096 * D.size disk.old) row.old.slots }
     requires small { w.now.volume.now.sup.blocks ≤ 2 ^ 29 }
     requires units { FitsVolume w.now.plan.now w.now.volume.now.sup.blocks }
-    ensures row { OnOk result (IsRow row.new) }
+    ensures row { OnOk result (IsSlotRow row.new) }
     ensures same { (row.new.form ≡ row.old.form) × (row.new.slots ≡ row.old.slots) }
     ensures taken { IfOk result (λ root. row.new.taken ≡ row.old.taken + root.nodes) }
-    ensures tree { OverTold D.tells (D.blocks disk.old) (λ other. (chunks : List ChunkOf) → AreChunks w.now.plan.now w.now.volume.now.sup.blocks chunks → AreWritable row.old.form.nodesize (drop row.old.taken row.old.slots) (device_items w.now.form.ids chunks)
-        → MatchResult result (λ root. Adds (reads (D.history disk.new)) row.old row.new 4 (device_items w.now.form.ids chunks) root) IsFailure) }
+    ensures tree { OverTold D.tells (D.blocks disk.old) (λ other. (chunks : List PlannedChunkOf) → AreChunks w.now.plan.now w.now.volume.now.sup.blocks chunks → AreWritable row.old.form.nodesize (drop row.old.taken row.old.slots) (device_items w.now.form.ids chunks)
+        → MatchResult result (λ root. Adds (reads (D.history disk.new)) row.old row.new DEV_TREE (device_items w.now.form.ids chunks) root) IsFailure) }
     ensures open { D.opened disk.new ≡ D.opened disk.old }
     ensures size { D.size disk.new ≡ D.size disk.old }
     ensures borrow { D.borrow disk.new ≡ D.borrow disk.old }
@@ -204,7 +194,7 @@ pub fn write_devices<D: Disk, P: PieceList>(
     ensures cause { HasCauseOf WriteAnswer.Fault (D.faults disk.old) (D.faults disk.new) result }
 {
     let list = devices(w.alloc, w.plan, w.volume.sup().blocks, &w.form.ids)?;
-    row.write(w.alloc, disk, DEVICE_TREE, &mut ListItems::new(&list))
+    row.write(w.alloc, disk, DEV_TREE, &mut ListItems::new(&list))
 }
 
 /// Writes the chunk tree.
@@ -213,16 +203,16 @@ pub fn write_chunks<D: Disk, P: PieceList>(
     disk: &mut D,
     w: &Writing<'_, P>,
 ) -> Result<Root, WriteAnswer>
-    requires row { IsRow row.old }
+    requires row { IsSlotRow row.old }
     requires open { D.opened disk.old ≡ Some Access.Write }
     requires in_range { All (λ a. a + row.old.form.nodesize ≤ 4096 * D.size disk.old) row.old.slots }
     requires small { w.now.volume.now.sup.blocks ≤ 2 ^ 29 }
     requires units { FitsVolume w.now.plan.now w.now.volume.now.sup.blocks }
-    ensures row { OnOk result (IsRow row.new) }
+    ensures row { OnOk result (IsSlotRow row.new) }
     ensures same { (row.new.form ≡ row.old.form) × (row.new.slots ≡ row.old.slots) }
     ensures taken { IfOk result (λ root. row.new.taken ≡ row.old.taken + root.nodes) }
-    ensures tree { OverTold D.tells (D.blocks disk.old) (λ other. (chunks : List ChunkOf) → AreChunks w.now.plan.now w.now.volume.now.sup.blocks chunks → AreWritable row.old.form.nodesize (drop row.old.taken row.old.slots) (chunk_items w.now.form.ids w.now.volume.now.sup.blocks chunks)
-        → MatchResult result (λ root. Adds (reads (D.history disk.new)) row.old row.new 3 (chunk_items w.now.form.ids w.now.volume.now.sup.blocks chunks) root) IsFailure) }
+    ensures tree { OverTold D.tells (D.blocks disk.old) (λ other. (chunks : List PlannedChunkOf) → AreChunks w.now.plan.now w.now.volume.now.sup.blocks chunks → AreWritable row.old.form.nodesize (drop row.old.taken row.old.slots) (chunk_items w.now.form.ids w.now.volume.now.sup.blocks chunks)
+        → MatchResult result (λ root. Adds (reads (D.history disk.new)) row.old row.new CHUNK_TREE (chunk_items w.now.form.ids w.now.volume.now.sup.blocks chunks) root) IsFailure) }
     ensures open { D.opened disk.new ≡ D.opened disk.old }
     ensures size { D.size disk.new ≡ D.size disk.old }
     ensures borrow { D.borrow disk.new ≡ D.borrow disk.old }

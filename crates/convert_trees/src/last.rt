@@ -13,19 +13,19 @@ ghost use Rattle.space_items.specs.Own.{own_bound};
 ghost use Rattle.space_items.specs.Stream.{ArePieces};
 ghost use Rattle.space_items.specs.declared.node.TreeNode.{TreeNode as NodeOf};
 ghost use Rattle.btr_tree_writer.specs.Answers.{IsFailure};
-ghost use Rattle.btr_tree_writer.specs.Row.{IsRow};
+ghost use Rattle.btr_tree_writer.specs.Row.{IsSlotRow};
 ghost use Rattle.unit_plan.specs.Chunks.{AreChunks, FitsVolume};
-ghost use Rattle.unit_plan.specs.declared.chunk.Chunk.{Chunk as ChunkOf};
+ghost use Rattle.unit_plan.specs.declared.chunk.PlannedChunk.{PlannedChunk as PlannedChunkOf};
 ghost use Rattle.convert_trees.specs.Adding.{Adds, AddsExtents};
 
 use crate::sources::ExtentItems;
 use crate::writing::Writing;
 use btr_tree::{Access, Disk, Memory, Root, node_bound};
 use btr_tree_writer::{Trees, WriteAnswer};
+use btrfs_format::object::EXTENT_TREE;
 use space_items::{NodeList, extents, merged, own_nodes, with_own};
+use unit_plan::item_bytes::{BLOCK_GROUP_BYTES, EXTENT_BYTES, NODE_BYTES};
 use unit_plan::{PieceList, chunks_of};
-
-const EXTENT_TREE: u64 = 2;
 
 /// The extent tree that was written.
 #[derive(Clone, Copy)]
@@ -42,11 +42,13 @@ fn extent_bound<P: PieceList>(w: &Writing<'_, P>, others: usize) -> Result<u64, 
     requires units { FitsVolume w.now.plan.now w.now.volume.now.sup.blocks }
     requires pieces { ArePieces (P.pieces w.now.pieces.now) }
     requires few { others < 2 ^ 44 }
-    ensures { (chunks : List ChunkOf) → AreChunks w.now.plan.now w.now.volume.now.sup.blocks chunks → (nodes : List NodeOf) → length nodes ≡ others
+    ensures { (chunks : List PlannedChunkOf) → AreChunks w.now.plan.now w.now.volume.now.sup.blocks chunks → (nodes : List NodeOf) → length nodes ≡ others
         → IfOk result (λ n. n ≡ own_bound chunks (P.pieces w.now.pieces.now) nodes w.now.form.nodesize) }
 {
     let chunks = chunks_of(w.alloc, w.plan, w.volume.sup().blocks)?;
-    let bytes = 107 * w.pieces.len() as u64 + 49 * chunks.len() as u64 + 58 * others as u64;
+    let bytes = EXTENT_BYTES * w.pieces.len() as u64
+        + BLOCK_GROUP_BYTES * chunks.len() as u64
+        + NODE_BYTES * others as u64;
     Ok(2 * node_bound(bytes, w.form.nodesize) + 16)
 }
 
@@ -57,7 +59,7 @@ fn all_nodes<P: PieceList>(
     w: &Writing<'_, P>,
     chunk_nodes: &NodeList,
 ) -> Result<NodeList, WriteAnswer>
-    requires row { IsRow row.now }
+    requires row { IsSlotRow row.now }
     requires form { row.now.form ≡ w.now.form }
     requires small { w.now.volume.now.sup.blocks ≤ 2 ^ 29 }
     requires units { FitsVolume w.now.plan.now w.now.volume.now.sup.blocks }
@@ -66,11 +68,11 @@ fn all_nodes<P: PieceList>(
     requires few { length chunk_nodes.now < 2 ^ 43 }
     ensures nodes { IfOk result AreNodes }
     ensures answers { IfErr result (λ e. (e ≡ WriteAnswer.Misfit) ⊎ (e ≡ WriteAnswer.Memory)) }
-    ensures all { (chunks : List ChunkOf) → AreChunks w.now.plan.now w.now.volume.now.sup.blocks chunks → IfOk result (λ all. all ≡ merged_nodes (merged_nodes row.now.nodes chunk_nodes.now)
-        (nodes_of_tree 2 w.now.form.nodesize (lengths_of (extent_items chunks (P.pieces w.now.pieces.now) all w.now.form.nodesize)) (drop row.now.taken row.now.slots))) }
-    ensures room { (chunks : List ChunkOf) → AreChunks w.now.plan.now w.now.volume.now.sup.blocks chunks
+    ensures all { (chunks : List PlannedChunkOf) → AreChunks w.now.plan.now w.now.volume.now.sup.blocks chunks → IfOk result (λ all. all ≡ merged_nodes (merged_nodes row.now.nodes chunk_nodes.now)
+        (nodes_of_tree EXTENT_TREE w.now.form.nodesize (lengths_of (extent_items chunks (P.pieces w.now.pieces.now) all w.now.form.nodesize)) (drop row.now.taken row.now.slots))) }
+    ensures room { (chunks : List PlannedChunkOf) → AreChunks w.now.plan.now w.now.volume.now.sup.blocks chunks
         → IfOk result (λ all. tree_nodes w.now.form.nodesize (lengths_of (extent_items chunks (P.pieces w.now.pieces.now) all w.now.form.nodesize)) ≤ length row.now.slots - row.now.taken) }
-    ensures misfit { (chunks : List ChunkOf) → AreChunks w.now.plan.now w.now.volume.now.sup.blocks chunks
+    ensures misfit { (chunks : List PlannedChunkOf) → AreChunks w.now.plan.now w.now.volume.now.sup.blocks chunks
         → own_bound chunks (P.pieces w.now.pieces.now) (merged_nodes row.now.nodes chunk_nodes.now) w.now.form.nodesize ≤ length row.now.slots - row.now.taken → IfErr result (λ e. e ≡ WriteAnswer.Memory) }
 {
     let blocks = w.volume.sup().blocks;
@@ -94,7 +96,7 @@ pub fn write_extents<D: Disk, P: PieceList>(
     w: &Writing<'_, P>,
     chunk_nodes: &NodeList,
 ) -> Result<WrittenExtents, WriteAnswer>
-    requires row { IsRow row.old }
+    requires row { IsSlotRow row.old }
     requires form { row.old.form ≡ w.now.form }
     requires open { D.opened disk.old ≡ Some Access.Write }
     requires in_range { All (λ a. a + row.old.form.nodesize ≤ 4096 * D.size disk.old) row.old.slots }
@@ -103,10 +105,10 @@ pub fn write_extents<D: Disk, P: PieceList>(
     requires pieces { ArePieces (P.pieces w.now.pieces.now) }
     requires nodes { AreNodes chunk_nodes.now }
     requires few { length chunk_nodes.now < 2 ^ 43 }
-    ensures row { OnOk result (IsRow row.new) }
+    ensures row { OnOk result (IsSlotRow row.new) }
     ensures same { (row.new.form ≡ row.old.form) × (row.new.slots ≡ row.old.slots) }
     ensures taken { IfOk result (λ x. row.new.taken ≡ row.old.taken + x.root.nodes) }
-    ensures tree { IsTrue D.tells → (chunks : List ChunkOf) → AreChunks w.now.plan.now w.now.volume.now.sup.blocks chunks
+    ensures tree { IsTrue D.tells → (chunks : List PlannedChunkOf) → AreChunks w.now.plan.now w.now.volume.now.sup.blocks chunks
         → own_bound chunks (P.pieces w.now.pieces.now) (merged_nodes row.old.nodes chunk_nodes.now) w.now.form.nodesize ≤ length row.old.slots - row.old.taken
         → MatchResult result (λ x. AddsExtents (reads (D.history disk.new)) row.old row.new chunks (P.pieces w.now.pieces.now) chunk_nodes.now x) IsFailure }
     ensures open { D.opened disk.new ≡ D.opened disk.old }

@@ -13,9 +13,9 @@ ghost use Rattle.space_items.specs.Nodes.{AreNodes, nodes_of_tree};
 ghost use Rattle.space_items.specs.Roots.{root_items};
 ghost use Rattle.space_items.specs.Stream.{ArePieces};
 ghost use Rattle.btr_tree_writer.specs.Answers.{IsFailure};
-ghost use Rattle.btr_tree_writer.specs.Row.{IsRow};
+ghost use Rattle.btr_tree_writer.specs.Row.{IsSlotRow};
 ghost use Rattle.unit_plan.specs.Chunks.{AreChunks, FitsVolume};
-ghost use Rattle.unit_plan.specs.declared.chunk.Chunk.{Chunk as ChunkOf};
+ghost use Rattle.unit_plan.specs.declared.chunk.PlannedChunk.{PlannedChunk as PlannedChunkOf};
 ghost use Rattle.convert_trees.specs.RootTree.{AddsLast, root_count, saved_in, slots_needed};
 ghost use Rattle.convert_trees.specs.Roots.{AreFew, listed};
 
@@ -24,12 +24,11 @@ use crate::roots::{FirstRoots, counted, root_list, saved_index};
 use crate::writing::Writing;
 use btr_tree::{Access, Disk, Memory, Root, Slots};
 use btr_tree_writer::{ListItems, Trees, WriteAnswer, write_tree};
+use btrfs_format::object::ROOT_TREE;
 use convert_steps::VolumeTrees;
 use space_items::NodeList;
 use std::alloc::Global;
 use unit_plan::PieceList;
-
-const ROOT_TREE: u64 = 1;
 
 /// Keeps slots for the root tree, writes the extent tree behind them, and then the root tree.
 pub fn write_last<D: Disk, P: PieceList>(
@@ -40,7 +39,7 @@ pub fn write_last<D: Disk, P: PieceList>(
     first: FirstRoots,
     chunk_nodes: &NodeList,
 ) -> Result<VolumeTrees, WriteAnswer>
-    requires row { IsRow row.old }
+    requires row { IsSlotRow row.old }
     requires form { row.old.form ≡ w.now.form }
     requires ids { AreIds w.now.form.ids }
     requires open { D.opened disk.old ≡ Some Access.Write }
@@ -53,7 +52,7 @@ pub fn write_last<D: Disk, P: PieceList>(
     requires few { length chunk_nodes.now < 2 ^ 43 }
     requires roots { (extents : RootOf) → extents.nodes < 2 ^ 43 → AreFew first extents }
     ensures same { IfOk result (λ t. (t.chunk ≡ chunk) × (t.files ≡ first.files) × (t.image ≡ first.image) × (t.relocation ≡ first.relocation) × (t.sums ≡ first.sums) × (t.device ≡ first.device)) }
-    ensures trees { IsTrue D.tells → (opened : Image) → IsOpened w.now.volume.now opened → (chunks : List ChunkOf) → AreChunks w.now.plan.now w.now.volume.now.sup.blocks chunks
+    ensures trees { IsTrue D.tells → (opened : Image) → IsOpened w.now.volume.now opened → (chunks : List PlannedChunkOf) → AreChunks w.now.plan.now w.now.volume.now.sup.blocks chunks
         → slots_needed row.old.form.nodesize row.old.taken (root_count row.old.form (saved_in w.now.volume.now) w.now.time) (length (P.pieces w.now.pieces.now)) (length chunks) (length chunk_nodes.now) ≤ length row.old.slots
         → MatchResult result (λ t. AddsLast (reads (D.history disk.new)) row.old (saved_in w.now.volume.now) w.now.time chunks (P.pieces w.now.pieces.now) chunk_nodes.now t) IsFailure }
     ensures open { D.opened disk.new ≡ D.opened disk.old }
@@ -84,16 +83,16 @@ fn keep_roots<P: PieceList>(
     first: FirstRoots,
     index: u64,
 ) -> Result<Slots, WriteAnswer>
-    requires row { IsRow row.old }
+    requires row { IsSlotRow row.old }
     requires form { row.old.form ≡ w.now.form }
     requires ids { AreIds w.now.form.ids }
     requires moment { w.now.time < 2 ^ 63 }
     requires few { (extents : RootOf) → extents.nodes ≡ 0 → AreFew first extents }
-    ensures row { OnOk result (IsRow row.new) }
+    ensures row { OnOk result (IsSlotRow row.new) }
     ensures same { (row.new.form ≡ row.old.form) × (row.new.slots ≡ row.old.slots) }
     ensures slots { (extents : RootOf) → IfOk result (λ slots. slots ≡ take (tree_nodes w.now.form.nodesize (lengths_of (root_items (listed first extents) index w.now.form.ids w.now.time w.now.form.nodesize))) (drop row.old.taken row.old.slots)) }
     ensures taken { IfOk result (λ slots. row.new.taken ≡ row.old.taken + length slots) }
-    ensures nodes { (extents : RootOf) → OnOk result (row.new.nodes ≡ row.old.nodes ++ nodes_of_tree 1 w.now.form.nodesize (lengths_of (root_items (listed first extents) index w.now.form.ids w.now.time w.now.form.nodesize)) (drop row.old.taken row.old.slots)) }
+    ensures nodes { (extents : RootOf) → OnOk result (row.new.nodes ≡ row.old.nodes ++ nodes_of_tree ROOT_TREE w.now.form.nodesize (lengths_of (root_items (listed first extents) index w.now.form.ids w.now.time w.now.form.nodesize)) (drop row.old.taken row.old.slots)) }
     ensures answers { IfErr result (λ e. (e ≡ WriteAnswer.Misfit) ⊎ (e ≡ WriteAnswer.Memory)) }
     ensures misfit { (extents : RootOf) → row.old.taken + tree_nodes w.now.form.nodesize (lengths_of (root_items (listed first extents) index w.now.form.ids w.now.time w.now.form.nodesize)) ≤ length row.old.slots → IfErr result (λ e. e ≡ WriteAnswer.Memory) }
 {

@@ -12,7 +12,8 @@ ghost use Rattle.convert_trees.specs.Roots.{AreFew, listed};
 use crate::writing::Writing;
 use btr_item_list::ItemList;
 use btr_tree::{Counter, Memory, Root};
-use reiser_volume::{Numbers, Volume};
+use btrfs_format::object::DATA_RELOC_TREE;
+use reiser_volume::{InodeNumbers, Volume};
 use space_items::{RootList, TreeRoot, roots};
 use unit_plan::PieceList;
 
@@ -44,7 +45,7 @@ pub fn root_list<P: PieceList>(
     add_root(&mut list, 5, first.files)?;
     add_root(&mut list, 7, first.sums)?;
     add_root(&mut list, 256, first.image)?;
-    add_root(&mut list, u64::MAX - 8, first.relocation)?;
+    add_root(&mut list, DATA_RELOC_TREE, first.relocation)?;
     roots(w.alloc, &list, index, &w.form.ids, w.time, w.form.nodesize)
 }
 
@@ -59,7 +60,7 @@ fn add_root(list: &mut RootList, tree: u64, root: Root) -> Result<(), Memory>
 pub fn saved_index(volume: &Volume) -> u64
     ensures { (image : Image) → IsOpened volume.now image → result ≡ 2 + count_by (λ n. same_key n.dir root) (links_in volume.now) }
 {
-    let numbers = Numbers::new(volume);
+    let numbers = InodeNumbers::new(volume);
     let mut index = 2;
     for i in 0..volume.link_count() {
         if numbers.is_root(volume.link(i).dir) {

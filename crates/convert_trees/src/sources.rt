@@ -15,23 +15,23 @@ pub struct FileItems<'a, P: PieceList> {
 }
 
 impl<'a, P: PieceList> ItemSource for FileItems<'a, P> {
-    ghost use Rattle.file_items.specs.Stream.{ahead, HasItem, Stands};
-    ghost use Rattle.convert_trees.specs.Sources.{FitsFiles, IsLiveFiles, IsUsed};
+    ghost use Rattle.file_items.specs.Stream.{ahead, HasGivenItem, StandsNext};
+    ghost use Rattle.convert_trees.specs.Sources.{FitsFiles, IsLiveFiles, IsUsedBlock};
     ghost use Rattle.convert_trees.specs.Staying.{files_stay};
 
     ghost ahead = { λ s image. ahead s.items s.volume.now (P.pieces s.pieces.now) image };
 
     ghost fits = { λ s image. FitsFiles s.items s.volume.now (P.pieces s.pieces.now) image };
 
-    ghost needs = { λ s b. IsUsed s.volume.now b };
+    ghost needs = { λ s b. IsUsedBlock s.volume.now b };
 
     ghost is_live = { λ s. IsLiveFiles s.items s.volume.now (P.pieces s.pieces.now) };
 
     ghost reach = { λ s. 0 };
 
-    ghost stands = { λ s item. Stands s.items item };
+    ghost stands = { λ s item. StandsNext s.items item };
 
-    ghost has_item = { λ s. HasItem s.items };
+    ghost has_item = { λ s. HasGivenItem s.items };
 
     fn advance<S: BlockSource>(&mut self, src: &mut S) -> Result<bool, VolAnswer> {
         self.items.advance(src, self.volume, self.pieces)
@@ -58,7 +58,7 @@ pub struct SumItems<'a, P: PieceList> {
 impl<'a, P: PieceList> ItemSource for SumItems<'a, P> {
     ghost use Rattle.std.specs.Prelude.{◌≡◌, ◌≤◌, length};
     ghost use Rattle.space_items.specs.Stream.{sum_standing, sums_ahead};
-    ghost use Rattle.convert_trees.specs.Sources.{FitsSumBlocks, IsInPieces, IsLiveSums, end_of};
+    ghost use Rattle.convert_trees.specs.Sources.{FitsSumBlocks, IsInPieces, IsLiveSums, pieces_end};
     ghost use Rattle.convert_trees.specs.Staying.{sums_stay};
 
     ghost ahead = { λ s image. sums_ahead s.sums (P.pieces s.pieces.now) image };
@@ -69,7 +69,7 @@ impl<'a, P: PieceList> ItemSource for SumItems<'a, P> {
 
     ghost is_live = { λ s. IsLiveSums s.sums (P.pieces s.pieces.now) };
 
-    ghost reach = { λ s. end_of (P.pieces s.pieces.now) };
+    ghost reach = { λ s. pieces_end (P.pieces s.pieces.now) };
 
     ghost stands = { λ s item. item ≡ sum_standing s.sums };
 

@@ -9,15 +9,15 @@ ghost use Rattle.space_items.specs.Laws.{AreIds};
 ghost use Rattle.space_items.specs.Stream.{ArePieces};
 ghost use Rattle.space_items.specs.declared.node.TreeNode.{TreeNode as NodeOf};
 ghost use Rattle.btr_tree_writer.specs.Answers.{IsFailure};
-ghost use Rattle.btr_tree_writer.specs.Row.{IsRow};
+ghost use Rattle.btr_tree_writer.specs.Row.{IsSlotRow};
 ghost use Rattle.btr_tree_writer.specs.Source.{LieApart};
 ghost use Rattle.unit_plan.specs.Chunks.{AreChunks, FitsVolume};
 ghost use Rattle.unit_plan.specs.Laws.{IsSoundPlan};
 ghost use Rattle.unit_plan.specs.Places.{node_places};
-ghost use Rattle.unit_plan.specs.declared.chunk.Chunk.{Chunk as ChunkOf};
+ghost use Rattle.unit_plan.specs.declared.chunk.PlannedChunk.{PlannedChunk as PlannedChunkOf};
 ghost use Rattle.unit_plan.specs.declared.need.Need.{Need as NeedOf};
 ghost use Rattle.convert_trees.specs.First.{AddsFirst, FitFirst, first_items};
-ghost use Rattle.convert_trees.specs.Sources.{HasVolume, IsInPieces, IsUsed, end_of};
+ghost use Rattle.convert_trees.specs.Sources.{HasPlacedPieces, IsInPieces, IsUsedBlock, pieces_end};
 ghost use Rattle.convert_steps.specs.Standing.{AllFit, HasTrees, IsFor, SameVolume, used_bytes};
 
 use crate::first::{
@@ -56,7 +56,7 @@ pub fn write_trees<D: Disk, P: PieceList>(
     requires sound { (need : NeedOf) × IsSoundPlan volume.now.bitmap need plan.now }
     requires whole { length volume.now.bitmap ≡ volume.now.sup.blocks }
     requires pieces { ArePieces (P.pieces pieces.now) }
-    requires places { end_of (P.pieces pieces.now) ≤ D.size disk.old }
+    requires places { pieces_end (P.pieces pieces.now) ≤ D.size disk.old }
     requires moment { now < 2 ^ 63 }
     requires open { D.opened disk.old ≡ Some Access.Write }
     ensures trees { OverTold D.tells (D.blocks disk.old) (λ other. (image : Image) (m : MakingOf) → IsMaking image m → IsFor m volume.now options.now ids.now now plan.now (P.pieces pieces.now)
@@ -104,7 +104,7 @@ fn row_of<P: PieceList>(w: &Writing<'_, P>, units: &Units) -> Result<Trees, Writ
     requires small { w.now.volume.now.sup.blocks ≤ 2 ^ 29 }
     requires ascending { AllPairs (λ u v. u < v) units.now }
     requires within { All (λ u. 256 * u + 256 ≤ w.now.volume.now.sup.blocks) units.now }
-    ensures row { IfOk result IsRow }
+    ensures row { IfOk result IsSlotRow }
     ensures fields { IfOk result (λ row. (row.form ≡ w.now.form) × (row.slots ≡ node_places w.now.form.nodesize units.now) × (row.taken ≡ 0) × (row.nodes ≡ [])) }
     ensures in_range { IfOk result (λ row. All (λ a. a + w.now.form.nodesize ≤ 4096 * w.now.volume.now.sup.blocks) row.slots) }
     ensures answers { IfErr result (λ e. e ≡ WriteAnswer.Memory) }
@@ -119,19 +119,19 @@ fn write_first<D: Disk, P: PieceList>(
     disk: &mut D,
     w: &Writing<'_, P>,
 ) -> Result<FirstRoots, WriteAnswer>
-    requires row { IsRow row.old }
+    requires row { IsSlotRow row.old }
     requires open { D.opened disk.old ≡ Some Access.Write }
     requires in_range { All (λ a. a + row.old.form.nodesize ≤ 4096 * D.size disk.old) row.old.slots }
     requires moment { w.now.time < 2 ^ 63 }
     requires small { w.now.volume.now.sup.blocks ≤ 2 ^ 29 }
     requires units { FitsVolume w.now.plan.now w.now.volume.now.sup.blocks }
     requires pieces { ArePieces (P.pieces w.now.pieces.now) }
-    requires places { end_of (P.pieces w.now.pieces.now) ≤ D.size disk.old }
-    ensures row { OnOk result (IsRow row.new) }
+    requires places { pieces_end (P.pieces w.now.pieces.now) ≤ D.size disk.old }
+    ensures row { OnOk result (IsSlotRow row.new) }
     ensures same { (row.new.form ≡ row.old.form) × (row.new.slots ≡ row.old.slots) }
     ensures taken { IfOk result (λ r. row.new.taken ≡ row.old.taken + r.files.nodes + r.image.nodes + r.relocation.nodes + r.sums.nodes + r.device.nodes) }
-    ensures tree { OverTold D.tells (D.blocks disk.old) (λ other. (chunks : List ChunkOf) → AreChunks w.now.plan.now w.now.volume.now.sup.blocks chunks → HasVolume w.now.volume.now (P.pieces w.now.pieces.now) other
-        → LieApart (IsUsed w.now.volume.now) row.old.form.nodesize row.old.slots → LieApart (IsInPieces (P.pieces w.now.pieces.now)) row.old.form.nodesize row.old.slots
+    ensures tree { OverTold D.tells (D.blocks disk.old) (λ other. (chunks : List PlannedChunkOf) → AreChunks w.now.plan.now w.now.volume.now.sup.blocks chunks → HasPlacedPieces w.now.volume.now (P.pieces w.now.pieces.now) other
+        → LieApart (IsUsedBlock w.now.volume.now) row.old.form.nodesize row.old.slots → LieApart (IsInPieces (P.pieces w.now.pieces.now)) row.old.form.nodesize row.old.slots
         → FitFirst row.old (first_items w.now.volume.now (P.pieces w.now.pieces.now) w.now.options.now w.now.form.ids w.now.time chunks other)
         → MatchResult result (λ r. AddsFirst (reads (D.history disk.new)) row.old row.new (first_items w.now.volume.now (P.pieces w.now.pieces.now) w.now.options.now w.now.form.ids w.now.time chunks other) r) IsFailure) }
     ensures open { D.opened disk.new ≡ D.opened disk.old }

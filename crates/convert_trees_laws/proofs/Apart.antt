@@ -1,29 +1,6 @@
 -- No two pieces of a volume hold one block of it, nor one block of a file.
-use Rattle.std.proofs.Common.{◌≡◌, ◌≤◌, ℕ, ◌==◌, Bool, true, false, cond, List, [], ◌∷◌, ◌++◌, length, map, take, drop, filter, get_or, Option, Some, None, refl, sym, ap, subst, ◌∙◌, arith}
-use Rattle.std.specs.Prelude.{All, AllPairs}
-use Rattle.std.specs.List.{AllByRecursion, IsDistinct}
-use Rattle.std.specs.List.Sorted.{IsPermutation}
-use Rattle.std.proofs.lemmas.Bool.Decides.{nat_tests}
-use Rattle.std.proofs.lemmas.List.Elements.{All-append}
-use Rattle.std.proofs.lemmas.Map.Keys.{IsDistinct-IsPermutation, IsDistinct-from_apart}
+use Rattle.convert_trees_laws.proofs.Imports.{◌≡◌, ◌≤◌, ℕ, ◌==◌, Bool, true, false, cond, List, [], ◌∷◌, ◌++◌, length, map, take, drop, filter, get_or, Option, Some, None, refl, sym, ap, subst, ◌∙◌, arith, All, AllPairs, AllByRecursion, IsDistinct, IsPermutation, nat_tests, All-append, IsDistinct-IsPermutation, IsDistinct-from_apart, from_map, Image, all_from_contains, used_of, Options, Piece, Plan, Pieces, Tail, FileAt, owner, tails, files_of, CoverUsed, HasPlan, HoldsBlock, IsKeptPiece, Owners, copied_pieces, kept_pieces, tail_piece, WerePlaced, at_place, at_places, blocks_of_units, IsCopied, is_copied_piece, pieces_cover_used, all_at, kept_are_maximal}
 use Rattle.std.proofs.Math.Seq.{drop-append_seam, take-append_seam}
-use Rattle.btr_reader.proofs.fs_paths.Lists.{from_map}
-use Rattle.btr_reader.specs.outside.History.{Image}
-use Rattle.convert_steps.proofs.reiser_bitmap.Ranges.{all_from_contains}
-use Rattle.convert_steps.specs.reiser_volume.Volume.{used_of}
-use Rattle.convert_steps.specs.convert_options.declared.options.Options.{Options}
-use Rattle.convert_steps.specs.unit_plan.declared.piece.Piece.{Piece}
-use Rattle.convert_steps.specs.unit_plan.declared.plan.Plan.{Plan}
-use Rattle.convert_steps.specs.extent_pieces.declared.pieces.Pieces.{Pieces}
-use Rattle.convert_steps.specs.extent_pieces.declared.tail.Tail.{Tail}
-use Rattle.convert_steps.specs.extent_pieces.Files.{FileAt, owner, tails}
-use Rattle.convert_steps.specs.extent_pieces.Found.{files_of}
-use Rattle.convert_steps.specs.extent_pieces.Laws.{CoverUsed, HasPlan, HoldsBlock, IsKeptPiece}
-use Rattle.convert_steps.specs.extent_pieces.Pieces.{Owners, copied_pieces, kept_pieces, tail_piece}
-use Rattle.convert_steps.specs.extent_pieces.Placed.{ArePlaced, at_place, at_places, blocks_of_units}
-use Rattle.convert_steps.proofs.extent_pieces.Covering.{IsCopied, is_copied_piece, pieces_cover_used}
-use Rattle.convert_steps.proofs.extent_pieces.Lists.{all_at}
-use Rattle.convert_steps.proofs.extent_pieces.Maximal.{kept_are_maximal}
 use Rattle.convert_trees_laws.proofs.Rising.{all_each}
 
 -- ---- a relation of pieces that asks nothing of their places
@@ -143,7 +120,7 @@ module _ (image : Image) (found : Pieces) (o : Options) (plan : Plan) (has_plan 
   pub back : drop found.kept found.items.items ≡ rest
   back = ap (λ (n : ℕ). drop n found.items.items) has_plan.found_.kept_are ∙ (ap (drop (length kept)) old_is ∙ drop-append_seam kept rest)
 
-  pub permuted : (placed : List Piece) → ArePlaced found.kept plan.data_ found.items.items placed → IsPermutation (kept ++ at_places rest places) placed
+  pub permuted : (placed : List Piece) → WerePlaced found.kept plan.data_ found.items.items placed → IsPermutation (kept ++ at_places rest places) placed
   permuted placed are = subst (λ (xs : List Piece). IsPermutation (xs ++ at_places rest places) placed) front (subst (λ (xs : List Piece). IsPermutation (take found.kept found.items.items ++ at_places xs places) placed) back are.same)
 
   pub cover : CoverUsed used by (kept ++ rest)
@@ -158,11 +135,11 @@ module _ (image : Image) (found : Pieces) (o : Options) (plan : Plan) (has_plan 
       (all_from_contains (λ p. 1 ≤ p.count) made (λ p h. let mapped = from_map tail_piece all_tails p h in let one = ap (λ (q : Piece). q.count) mapped.2 in omega (arith, one))))
 
   pub placed_distinct : (R : Piece → Piece → Bool) → ((p q : Piece) → R p q ≡ R q p) → ((p q : Piece) (b : ℕ) → R (at_place p b) q ≡ R p q) → ((p q : Piece) (b : ℕ) → R p (at_place q b) ≡ R p q)
-      → AllPairs (λ p q. R p q ≡ false) (kept ++ rest) → (placed : List Piece) → ArePlaced found.kept plan.data_ found.items.items placed → IsDistinct R placed
+      → AllPairs (λ p q. R p q ≡ false) (kept ++ rest) → (placed : List Piece) → WerePlaced found.kept plan.data_ found.items.items placed → IsDistinct R placed
   placed_distinct R flips left right pairs placed are =
       IsDistinct-IsPermutation R flips (kept ++ at_places rest places) placed (permuted placed are) (distinct_moved R left right kept rest places (IsDistinct-from_apart R (kept ++ rest) pairs))
 
-  pub shares_none : (placed : List Piece) → ArePlaced found.kept plan.data_ found.items.items placed → IsDistinct shares placed
+  pub shares_none : (placed : List Piece) → WerePlaced found.kept plan.data_ found.items.items placed → IsDistinct shares placed
   shares_none placed are =
       placed_distinct shares shares_flips (λ p q b. refl) (λ p q b. refl)
       (λ i j d order inside. no_share (get_or (kept ++ rest) i d) (get_or (kept ++ rest) j d) (some_blocks i d (omega (arith, order, inside))) (some_blocks j d inside) (cover.once i j d order inside)) placed are

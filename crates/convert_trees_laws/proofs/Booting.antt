@@ -1,31 +1,6 @@
 -- The bootstrap array has room for the chunks of the chunk tree.
-use Rattle.std.proofs.Common.{◌≡◌, ℕ, ◌*◌, ◌^◌, ◌≤◌, Bool, false, List, [], ◌∷◌, length, filter, refl, sym, ◌∙◌, ap, subst, arith, length-append, ⊎_elim}
-use Rattle.std.specs.Int.{div_ceil}
-use Rattle.std.specs.List.{flat_map, range_with_len}
-use Rattle.std.proofs.lemmas.List.{length-map}
-use Rattle.std.proofs.lemmas.List.FromFn.{length-range_with_len}
-use Rattle.btr_reader.specs.outside.History.{Image}
-use Rattle.btr_reader.specs.btr_node.NodeSize.{IsNodeSize}
-use Rattle.convert_steps.specs.btr_tree.Counting.{node_bound}
-use Rattle.convert_steps.specs.Making.{IsMaking, Making}
-use Rattle.convert_steps.proofs.extent_pieces.Bounding.{filter_few}
-use Rattle.convert_steps.specs.reiser_bitmap.Runs.{begins_run, free_runs, maximal_runs, run_from}
-use Rattle.convert_steps.specs.reiser_bitmap.Units.{is_free_unit, unit_count}
+use Rattle.convert_trees_laws.proofs.Imports.{◌≡◌, ℕ, ◌*◌, ◌^◌, ◌≤◌, Bool, false, List, [], ◌∷◌, length, filter, refl, sym, ◌∙◌, ap, subst, arith, length-append, ⊎_elim, div_ceil, flat_map, range_with_len, length-map, length-range_with_len, Image, IsNodeSize, node_bound, IsMaking, Making, filter_few, begins_run, free_runs, maximal_runs, run_from, is_free_unit, unit_count, accepted_is_small, used_length, used_of, bound_up, HasEnoughSpace, IsPlan, AreChunks, chunk_bound, chunk_nodes, chunk_tree_bytes, need, nodes_in_unit, PlannedChunk, Role, Metadata, Data, Counts, Need, Options, Plan}
 use Rattle.convert_steps.specs.reiser_super.declared.superblock.Super.{Super}
-use Rattle.convert_steps.proofs.reiser_volume.Bounds.{accepted_is_small}
-use Rattle.convert_steps.proofs.reiser_volume.Holding.{used_length}
-use Rattle.convert_steps.specs.reiser_volume.Volume.{used_of}
-use Rattle.convert_steps.proofs.space_items.OwnBound.{bound_up}
-use Rattle.convert_steps.specs.unit_plan.Choice.{HasEnoughSpace, IsPlan}
-use Rattle.convert_steps.specs.unit_plan.Chunks.{AreChunks}
-use Rattle.convert_steps.specs.unit_plan.Needed.{chunk_bound, chunk_nodes, chunk_tree_bytes, need, nodes_in_unit}
-use Rattle.convert_steps.specs.unit_plan.declared.chunk.Chunk.{Chunk}
-use Rattle.convert_steps.specs.unit_plan.declared.chunk.Role.{Role}
-use Rattle.convert_steps.specs.unit_plan.declared.chunk.Role.TheVariants.{Metadata, Data}
-use Rattle.convert_steps.specs.unit_plan.declared.counts.Counts.{Counts}
-use Rattle.convert_steps.specs.unit_plan.declared.need.Need.{Need}
-use Rattle.convert_steps.specs.convert_options.declared.options.Options.{Options}
-use Rattle.convert_steps.specs.unit_plan.declared.plan.Plan.{Plan}
 use Rattle.convert_trees_laws.proofs.SystemChunks.{system_chunks_few}
 
 -- ---- how many units the chunk tree needs
@@ -67,16 +42,16 @@ system_few used c o size small blocks runs = system_need_few c o size (omega (ar
 -- ---- what they take in the array
 
 -- The array holds a record for each chunk of the chunk tree. A test tells these from the others.
-module _ (tells : Role → Bool) (metadata : tells Metadata ≡ false) (data_ : tells Data ≡ false) (record_of : Chunk → List ℕ) (sized : (c : Chunk) → length (record_of c) ≡ 97) where
-  boot_length : (cs : List Chunk) → length (flat_map record_of cs) ≡ 97 * length cs
+module _ (tells : Role → Bool) (metadata : tells Metadata ≡ false) (data_ : tells Data ≡ false) (record_of : PlannedChunk → List ℕ) (sized : (c : PlannedChunk) → length (record_of c) ≡ 97) where
+  boot_length : (cs : List PlannedChunk) → length (flat_map record_of cs) ≡ 97 * length cs
   boot_length [] = refl
   boot_length (c ∷ cs) = let both = length-append (record_of c) (flat_map record_of cs) in let here = sized c in let rest = boot_length cs in omega (arith, both, here, rest)
 
-  abbrev boot : List Chunk → List ℕ
+  abbrev boot : List PlannedChunk → List ℕ
   boot chunks = flat_map record_of (filter (λ c. tells c.role) chunks)
 
   -- 21 chunks have room, and there are no more than 17
-  pub boot_fits_by : (used : List Bool) (n : Need) (plan : Plan) (chunks : List Chunk) → HasEnoughSpace used n → IsPlan used n plan → AreChunks plan (length used) chunks → n.system ≤ 16384
+  pub boot_fits_by : (used : List Bool) (n : Need) (plan : Plan) (chunks : List PlannedChunk) → HasEnoughSpace used n → IsPlan used n plan → AreChunks plan (length used) chunks → n.system ≤ 16384
       → length (boot chunks) ≤ 2048
   boot_fits_by used n plan chunks enough is are small =
       let few = system_chunks_few tells metadata data_ used n plan chunks enough is are in
@@ -101,7 +76,7 @@ module _ (image : Image) (m : Making) (made : IsMaking image m) where
       system_few (used_of image) counts m.options size used_few (ap (λ (c : Counts). c.blocks) made.has_pieces.plan_.found_.counts_are)
       (ap (λ (c : Counts). c.runs) made.has_pieces.plan_.found_.counts_are)
 
-  pub boot_fits : (tells : Role → Bool) → tells Metadata ≡ false → tells Data ≡ false → (record_of : Chunk → List ℕ) → ((c : Chunk) → length (record_of c) ≡ 97) → IsNodeSize m.options.nodesize
+  pub boot_fits : (tells : Role → Bool) → tells Metadata ≡ false → tells Data ≡ false → (record_of : PlannedChunk → List ℕ) → ((c : PlannedChunk) → length (record_of c) ≡ 97) → IsNodeSize m.options.nodesize
       → length (flat_map record_of (filter (λ c. tells c.role) m.chunks)) ≤ 2048
   boot_fits tells metadata data_ record_of sized size =
       boot_fits_by tells metadata data_ record_of sized (used_of image) (need counts m.options) m.plan m.chunks made.has_pieces.plan_.enough made.has_pieces.plan_.plan_ chunks_of (system_few_made size)

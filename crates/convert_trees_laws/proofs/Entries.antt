@@ -1,51 +1,18 @@
 -- The entries of directories in a tree of the file tree's items.
-use Rattle.std.proofs.Common.{◌≡◌, ◌≤◌, ◌<◌, ℕ, ◌+◌, ◌^◌, ◌==◌, ◌&&◌, not, Bool, true, false, cond, List, [], ◌∷◌, ◌++◌, append_assoc, length, map, count_by, Option, Some, None, refl, sym, ap, ◌∙◌, if◌then◌else◌, arith}
-use Rattle.std.specs.List.{AllByRecursion, IsDistinct, flat_map}
-use Rattle.std.specs.Ordering.{is_lt}
-use Rattle.std.proofs.lemmas.Bool.Decides.{nat_tests}
-use Rattle.std.proofs.lemmas.List.{append-nil, map-append}
-use Rattle.std.proofs.lemmas.List.Sums.{sum_by-cons}
-use Rattle.btr_reader.specs.castagnoli.Castagnoli.{name_hash}
-use Rattle.indexmap.specs.IndexMap.{keys}
-use Rattle.btr_reader.specs.fs_rows.declared.row.Kind.{Kind}
-use Rattle.btr_reader.specs.fs_rows.declared.row.Kind.TheVariants.{Directory, File, Symlink, Character, Block, Fifo, Socket, Subvolume}
-use Rattle.btr_reader.specs.btr_keys.DirEntry.{DirEntryValue, dir_entry_bytes, dir_entry_head, dir_items_of}
-use Rattle.btr_reader.specs.btr_keys.Key.{key_layout, make_key}
-use Rattle.btr_reader.proofs.btr_keys.Records.{dir_items_read_back}
-use Rattle.btr_reader.specs.btr_reader_names.Links.{index_entry, is_index, naming_at, namings, only_one, own_naming}
-use Rattle.btr_reader.specs.btr_reader_names.declared.naming.Naming.{Naming}
-use Rattle.btr_reader.specs.btr_node.Leaf.{Item}
-use Rattle.btr_reader.specs.btr_reader_walk.Events.{TreeItem}
-use Rattle.btr_reader.specs.btr_reader_walk.Tree.{bare_item}
-use Rattle.convert_steps.specs.Source.{made_from}
-use Rattle.convert_steps.specs.file_items.Extents.{extents_at, file_block, pieces_of}
-use Rattle.convert_steps.specs.file_items.Names.{Entry, Indexed, entry_items, entry_kind, entry_to, indexed_in, names_in, next_index, saved_entry}
-use Rattle.convert_steps.specs.file_items.Tree.{Source, content_items, extent_items, inline_in, kind_in, name_items, number_of, object_items, size_in, tree_items}
-use Rattle.convert_steps.specs.btr_item_list.Extents.{extent_item, inline_extent, regular_extent}
-use Rattle.convert_steps.specs.btr_item_list.Groups.{grouped}
-use Rattle.convert_steps.specs.reiser_volume_files.Bytes.{target_bytes}
-use Rattle.convert_steps.specs.reiser_volume_names.Links.{object_cmp}
-use Rattle.convert_steps.specs.reiser_volume_names.Names.{inode_of}
-use Rattle.convert_steps.specs.reiser_volume_objects.declared.key.ObjectKey.{ObjectKey}
-use Rattle.convert_steps.specs.reiser_volume_objects.declared.naming.Naming.{Naming as Link}
-use Rattle.convert_steps.specs.reiser_volume_objects.Keys.{items_of, root, same_key}
-use Rattle.convert_steps.specs.reiser_volume.Numbers.{by_inode}
-use Rattle.convert_steps.proofs.reiser_volume.Bounds.{accepted_is_small}
-use Rattle.convert_steps.specs.unit_plan.declared.piece.Piece.{Piece}
-use Rattle.convert_trees_laws.specs.Entries.{EntriesAreThere, naming_by, namings_by, unplaced}
+use Rattle.convert_trees_laws.proofs.Imports.{◌≡◌, ◌≤◌, ◌<◌, ℕ, ◌+◌, ◌^◌, ◌==◌, ◌&&◌, not, Bool, true, false, cond, List, [], ◌∷◌, ◌++◌, append_assoc, length, map, count_by, Option, Some, None, refl, sym, ap, ◌∙◌, if◌then◌else◌, arith, AllByRecursion, IsDistinct, flat_map, is_lt, nat_tests, append-nil, map-append, sum_by-cons, DIR_INDEX, DIR_ITEM, INODE_EXTREF, INODE_REF, name_hash, keys, Kind, Directory, File, Symlink, Character, Block, Fifo, Socket, Subvolume, DirEntryValue, dir_entry_bytes, dir_entry_head, dir_items_of, key_layout, make_key, dir_items_read_back, index_entry, is_index, naming_at, dir_indexes, only_one, own_naming, DirIndex, Item, TreeItem, bare_item, made_from, extents_at, file_block, pieces_of, IndexedLink, Indexed, entry_items, entry_kind, entry_to, indexed_in, names_in, next_index, saved_entry, Source, content_items, file_extent_items, inline_in, kind_in, name_items, ino_of, object_items, size_in, fs_tree_items, extent_item, inline_extent, regular_extent, grouped, target_bytes, object_cmp, ino_of_key, ObjectKey, Naming, items_of, root, same_key, by_inode, accepted_is_small, Piece, EntriesAreThere, naming_by, namings_by, unplaced}
 use Rattle.convert_trees_laws.proofs.FileBlocks.{starts, starts_none}
 use Rattle.convert_trees_laws.proofs.Keys.{names_part}
 use Rattle.convert_trees_laws.proofs.Rising.{IsOf, all_each, all_mapped, all_true}
 use Rattle.convert_trees_laws.proofs.Short.{names_low}
 use Rattle.convert_trees_laws.proofs.ShortTrees.{short}
 
-abbrev told : Item → Option DirEntryValue → List Naming
+abbrev told : Item → Option DirEntryValue → List DirIndex
 told i None = []
 told i (Some e) = record { leaf = 0; dir = i.0.objectid; index = i.0.offset; location = e.location; name = e.name } ∷ []
 
 -- the entry that an item is
-abbrev own : Item → List Naming
-own i = if i.0.kind == 96 then told i (index_entry i.1) else []
+abbrev own : Item → List DirIndex
+own i = if i.0.kind == DIR_INDEX then told i (index_entry i.1) else []
 
 read_one : (i : TreeItem) → map unplaced (own_naming i) ≡ own (bare_item i)
 read_one i = by (is_index i) (index_entry i.body)
@@ -55,17 +22,17 @@ read_one i = by (is_index i) (index_entry i.body)
     by true (Some e) = refl
     by false e = refl
 
-pub read_all : (items : List TreeItem) → map unplaced (namings items) ≡ flat_map own (map bare_item items)
+pub read_all : (items : List TreeItem) → map unplaced (dir_indexes items) ≡ flat_map own (map bare_item items)
 read_all [] = refl
 read_all (i ∷ items) =
-    map-append unplaced (own_naming i) (namings items)
-    ∙ (ap (λ (l : List Naming). l ++ map unplaced (namings items)) (read_one i) ∙ ap (λ (l : List Naming). own (bare_item i) ++ l) (read_all items))
+    map-append unplaced (own_naming i) (dir_indexes items)
+    ∙ (ap (λ (l : List DirIndex). l ++ map unplaced (dir_indexes items)) (read_one i) ∙ ap (λ (l : List DirIndex). own (bare_item i) ++ l) (read_all items))
 
 flat_append : {A B : Type 0} (f : A → List B) (xs ys : List A) → flat_map f (xs ++ ys) ≡ flat_map f xs ++ flat_map f ys
 flat_append f [] ys = refl
 flat_append {A} {B} f (x ∷ xs) ys = ap (λ (l : List B). f x ++ l) (flat_append f xs ys) ∙ sym (append_assoc (f x) (flat_map f xs) (flat_map f ys))
 
-none : (items : List Item) → AllByRecursion (λ i. (i.0.kind == 96) ≡ false) items → flat_map own items ≡ []
+none : (items : List Item) → AllByRecursion (λ i. (i.0.kind == DIR_INDEX) ≡ false) items → flat_map own items ≡ []
 none [] all = refl
 none (i ∷ items) all = ap (λ (b : Bool). (if b then told i (index_entry i.1) else []) ++ flat_map own items) all.0 ∙ none items all.1
 
@@ -74,18 +41,18 @@ none (i ∷ items) all = ap (λ (b : Bool). (if b then told i (index_entry i.1) 
 index_read : (e : DirEntryValue) → dir_entry_head.fits e → index_entry (dir_entry_bytes e) ≡ Some e
 index_read e fits = ap only_one (ap dir_items_of (sym (append-nil (dir_entry_bytes e))) ∙ dir_items_read_back e [] (fits, tt))
 
-indexes_read : (ino : ℕ) (list : List Indexed) → AllByRecursion (λ (e : Indexed). dir_entry_head.fits e.1) list → flat_map own (map (λ (e : Indexed). (make_key ino 96 e.0, dir_entry_bytes e.1)) list) ≡ map (naming_by ino) list
+indexes_read : (ino : ℕ) (list : List Indexed) → AllByRecursion (λ (e : Indexed). dir_entry_head.fits e.1) list → flat_map own (map (λ (e : Indexed). (make_key ino DIR_INDEX e.0, dir_entry_bytes e.1)) list) ≡ map (naming_by ino) list
 indexes_read ino [] all = refl
 indexes_read ino (e ∷ list) all =
-    ap (λ (x : Option DirEntryValue). told (make_key ino 96 e.0, dir_entry_bytes e.1) x ++ flat_map own (map (λ (f : Indexed). (make_key ino 96 f.0, dir_entry_bytes f.1)) list)) (index_read e.1 all.0)
-    ∙ ap (λ (l : List Naming). naming_by ino e ∷ l) (indexes_read ino list all.1)
+    ap (λ (x : Option DirEntryValue). told (make_key ino DIR_INDEX e.0, dir_entry_bytes e.1) x ++ flat_map own (map (λ (f : Indexed). (make_key ino DIR_INDEX f.0, dir_entry_bytes f.1)) list)) (index_read e.1 all.0)
+    ∙ ap (λ (l : List DirIndex). naming_by ino e ∷ l) (indexes_read ino list all.1)
 
 pub entries_read : (ino : ℕ) (list : List Indexed) → AllByRecursion (λ (e : Indexed). dir_entry_head.fits e.1) list → flat_map own (entry_items ino list) ≡ map (naming_by ino) list
 entries_read ino list all =
-    let first : List Item = map (λ g. (make_key ino 84 g.0, flat_map (λ (e : Indexed). dir_entry_bytes e.1) g.1)) (grouped (λ (e : Indexed). name_hash e.1.name) list) in
-    let second : List Item = map (λ (e : Indexed). (make_key ino 96 e.0, dir_entry_bytes e.1)) list in
+    let first : List Item = map (λ g. (make_key ino DIR_ITEM g.0, flat_map (λ (e : Indexed). dir_entry_bytes e.1) g.1)) (grouped (λ (e : Indexed). name_hash e.1.name) list) in
+    let second : List Item = map (λ (e : Indexed). (make_key ino DIR_INDEX e.0, dir_entry_bytes e.1)) list in
     flat_append own first second
-    ∙ (ap (λ (l : List Naming). l ++ flat_map own second) (none first (all_mapped (λ i. (i.0.kind == 96) ≡ false) (λ (g : ℕ × List Indexed). (make_key ino 84 g.0, flat_map (λ (e : Indexed). dir_entry_bytes e.1) g.1)) (grouped (λ (e : Indexed). name_hash e.1.name) list) (all_true _ (grouped (λ (e : Indexed). name_hash e.1.name) list) (λ g. refl))))
+    ∙ (ap (λ (l : List DirIndex). l ++ flat_map own second) (none first (all_mapped (λ i. (i.0.kind == DIR_INDEX) ≡ false) (λ (g : ℕ × List Indexed). (make_key ino DIR_ITEM g.0, flat_map (λ (e : Indexed). dir_entry_bytes e.1) g.1)) (grouped (λ (e : Indexed). name_hash e.1.name) list) (all_true _ (grouped (λ (e : Indexed). name_hash e.1.name) list) (λ g. refl))))
     ∙ indexes_read ino list all)
 
 -- ---- entries fit
@@ -108,7 +75,7 @@ count_low p (k ∷ ks) = by (p k) (count_low p ks) (sum_by-cons (λ (x : ObjectK
     by true later is = omega (arith, later, is)
     by false later is = omega (arith, later, is)
 
-pub inode_low : (all : List ObjectKey) (key : ObjectKey) → length all ≤ 2 ^ 37 → inode_of all key < 2 ^ 64
+pub inode_low : (all : List ObjectKey) (key : ObjectKey) → length all ≤ 2 ^ 37 → ino_of_key all key < 2 ^ 64
 inode_low all key few = by (same_key key root)
   where
     by : (b : Bool) → (if b then 256 else 257 + count_by (λ k. is_lt (object_cmp k key) && not (same_key k root)) all) < 2 ^ 64
@@ -123,14 +90,14 @@ pub saved_fits : dir_entry_head.fits saved_entry
 unfolding dir_entry_head key_layout
 saved_fits = (((((tt, (((tt, omega arith), omega arith), omega arith)), omega arith), omega arith), omega arith), omega arith)
 
-module _ (kind : ObjectKey → Kind) (all : List ObjectKey) (links : List Link) (dir : ObjectKey) (few : length all ≤ 2 ^ 37) where
-  abbrev listed : Entry → Indexed
-  listed e = (e.index, entry_to (inode_of all e.link.target) (kind e.link.target) e.link.name)
+module _ (kind : ObjectKey → Kind) (all : List ObjectKey) (links : List Naming) (dir : ObjectKey) (few : length all ≤ 2 ^ 37) where
+  abbrev listed : IndexedLink → Indexed
+  listed e = (e.index, entry_to (ino_of_key all e.link.target) (kind e.link.target) e.link.name)
 
-  each_fits : (es : List Entry) (rest : List Indexed) → AllByRecursion (λ (e : Indexed). length e.1.name ≤ 255) (map listed es ++ rest) → AllByRecursion (λ (e : Indexed). dir_entry_head.fits e.1) rest
+  each_fits : (es : List IndexedLink) (rest : List Indexed) → AllByRecursion (λ (e : Indexed). length e.1.name ≤ 255) (map listed es ++ rest) → AllByRecursion (λ (e : Indexed). dir_entry_head.fits e.1) rest
       → AllByRecursion (λ (e : Indexed). dir_entry_head.fits e.1) (map listed es ++ rest)
   each_fits [] rest low fits = fits
-  each_fits (e ∷ es) rest low fits = (entry_fits (inode_of all e.link.target) (kind e.link.target) e.link.name (inode_low all e.link.target few) low.0, each_fits es rest low.1 fits)
+  each_fits (e ∷ es) rest low fits = (entry_fits (ino_of_key all e.link.target) (kind e.link.target) e.link.name (inode_low all e.link.target few) low.0, each_fits es rest low.1 fits)
 
   all_fit : AllByRecursion (λ (e : Indexed). length e.1.name ≤ 255) (indexed_in kind all links dir) → AllByRecursion (λ (e : Indexed). dir_entry_head.fits e.1) (indexed_in kind all links dir)
   all_fit low = each_fits (names_in links dir) (if same_key dir root then (next_index links dir, saved_entry) ∷ [] else []) low (saved (same_key dir root))
@@ -142,20 +109,20 @@ module _ (kind : ObjectKey → Kind) (all : List ObjectKey) (links : List Link) 
 -- ---- objects
 
 module _ (s : Source) (distinct : IsDistinct starts s.pieces) (fit : (key : ObjectKey) → AllByRecursion (λ (e : Indexed). dir_entry_head.fits e.1) (indexed_in (kind_in s) s.keys s.links key)) where
-  other_kind : (k : ℕ) → k ≤ 13 → (k == 96) ≡ false
+  other_kind : (k : ℕ) → k ≤ 13 → (k == DIR_INDEX) ≡ false
   other_kind k low = grind (arith, nat_tests)
 
-  data_none : (key : ObjectKey) → flat_map own (extent_items s key) ≡ []
-  unfolding extent_items
+  data_none : (key : ObjectKey) → flat_map own (file_extent_items s key) ≡ []
+  unfolding file_extent_items
   data_none key = by (inline_in s key)
     where
-      by : (b : Bool) → flat_map own (if b then extent_item (number_of s key) 0 (inline_extent (target_bytes (items_of key s.items) (size_in s key))) ∷ [] else extents_at (number_of s key) file_block (pieces_of s.pieces (number_of s key))) ≡ []
+      by : (b : Bool) → flat_map own (if b then extent_item (ino_of s key) 0 (inline_extent (target_bytes (items_of key s.items) (size_in s key))) ∷ [] else extents_at (ino_of s key) file_block (pieces_of s.pieces (ino_of s key))) ≡ []
       by true = refl
-      by false = none (extents_at (number_of s key) file_block (pieces_of s.pieces (number_of s key)))
-          (all_mapped (λ i. (i.0.kind == 96) ≡ false) (λ (p : Piece). extent_item (number_of s key) (file_block p) (regular_extent p.place p.count)) (pieces_of s.pieces (number_of s key)) (all_true _ (pieces_of s.pieces (number_of s key)) (λ p. refl)))
+      by false = none (extents_at (ino_of s key) file_block (pieces_of s.pieces (ino_of s key)))
+          (all_mapped (λ i. (i.0.kind == DIR_INDEX) ≡ false) (λ (p : Piece). extent_item (ino_of s key) (file_block p) (regular_extent p.place p.count)) (pieces_of s.pieces (ino_of s key)) (all_true _ (pieces_of s.pieces (ino_of s key)) (λ p. refl)))
 
   content_read : (key : ObjectKey) (kind : Kind) → flat_map own (content_items s key kind) ≡ namings_by s key kind
-  content_read key Directory = entries_read (number_of s key) (indexed_in (kind_in s) s.keys s.links key) (fit key)
+  content_read key Directory = entries_read (ino_of s key) (indexed_in (kind_in s) s.keys s.links key) (fit key)
   content_read key File = data_none key
   content_read key Symlink = data_none key
   content_read key Character = refl
@@ -168,18 +135,18 @@ module _ (s : Source) (distinct : IsDistinct starts s.pieces) (fit : (key : Obje
   unfolding object_items
   object_read key =
       flat_append own (name_items s key) (content_items s key (kind_in s key))
-      ∙ (ap (λ (l : List Naming). l ++ flat_map own (content_items s key (kind_in s key)))
-      (none (name_items s key) (all_each (IsOf (number_of s key) 12 13) (λ i. (i.0.kind == 96) ≡ false) (name_items s key) (λ i of. other_kind i.0.kind of.high) (names_part s distinct key).each))
+      ∙ (ap (λ (l : List DirIndex). l ++ flat_map own (content_items s key (kind_in s key)))
+      (none (name_items s key) (all_each (IsOf (ino_of s key) INODE_REF INODE_EXTREF) (λ i. (i.0.kind == DIR_INDEX) ≡ false) (name_items s key) (λ i of. other_kind i.0.kind of.high) (names_part s distinct key).each))
       ∙ content_read key (kind_in s key))
 
   objects_read : (ks : List ObjectKey) → flat_map own (flat_map (object_items s) ks) ≡ flat_map (λ key. namings_by s key (kind_in s key)) ks
   objects_read [] = refl
   objects_read (k ∷ ks) =
       flat_append own (object_items s k) (flat_map (object_items s) ks)
-      ∙ (ap (λ (l : List Naming). l ++ flat_map own (flat_map (object_items s) ks)) (object_read k) ∙ ap (λ (l : List Naming). namings_by s k (kind_in s k) ++ l) (objects_read ks))
+      ∙ (ap (λ (l : List DirIndex). l ++ flat_map own (flat_map (object_items s) ks)) (object_read k) ∙ ap (λ (l : List DirIndex). namings_by s k (kind_in s k) ++ l) (objects_read ks))
 
 pub entries_are_there : EntriesAreThere
-unfolding tree_items
+unfolding fs_tree_items
 entries_are_there volume image o plan pieces items has read =
     let s : Source = made_from volume image o pieces in
     let few = (accepted_is_small image has.accepted).objects (keys volume.named) has.opened.are_keys in

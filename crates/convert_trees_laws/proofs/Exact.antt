@@ -1,39 +1,8 @@
 -- The inode that is read of an object is the one that was made of its stat data.
-use Rattle.std.proofs.Common.{◌≡◌, ◌≤◌, ◌<◌, ℕ, ◌+◌, ◌*◌, ◌^◌, Bool, true, false, not, cond, ◌&&◌, List, [], ◌∷◌, map, filter, length, sum_by, count_by, Contains, option_and_then, if◌then◌else◌, refl, ap, ◌∙◌, arith}
-use Rattle.std.proofs.lemmas.List.Sums.{sum_by-append, sum_by-cons, sum_by-le-sum_by}
-use Rattle.indexmap.specs.IndexMap.{keys}
-use Rattle.btr_reader.specs.outside.History.{Image}
-use Rattle.btr_reader.specs.fs_rows.Kinds.{is_device, is_directory, is_file, is_symlink}
-use Rattle.btr_reader.specs.fs_rows.declared.row.Kind.{Kind}
-use Rattle.btr_reader.specs.fs_rows.declared.row.Kind.TheVariants.{Directory, File, Symlink, Character, Block, Fifo, Socket, Subvolume}
-use Rattle.btr_reader.specs.btr_keys.Inode.{inode_layout, inode_of}
-use Rattle.btr_reader.specs.btr_keys.Stamp.{stamp_layout}
-use Rattle.btr_reader.proofs.btr_keys.Records.{inodes_read_back}
-use Rattle.btr_reader.specs.btr_node.Leaf.{Item}
-use Rattle.btr_reader.specs.btr_reader_walk.Events.{TreeItem}
-use Rattle.convert_steps.specs.Source.{HasPieces, made_from}
-use Rattle.convert_steps.proofs.extent_pieces.Apart.{places_are_apart}
-use Rattle.convert_steps.specs.file_items.Extents.{piece_bytes, pieces_of}
-use Rattle.convert_steps.specs.file_items.Inodes.{device_number, inode_flags, inode_from}
-use Rattle.convert_steps.specs.file_items.Names.{Entry, Indexed, entries, indexed, indexed_in, letters, names_in, next_index, saved_entry}
-use Rattle.convert_steps.specs.file_items.Tree.{Source, bytes_by, inline_in, inode_in, kind_in, link_count, number_of, size_by, size_in, stat_in}
+use Rattle.convert_trees_laws.proofs.Imports.{◌≡◌, ◌≤◌, ◌<◌, ℕ, ◌+◌, ◌*◌, ◌^◌, Bool, true, false, not, cond, ◌&&◌, List, [], ◌∷◌, map, filter, length, sum_by, count_by, Contains, option_and_then, if◌then◌else◌, refl, ap, ◌∙◌, arith, sum_by-append, sum_by-cons, sum_by-le-sum_by, keys, Image, is_device, is_directory, is_file, is_symlink, Kind, Directory, File, Symlink, Character, Block, Fifo, Socket, Subvolume, inode_layout, inode_of, stamp_layout, inodes_read_back, Item, TreeItem, HasPieces, made_from, places_are_apart, piece_bytes, pieces_of, device_number, inode_flags, inode_from, IndexedLink, Indexed, indexed_links, indexed, indexed_in, letters, names_in, next_index, saved_entry, Source, nbytes_by, inline_in, inode_in, kind_in, link_count, ino_of, size_by, size_in, stat_in, InodesAreThere, stamp_of, ObjectKey, Naming, ObjectStat, root, same_key, flag, major_of, minor_of, Volume, accepted_is_small, used_length, Options, Piece, Plan, HasBytes, InodesAreRead}
 use Rattle.convert_steps.proofs.file_items.Ordering.{bytes_are, owned_within}
-use Rattle.convert_trees_laws.specs.Inodes.{InodesAreThere}
+use Rattle.convert_steps.specs.reiser_volume.Bounds.{IsSmallVolume}
 use Rattle.convert_trees_laws.proofs.Short.{sum_kept, sum_links, sum_mapped}
-use Rattle.convert_steps.specs.btr_item_list.Inodes.{stamp_of}
-use Rattle.convert_steps.specs.reiser_volume_objects.declared.key.ObjectKey.{ObjectKey}
-use Rattle.convert_steps.specs.reiser_volume_objects.declared.naming.Naming.{Naming as Link}
-use Rattle.convert_steps.specs.reiser_volume_objects.declared.stat.ObjectStat.{ObjectStat}
-use Rattle.convert_steps.specs.reiser_volume_objects.Keys.{root, same_key}
-use Rattle.convert_steps.specs.reiser_volume.Bounds.{IsSmall}
-use Rattle.convert_steps.specs.reiser_volume.Rows.{flag, major_of, minor_of}
-use Rattle.convert_steps.specs.reiser_volume.declared.volume.Volume.{Volume}
-use Rattle.convert_steps.proofs.reiser_volume.Bounds.{accepted_is_small}
-use Rattle.convert_steps.proofs.reiser_volume.Holding.{used_length}
-use Rattle.convert_steps.specs.convert_options.declared.options.Options.{Options}
-use Rattle.convert_steps.specs.unit_plan.declared.piece.Piece.{Piece}
-use Rattle.convert_steps.specs.unit_plan.declared.plan.Plan.{Plan}
-use Rattle.convert_trees_laws.specs.Rows.{HasBytes, InodesAreRead}
 use Rattle.convert_trees_laws.proofs.Fields.{packed_low, seconds_fit}
 use Rattle.convert_trees_laws.proofs.Known.{few_names, kind_is, mode_low, stat_of_key}
 use Rattle.convert_trees_laws.proofs.Stats.{FitsStat, stat_fits}
@@ -90,12 +59,12 @@ kept_few p w xs =
     at_most true n = omega arith
     at_most false n = omega arith
 
-letters_few : (kind : ObjectKey → Kind) (all : List ObjectKey) (links : List Link) (dir : ObjectKey) → letters (indexed_in kind all links dir) ≤ sum_by (λ n. length n.name) links + 14
+letters_few : (kind : ObjectKey → Kind) (all : List ObjectKey) (links : List Naming) (dir : ObjectKey) → letters (indexed_in kind all links dir) ≤ sum_by (λ n. length n.name) links + 14
 letters_few kind all links dir =
     let w : Indexed → ℕ = λ e. length e.1.name in
     let both = sum_by-append w (map (indexed kind all) (names_in links dir)) (if same_key dir root then (next_index links dir, saved_entry) ∷ [] else []) in
     let first = sum_mapped (indexed kind all) w (names_in links dir) in
-    let fewer = kept_few (λ (e : Entry). same_key e.link.dir dir) (λ (e : Entry). length e.link.name) (entries links) in
+    let fewer = kept_few (λ (e : IndexedLink). same_key e.link.dir dir) (λ (e : IndexedLink). length e.link.name) (indexed_links links) in
     let whole = sum_links (λ n. length n.name) [] links in
     let last = saved (same_key dir root) in
     omega (arith, both, first, fewer, whole, last)
@@ -108,7 +77,7 @@ module _ (volume : Volume) (image : Image) (o : Options) (plan : Plan) (pieces :
   abbrev s : Source
   s = made_from volume image o pieces
 
-  small : IsSmall image
+  small : IsSmallVolume image
   small = accepted_is_small image has.accepted
 
   fits : FitsStat (stat_in s key).fields
@@ -127,15 +96,15 @@ module _ (volume : Volume) (image : Image) (o : Options) (plan : Plan) (pieces :
   size_fits Socket = omega arith
   size_fits Subvolume = omega arith
 
-  nbytes_fits : bytes_by s key < 2 ^ 64
+  nbytes_fits : nbytes_by s key < 2 ^ 64
   nbytes_fits = by (inline_in s key)
     where
-      by : (b : Bool) → (if b then size_in s key else piece_bytes (pieces_of s.pieces (number_of s key))) < 2 ^ 64
+      by : (b : Bool) → (if b then size_in s key else piece_bytes (pieces_of s.pieces (ino_of s key))) < 2 ^ 64
       by true = fits.size
       by false =
           let apart = (places_are_apart image has.found o plan pieces has.plan_ has.placed).apart in
-          let within = owned_within _ pieces (number_of s key) apart in
-          let same = bytes_are (pieces_of s.pieces (number_of s key)) in
+          let within = owned_within _ pieces (ino_of s key) apart in
+          let same = bytes_are (pieces_of s.pieces (ino_of s key)) in
           let blocks = small.blocks in
           let long = used_length image in
           omega (arith, within, same, blocks, long)
@@ -150,7 +119,7 @@ module _ (volume : Volume) (image : Image) (o : Options) (plan : Plan) (pieces :
   own_fits : inode_layout.fits (inode_in s key)
   unfolding inode_in
   own_fits =
-      from_fits s.datasum s.flags (stat_in s key) (kind_in s key) (size_by s key (kind_in s key)) (bytes_by s key) (link_count s key) fits
+      from_fits s.datasum s.flags (stat_in s key) (kind_in s key) (size_by s key (kind_in s key)) (nbytes_by s key) (link_count s key) fits
       (record {
         flags_low = flags_fit s.datasum s.flags (stat_in s key) (kind_in s key);
         size_low = size_fits (kind_in s key);

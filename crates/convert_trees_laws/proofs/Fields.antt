@@ -1,8 +1,5 @@
 -- Numbers in bytes are small.
-use Rattle.std.proofs.Common.{◌≡◌, ◌<◌, ◌≤◌, ℕ, zero, suc, ◌+◌, ◌*◌, ◌-◌, ◌^◌, ◌==◌, Bool, true, false, List, [], ◌∷◌, get_or, take, drop, length, slice_index, slice_range, sym, ap, subst, ⊎_elim, pos, FitsSigned, if◌then◌else◌, arith}
-use Rattle.std.specs.Int.{bit_at, w64}
-use Rattle.std.proofs.lemmas.Bool.{cases_lt}
-use Rattle.std.proofs.lemmas.List.{get_or-drop, get_or-take, length-take}
+use Rattle.convert_trees_laws.proofs.Imports.{◌≡◌, ◌<◌, ◌≤◌, ℕ, zero, suc, ◌+◌, ◌*◌, ◌-◌, ◌^◌, ◌==◌, Bool, true, false, List, [], ◌∷◌, get_or, take, drop, length, slice_index, slice_range, sym, ap, subst, ⊎_elim, pos, FitsSigned, if◌then◌else◌, arith, bit_at, w64, cases_lt, get_or-drop, get_or-take, length-take}
 use Rattle.btr_reader.specs.vol_block.Volume.{field}
 
 -- each of them is below 256

@@ -1,38 +1,9 @@
 -- No two pieces of a volume hold one block of a file.
-use Rattle.std.proofs.Common.{◌≡◌, ◌≢◌, ◌≤◌, ◌<◌, ◌⊎◌, ℕ, ◌+◌, ◌-◌, ◌==◌, ◌&&◌, inl, inr, Bool, true, false, List, [], ◌∷◌, ◌++◌, map, filter, get_or, Option, Some, None, refl, sym, ap, ◌∙◌, ⊎_elim, arith}
-use Rattle.std.specs.Prelude.{AllPairs, Contains, if◌then◌else◌}
-use Rattle.std.specs.List.{IsDistinct}
-use Rattle.std.specs.Int.{div_ceil}
-use Rattle.std.specs.Option.{option_map_or}
-use Rattle.std.proofs.lemmas.Bool.{cases_lt}
-use Rattle.std.proofs.lemmas.Bool.Decides.{nat_tests}
-use Rattle.std.proofs.lemmas.List.Elements.{Contains-append_cases, Contains-get_or}
-use Rattle.btr_reader.proofs.fs_paths.Lists.{from_filter, from_flat_map, from_map}
-use Rattle.btr_reader.specs.outside.History.{Image}
+use Rattle.convert_trees_laws.proofs.Imports.{◌≡◌, ◌≢◌, ◌≤◌, ◌<◌, ◌⊎◌, ℕ, ◌+◌, ◌-◌, ◌==◌, ◌&&◌, inl, inr, Bool, true, false, List, [], ◌∷◌, ◌++◌, map, filter, get_or, Option, Some, None, refl, sym, ap, ◌∙◌, ⊎_elim, arith, AllPairs, IsDistinct, div_ceil, option_map_or, cases_lt, nat_tests, Contains-append_cases, Contains-get_or, from_filter, from_flat_map, from_map, Image, all_from_contains, RunFrom, Disk, block_from, is_tail, Options, Piece, Plan, Pieces, Tail as TailBlock, FileAt, file_blocks, file_tails, has_tail, is_file_inline, tails, HasPlan, HoldsBlock, HoldsUsed, IsKeptPiece, advanced, copied_pieces, tail_piece, WerePlaced, IsCopied, is_copied_piece, all_at, pairs_append, pairs_head, pairs_map, pairs_tail, kept_are_maximal, numbered, owned_once, owner_from, two_cases, in_piece}
+use Rattle.std.specs.Prelude.{Contains, if◌then◌else◌}
+use Rattle.convert_steps.specs.reiser_volume_files.declared.map.RunFrom.TheVariants.{Tail}
 use Rattle.convert_steps.proofs.reiser_bitmap.MaximalRuns.{starts_ascend}
-use Rattle.convert_steps.proofs.reiser_bitmap.Ranges.{all_from_contains}
-use Rattle.convert_steps.specs.reiser_volume_files.declared.map.RunFrom.{RunFrom}
-use Rattle.convert_steps.specs.reiser_volume_files.declared.map.RunFrom.TheVariants.{Disk, Tail}
-use Rattle.convert_steps.specs.reiser_volume_files.Runs.{block_from}
-use Rattle.convert_steps.specs.reiser_volume.Inline.{is_tail}
-use Rattle.convert_steps.specs.convert_options.declared.options.Options.{Options}
-use Rattle.convert_steps.specs.unit_plan.declared.piece.Piece.{Piece}
-use Rattle.convert_steps.specs.unit_plan.declared.plan.Plan.{Plan}
-use Rattle.convert_steps.specs.extent_pieces.declared.pieces.Pieces.{Pieces}
-use Rattle.convert_steps.specs.extent_pieces.declared.tail.Tail.{Tail as TailBlock}
-use Rattle.convert_steps.specs.extent_pieces.Files.{FileAt, file_blocks, file_tails, has_tail, is_inline, tails}
-use Rattle.convert_steps.specs.extent_pieces.Laws.{HasPlan, HoldsBlock, HoldsUsed, IsKeptPiece}
-use Rattle.convert_steps.specs.extent_pieces.Pieces.{advanced, copied_pieces, tail_piece}
-use Rattle.convert_steps.specs.extent_pieces.Placed.{ArePlaced}
-use Rattle.convert_steps.proofs.extent_pieces.Covering.{IsCopied, is_copied_piece}
-use Rattle.convert_steps.proofs.extent_pieces.Lists.{all_at, pairs_append, pairs_head, pairs_map, pairs_tail}
-use Rattle.convert_steps.proofs.extent_pieces.Maximal.{kept_are_maximal}
-use Rattle.convert_steps.proofs.extent_pieces.Named.{numbered}
-use Rattle.convert_steps.proofs.extent_pieces.Once.{owned_once}
-use Rattle.convert_steps.proofs.extent_pieces.Owners.{owner_from}
-use Rattle.convert_steps.proofs.extent_pieces.Owning.{two_cases}
 use Rattle.convert_steps.proofs.extent_pieces.Telling.{OwnedOnce}
-use Rattle.convert_steps.specs.Source.{in_piece}
 use Rattle.convert_trees_laws.proofs.Apart.{all_files, by, cover, kept, made, all_tails, placed_distinct, rest, some_blocks, used}
 
 no_block : (b : ℕ) → (let o : Option ℕ = None in o) ≡ Some b → ⊥
@@ -46,7 +17,7 @@ pub record IsTailOf (inline : Bool) (files : List FileAt) (p : Piece) : Type 0 w
   pub among : Contains files file
   pub at : ℕ
   pub tail : has_tail file at ≡ true
-  pub stays : is_inline inline file ≡ false
+  pub stays : is_file_inline inline file ≡ false
   pub is : tail_piece (record { inode = file.inode; at = at }) ≡ p
 
 abbrev tail_at : FileAt → ℕ → TailBlock
@@ -56,9 +27,9 @@ is_tail_of : (inline : Bool) (files : List FileAt) (p : Piece) → Contains (map
 is_tail_of inline files p h =
     let mapped = from_map tail_piece (tails inline files) p h in
     let from = from_flat_map (file_tails inline) files mapped.0 mapped.1 in
-    go mapped.0 mapped.2 from.0 from.1 (is_inline inline from.0) refl from.2
+    go mapped.0 mapped.2 from.0 from.1 (is_file_inline inline from.0) refl from.2
   where
-    go : (t : TailBlock) → tail_piece t ≡ p → (f : FileAt) → Contains files f → (b : Bool) → is_inline inline f ≡ b
+    go : (t : TailBlock) → tail_piece t ≡ p → (f : FileAt) → Contains files f → (b : Bool) → is_file_inline inline f ≡ b
         → Contains (if b then [] else map (λ k. record { inode = f.inode; at = k }) (filter (has_tail f) (file_blocks f))) t → IsTailOf inline files p
     go t is f among true stays h = absurd (omega (arith, h.1))
     go t is f among false stays h =
@@ -69,7 +40,7 @@ is_tail_of inline files p h =
 tails_differ : (inline : Bool) (files : List FileAt) → AllPairs (λ f g. f.inode ≢ g.inode) files → AllPairs (λ t u. t.inode ≡ u.inode → t.at ≡ u.at → ⊥) (tails inline files)
 tails_differ inline [] apart = λ i j d order inside. absurd (omega (arith, inside))
 tails_differ inline (f ∷ files) apart =
-    pairs_append (λ t u. t.inode ≡ u.inode → t.at ≡ u.at → ⊥) (file_tails inline f) (tails inline files) (own (is_inline inline f)) (tails_differ inline files (pairs_tail (λ g h. g.inode ≢ h.inode) f files apart))
+    pairs_append (λ t u. t.inode ≡ u.inode → t.at ≡ u.at → ⊥) (file_tails inline f) (tails inline files) (own (is_file_inline inline f)) (tails_differ inline files (pairs_tail (λ g h. g.inode ≢ h.inode) f files apart))
     (λ t in_t. all_from_contains (λ u. t.inode ≡ u.inode → t.at ≡ u.at → ⊥) (tails inline files) (λ u in_u same at.
     let from = from_flat_map (file_tails inline) files u in_u in
     let here = of_file f t in_t in
@@ -77,7 +48,7 @@ tails_differ inline (f ∷ files) apart =
     all_at (λ g. f.inode ≢ g.inode) files from.0 (pairs_head (λ g h. g.inode ≢ h.inode) f files apart) from.1 (sym here ∙ (same ∙ there))))
   where
     of_file : (g : FileAt) (t : TailBlock) → Contains (file_tails inline g) t → t.inode ≡ g.inode
-    of_file g t h = by_test (is_inline inline g) h
+    of_file g t h = by_test (is_file_inline inline g) h
       where
         by_test : (b : Bool) → Contains (if b then [] else map (λ k. record { inode = g.inode; at = k }) (filter (has_tail g) (file_blocks g))) t → t.inode ≡ g.inode
         by_test true h = absurd (omega (arith, h.1))
@@ -281,7 +252,7 @@ no_start p q some other apart = by_owner p.owner q.owner refl refl
             ⊎_elim (λ low. absurd (omega (arith, low, at, some))) (λ high. absurd (omega (arith, high, at, other)))
             (apart a.0 a.1 b.1 is_p (is_q ∙ ap (λ (n : ℕ). let w : Option (ℕ × ℕ) = Some (n, b.1) in w) (sym same.0)))
 
-pub starts_none : (image : Image) (found : Pieces) (o : Options) (plan : Plan) (has_plan : HasPlan image found o plan) (placed : List Piece) → ArePlaced found.kept plan.data_ found.items.items placed → IsDistinct starts placed
+pub starts_none : (image : Image) (found : Pieces) (o : Options) (plan : Plan) (has_plan : HasPlan image found o plan) (placed : List Piece) → WerePlaced found.kept plan.data_ found.items.items placed → IsDistinct starts placed
 starts_none image found o plan has_plan placed are =
     placed_distinct image found o plan has_plan starts starts_flips (λ p q b. refl) (λ p q b. refl)
     (λ i j d order inside. no_start (get_or (kept image found o plan has_plan ++ rest image found o plan has_plan) i d) (get_or (kept image found o plan has_plan ++ rest image found o plan has_plan) j d) (some_blocks image found o plan has_plan i d (omega (arith, order, inside))) (some_blocks image found o plan has_plan j d inside) (all_disjoint image found o plan has_plan i j d order inside)) placed are

@@ -1,38 +1,9 @@
 -- The file tree takes no more than was counted.
-use Rattle.std.proofs.Common.{◌≡◌, ◌≤◌, ℕ, ◌+◌, ◌*◌, not, Bool, true, false, cond, List, [], ◌∷◌, ◌++◌, length, length-append, filter, sum_by, take, drop, refl, sym, ap, subst, ◌∙◌, ⊎_elim, arith}
+use Rattle.convert_trees_laws.proofs.Imports.{◌≡◌, ◌≤◌, ℕ, ◌+◌, ◌*◌, not, Bool, true, false, cond, List, [], ◌∷◌, ◌++◌, length, length-append, filter, sum_by, take, drop, refl, sym, ap, subst, ◌∙◌, ⊎_elim, arith, length-take, length-drop, length_permutation, sum_by-cons, DIR_ITEM_SIZE, INODE_EXTREF_SIZE, ITEM_SIZE, FILE_EXTENT_BYTES, INODE_BYTES, NAME_BYTES, keys, Image, sum_split, contains_cases, ObjectKey, Naming, root, same_key, same_key-self, ino_of_key, AreNumbered, by_inode, links_in, volume_items, Counts, Piece, file_tree_bytes, counts_of, AreSortedKeys, WerePlaced, at_places, blocks_of_units, sum_fewer, numbered, owner_inode, IndexedLink, indexed_links, Source, ino_of, object_items, fs_tree_items, IsMaking, Making, made_from, FileTreeIsCounted, bytes_in}
 use Rattle.std.specs.Prelude.{Contains}
-use Rattle.std.proofs.lemmas.List.{length-take, length-drop}
-use Rattle.std.proofs.lemmas.List.Sorted.{length_permutation}
-use Rattle.std.proofs.lemmas.List.Sums.{sum_by-cons}
-use Rattle.indexmap.specs.IndexMap.{keys}
-use Rattle.btr_reader.specs.outside.History.{Image}
-use Rattle.btr_reader.proofs.fs_paths.Counts.{sum_split}
-use Rattle.convert_steps.proofs.reiser_bitmap.Ranges.{contains_cases}
-use Rattle.convert_steps.specs.reiser_volume_objects.declared.key.ObjectKey.{ObjectKey}
-use Rattle.convert_steps.specs.reiser_volume_objects.declared.naming.Naming.{Naming}
-use Rattle.convert_steps.specs.reiser_volume_objects.Keys.{root, same_key}
-use Rattle.convert_steps.proofs.reiser_volume_objects.Tables.{same_key-self}
-use Rattle.convert_steps.specs.reiser_volume_names.Names.{inode_of}
-use Rattle.convert_steps.specs.reiser_volume.Numbers.{AreNumbered, by_inode}
-use Rattle.convert_steps.specs.reiser_volume.Opened.{links_in}
-use Rattle.convert_steps.specs.reiser_volume.Volume.{volume_items}
-use Rattle.convert_steps.specs.unit_plan.declared.counts.Counts.{Counts}
-use Rattle.convert_steps.specs.unit_plan.declared.piece.Piece.{Piece}
-use Rattle.convert_steps.specs.unit_plan.Needed.{file_tree_bytes}
-use Rattle.convert_steps.specs.extent_pieces.Found.{counts_of}
-use Rattle.convert_steps.specs.extent_pieces.Laws.{AreSortedKeys}
-use Rattle.convert_steps.specs.extent_pieces.Placed.{ArePlaced, at_places, blocks_of_units}
-use Rattle.convert_steps.proofs.extent_pieces.Bounding.{sum_fewer}
-use Rattle.convert_steps.proofs.extent_pieces.Named.{numbered}
-use Rattle.convert_steps.specs.file_items.Extents.{owner_inode}
-use Rattle.convert_steps.specs.file_items.Names.{Entry, entries}
-use Rattle.convert_steps.specs.file_items.Tree.{Source, number_of, object_items, tree_items}
-use Rattle.convert_steps.specs.Making.{IsMaking, Making}
-use Rattle.convert_steps.specs.Source.{made_from}
 use Rattle.convert_trees_laws.proofs.Keys.{inodes_climb}
 use Rattle.convert_trees_laws.proofs.Rising.{Climb}
 use Rattle.convert_trees_laws.proofs.Short.{sum_links}
-use Rattle.convert_trees_laws.specs.Bounds.{FileTreeIsCounted, bytes_in}
 use Rattle.convert_trees_laws.proofs.FilesInline.{inline_counted}
 use Rattle.convert_trees_laws.proofs.FilesObjects.{bytes_of_items, entries_weight, inline_weight, item_weight, names_weight, object_takes, pieces_weight, root_weight}
 use Rattle.convert_trees_laws.proofs.FilesSums.{all_weigh, one_weighs, sum_flat}
@@ -81,11 +52,11 @@ sum_same n [] = omega arith
 sum_same n (x ∷ xs) = let one = sum_by-cons (λ y. n) x xs in let later = sum_same n xs in omega (arith, one, later)
 
 -- a name and an entry for each link
-links_weigh : (links : List Naming) → sum_by (λ n. 43 + length n.name) links + sum_by (λ n. 110 + 2 * length n.name) links ≡ 153 * length links + 3 * sum_by (λ n. length n.name) links
+links_weigh : (links : List Naming) → sum_by (λ n. ITEM_SIZE + INODE_EXTREF_SIZE + length n.name) links + sum_by (λ n. 2 * (ITEM_SIZE + DIR_ITEM_SIZE) + 2 * length n.name) links ≡ NAME_BYTES * length links + 3 * sum_by (λ n. length n.name) links
 links_weigh [] = refl
 links_weigh (n ∷ links) =
-    let first = sum_by-cons (λ (m : Naming). 43 + length m.name) n links in
-    let second = sum_by-cons (λ (m : Naming). 110 + 2 * length m.name) n links in
+    let first = sum_by-cons (λ (m : Naming). ITEM_SIZE + INODE_EXTREF_SIZE + length m.name) n links in
+    let second = sum_by-cons (λ (m : Naming). 2 * (ITEM_SIZE + DIR_ITEM_SIZE) + 2 * length m.name) n links in
     let third = sum_by-cons (λ (m : Naming). length m.name) n links in
     let later = links_weigh links in
     omega (arith, first, second, third, later)
@@ -94,34 +65,34 @@ module _ (s : Source) (at : ℕ) (are : AreNumbered at s.keys) (has_root : Conta
   abbrev all : List ObjectKey
   all = by_inode s.keys
 
-  climb : Climb (number_of s) all
+  climb : Climb (ino_of s) all
   climb = inodes_climb s.keys at are
 
   split_sum : (f g : ObjectKey → ℕ) → sum_by (λ key. f key + g key) all ≡ sum_by f all + sum_by g all
   split_sum f g = sum_split f g (λ key. f key + g key) all (λ key. refl)
 
-  tree_takes : sum_by item_weight (tree_items s)
-      ≤ 175 + 185 * length s.keys + 153 * length s.links + 3 * sum_by (λ n. length n.name) s.links + 78 * length s.pieces + sum_by (inline_weight s) s.keys
-  unfolding tree_items
+  tree_takes : sum_by item_weight (fs_tree_items s)
+      ≤ 175 + INODE_BYTES * length s.keys + NAME_BYTES * length s.links + 3 * sum_by (λ n. length n.name) s.links + FILE_EXTENT_BYTES * length s.pieces + sum_by (inline_weight s) s.keys
+  unfolding fs_tree_items
   tree_takes =
       let flat = sum_flat (object_items s) item_weight all in
-      let each = sum_fewer (λ key. sum_by item_weight (object_items s key)) (λ key. 185 + names_weight s key + entries_weight s key + pieces_weight s key + inline_weight s key + root_weight s key) all (object_takes s) in
-      let one = split_sum (λ key. 185 + names_weight s key + entries_weight s key + pieces_weight s key + inline_weight s key) (root_weight s) in
-      let two = split_sum (λ key. 185 + names_weight s key + entries_weight s key + pieces_weight s key) (inline_weight s) in
-      let three = split_sum (λ key. 185 + names_weight s key + entries_weight s key) (pieces_weight s) in
-      let four = split_sum (λ key. 185 + names_weight s key) (entries_weight s) in
-      let five = split_sum (λ key. 185) (names_weight s) in
-      let inodes = all_once (λ key. 185) s.keys has_root in
-      let objects = sum_same 185 s.keys in
-      let names = all_weigh (number_of s) (λ (e : Entry). inode_of s.keys e.link.target) (λ (e : Entry). 43 + length e.link.name) (entries s.links) all climb in
-      let told = all_weigh (number_of s) (λ (e : Entry). inode_of s.keys e.link.dir) (λ (e : Entry). 110 + 2 * length e.link.name) (entries s.links) all climb in
-      let name_links = sum_links (λ (n : Naming). 43 + length n.name) [] s.links in
-      let told_links = sum_links (λ (n : Naming). 110 + 2 * length n.name) [] s.links in
+      let each = sum_fewer (λ key. sum_by item_weight (object_items s key)) (λ key. INODE_BYTES + names_weight s key + entries_weight s key + pieces_weight s key + inline_weight s key + root_weight s key) all (object_takes s) in
+      let one = split_sum (λ key. INODE_BYTES + names_weight s key + entries_weight s key + pieces_weight s key + inline_weight s key) (root_weight s) in
+      let two = split_sum (λ key. INODE_BYTES + names_weight s key + entries_weight s key + pieces_weight s key) (inline_weight s) in
+      let three = split_sum (λ key. INODE_BYTES + names_weight s key + entries_weight s key) (pieces_weight s) in
+      let four = split_sum (λ key. INODE_BYTES + names_weight s key) (entries_weight s) in
+      let five = split_sum (λ key. INODE_BYTES) (names_weight s) in
+      let inodes = all_once (λ key. INODE_BYTES) s.keys has_root in
+      let objects = sum_same INODE_BYTES s.keys in
+      let names = all_weigh (ino_of s) (λ (e : IndexedLink). ino_of_key s.keys e.link.target) (λ (e : IndexedLink). ITEM_SIZE + INODE_EXTREF_SIZE + length e.link.name) (indexed_links s.links) all climb in
+      let told = all_weigh (ino_of s) (λ (e : IndexedLink). ino_of_key s.keys e.link.dir) (λ (e : IndexedLink). 2 * (ITEM_SIZE + DIR_ITEM_SIZE) + 2 * length e.link.name) (indexed_links s.links) all climb in
+      let name_links = sum_links (λ (n : Naming). ITEM_SIZE + INODE_EXTREF_SIZE + length n.name) [] s.links in
+      let told_links = sum_links (λ (n : Naming). 2 * (ITEM_SIZE + DIR_ITEM_SIZE) + 2 * length n.name) [] s.links in
       let links = links_weigh s.links in
-      let extents = all_weigh (number_of s) owner_inode (λ (p : Piece). 78) s.pieces all climb in
-      let many = sum_same 78 s.pieces in
+      let extents = all_weigh (ino_of s) owner_inode (λ (p : Piece). FILE_EXTENT_BYTES) s.pieces all climb in
+      let many = sum_same FILE_EXTENT_BYTES s.pieces in
       let inlines = all_once (inline_weight s) s.keys has_root in
-      let root_once = one_weighs (number_of s) 256 175 all climb in
+      let root_once = one_weighs (ino_of s) 256 175 all climb in
       omega (arith, flat, each, one, two, three, four, five, inodes, objects, names, told, name_links, told_links, links, extents, many, inlines, root_once)
 
 -- ---- pieces
@@ -132,7 +103,7 @@ few_at_places (p ∷ ps) [] = omega arith
 few_at_places (p ∷ ps) (b ∷ bs) = let later = few_at_places ps bs in omega (arith, later)
 
 -- there are no more of them at their places than before
-placed_few : (kept : ℕ) (units : List ℕ) (old new : List Piece) → ArePlaced kept units old new → length new ≤ length old
+placed_few : (kept : ℕ) (units : List ℕ) (old new : List Piece) → WerePlaced kept units old new → length new ≤ length old
 placed_few kept units old new are =
     let many = length_permutation (take kept old ++ at_places (drop kept old) (blocks_of_units units)) new are.same in
     let both = length-append (take kept old) (at_places (drop kept old) (blocks_of_units units)) in
@@ -162,18 +133,18 @@ module _ (image : Image) (m : Making) (made : IsMaking image m) where
       let same = ap length made.has_pieces.counted.pieces_are in
       omega (arith, few, same)
 
-  by_counts : bytes_in (tree_items s) ≤ file_tree_bytes counted
+  by_counts : bytes_in (fs_tree_items s) ≤ file_tree_bytes counted
   by_counts =
       let at = numbered image named sorted in
       let has_root : Contains named root = (made.has_pieces.opened.are_keys.exact root).1 (0, refl) in
-      let bytes = bytes_of_items (tree_items s) in
+      let bytes = bytes_of_items (fs_tree_items s) in
       let tree = tree_takes s at.0 at.1 has_root in
       let few = pieces_few in
       let inlines = inline_counted m.options.inline (volume_items image) named named in
       omega (arith, bytes, tree, few, inlines)
 
-  pub is_counted : bytes_in (tree_items s) ≤ file_tree_bytes made.has_pieces.found.counts
-  is_counted = subst (λ (c : Counts). bytes_in (tree_items s) ≤ file_tree_bytes c) (sym made.has_pieces.counted.counts_are) by_counts
+  pub is_counted : bytes_in (fs_tree_items s) ≤ file_tree_bytes made.has_pieces.found.counts
+  is_counted = subst (λ (c : Counts). bytes_in (fs_tree_items s) ≤ file_tree_bytes c) (sym made.has_pieces.counted.counts_are) by_counts
 
 pub file_tree_is_counted : FileTreeIsCounted
 file_tree_is_counted image m made = is_counted image m made

@@ -1,37 +1,8 @@
 -- What the items of one object of a file tree take in leaves.
-use Rattle.std.proofs.Common.{◌≡◌, ◌≤◌, ℕ, ◌+◌, ◌*◌, ◌==◌, not, Bool, true, false, cond, List, [], ◌∷◌, ◌++◌, length, map, filter, flat_map, sum_by, Option, Some, None, refl, ap, ◌∙◌, if◌then◌else◌, arith}
-use Rattle.std.specs.Option.{option_map_or}
-use Rattle.std.proofs.lemmas.List.{length-take}
-use Rattle.std.proofs.lemmas.Bool.Decides.{nat_tests}
-use Rattle.std.proofs.lemmas.List.Sums.{sum_by-append, sum_by-cons}
-use Rattle.btr_reader.specs.castagnoli.Castagnoli.{extref_hash, name_hash}
-use Rattle.btr_reader.specs.fs_rows.declared.row.Kind.{Kind}
-use Rattle.btr_reader.specs.fs_rows.declared.row.Kind.TheVariants.{Directory, File, Symlink, Character, Block, Fifo, Socket, Subvolume}
-use Rattle.btr_reader.specs.btr_keys.DirEntry.{dir_entry_bytes}
-use Rattle.btr_reader.specs.btr_keys.Extref.{extref_bytes}
-use Rattle.btr_reader.specs.btr_keys.InodeRef.{inode_ref_bytes}
-use Rattle.btr_reader.specs.btr_keys.Key.{make_key}
-use Rattle.btr_reader.specs.btr_node.Leaf.{Item}
-use Rattle.convert_steps.specs.btr_tree.Packing.{weight}
-use Rattle.convert_steps.specs.btr_item_list.Extents.{extent_item, inline_extent, regular_extent}
-use Rattle.convert_steps.specs.btr_item_list.Groups.{ascending, grouped}
-use Rattle.convert_steps.specs.btr_item_list.Inodes.{inode_item}
-use Rattle.convert_steps.proofs.btr_item_list.Sorting.{ascending_sum}
-use Rattle.btr_reader.proofs.fs_paths.Counts.{sum_split}
-use Rattle.convert_steps.specs.reiser_volume_files.Bytes.{tail_block, target_bytes}
-use Rattle.convert_steps.specs.reiser_volume_objects.declared.key.ObjectKey.{ObjectKey}
-use Rattle.convert_steps.specs.reiser_volume_objects.declared.naming.Naming.{Naming}
-use Rattle.convert_steps.specs.reiser_volume_objects.Keys.{items_of, root, same_key}
-use Rattle.convert_steps.proofs.reiser_volume_objects.Tables.{same_key-true}
-use Rattle.convert_steps.specs.reiser_volume_names.Names.{inode_of}
-use Rattle.convert_steps.specs.unit_plan.declared.piece.Piece.{Piece}
-use Rattle.convert_steps.specs.file_items.Extents.{extents_at, file_block, is_owned_by, owner_inode, pieces_of}
-use Rattle.convert_steps.specs.file_items.Names.{Entry, Indexed, entries, entry_items, entry_to, extref, extrefs, indexed_in, inode_ref, inode_refs, names_in, names_of, next_index, parent_of, root_ref, saved_entry}
-use Rattle.convert_steps.specs.file_items.Tree.{Source, content_items, extent_items, inline_in, inode_in, kind_in, name_items, number_of, object_items, size_in}
-use Rattle.convert_steps.proofs.file_items.Named.{name_items_other, name_items_root}
+use Rattle.convert_trees_laws.proofs.Imports.{◌≡◌, ◌≤◌, ℕ, ◌+◌, ◌*◌, ◌==◌, not, Bool, true, false, cond, List, [], ◌∷◌, ◌++◌, length, map, filter, sum_by, Option, Some, None, refl, ap, ◌∙◌, if◌then◌else◌, arith, option_map_or, length-take, nat_tests, sum_by-append, sum_by-cons, DIR_INDEX, DIR_ITEM, INODE_EXTREF, INODE_REF, DIR_ITEM_SIZE, INODE_EXTREF_SIZE, INODE_REF_SIZE, ITEM_SIZE, FILE_EXTENT_BYTES, INLINE_BYTES, INODE_BYTES, extref_hash, name_hash, Kind, Directory, File, Symlink, Character, Block, Fifo, Socket, Subvolume, dir_entry_bytes, extref_bytes, inode_ref_bytes, make_key, Item, weight, extent_item, inline_extent, regular_extent, ascending, grouped, inode_item, ascending_sum, sum_split, tail_block, target_bytes, ObjectKey, Naming, items_of, root, same_key, same_key-true, ino_of_key, Piece, extents_at, file_block, is_owned_by, owner_inode, pieces_of, IndexedLink, Indexed, indexed_links, entry_items, entry_to, extref, extrefs, indexed_in, inode_ref, inode_refs, names_in, names_of, next_index, parent_of, root_ref, saved_entry, Source, content_items, file_extent_items, inline_in, inode_in, kind_in, name_items, ino_of, object_items, size_in, name_items_other, name_items_root, bytes_in}
+use Rattle.std.proofs.Common.{flat_map}
 use Rattle.convert_trees_laws.proofs.Keys.{root_first}
 use Rattle.convert_trees_laws.proofs.Short.{entry_long, far_long, flat_long, inline_long, inode_long, ref_long, regular_long, sum_alike, sum_mapped}
-use Rattle.convert_trees_laws.specs.Bounds.{bytes_in}
 use Rattle.convert_trees_laws.proofs.FilesSums.{groups_weigh, kept_weigh, parts_weigh}
 
 -- ---- lists of items
@@ -44,10 +15,10 @@ bytes_of_items items = sum_mapped (λ (i : Item). length i.1) weight items
 
 -- items of groups take no more than an item for each element
 groups_take : {A : Type 0} (n kind : ℕ) (number : A → ℕ) (bytes : A → List ℕ) (w : A → ℕ) (xs : List A) → ((x : A) → length (bytes x) ≡ w x)
-    → sum_by item_weight (map (λ (g : ℕ × List A). (make_key n kind g.0, flat_map bytes g.1)) (grouped number xs)) ≤ sum_by (λ x. 25 + w x) xs
+    → sum_by item_weight (map (λ (g : ℕ × List A). (make_key n kind g.0, flat_map bytes g.1)) (grouped number xs)) ≤ sum_by (λ x. ITEM_SIZE + w x) xs
 groups_take {A} n kind number bytes w xs each =
     let mapped = sum_mapped (λ (g : ℕ × List A). (make_key n kind g.0, flat_map bytes g.1)) item_weight (grouped number xs) in
-    let alike = sum_alike (λ (g : ℕ × List A). item_weight (make_key n kind g.0, flat_map bytes g.1)) (λ (g : ℕ × List A). 25 + sum_by w g.1) (grouped number xs) (λ g. let long = flat_long bytes w g.1 each in omega (arith, long)) in
+    let alike = sum_alike (λ (g : ℕ × List A). item_weight (make_key n kind g.0, flat_map bytes g.1)) (λ (g : ℕ × List A). ITEM_SIZE + sum_by w g.1) (grouped number xs) (λ g. let long = flat_long bytes w g.1 each in omega (arith, long)) in
     let less = groups_weigh number w xs in
     omega (arith, mapped, alike, less)
 
@@ -56,59 +27,59 @@ each_takes f w xs each = sum_mapped f item_weight xs ∙ sum_alike (λ x. item_w
 
 -- ---- names
 
-abbrev letters_of : Entry → ℕ
+abbrev letters_of : IndexedLink → ℕ
 letters_of e = length e.link.name
 
 -- a name takes a reference: at most the head of an item and an extended one
-refs_take : (keys : List ObjectKey) (links : List Naming) (key : ObjectKey) → sum_by item_weight (inode_refs keys links key ++ extrefs keys links key) ≤ sum_by (λ e. 43 + letters_of e) (names_of links key)
+refs_take : (keys : List ObjectKey) (links : List Naming) (key : ObjectKey) → sum_by item_weight (inode_refs keys links key ++ extrefs keys links key) ≤ sum_by (λ e. ITEM_SIZE + INODE_EXTREF_SIZE + letters_of e) (names_of links key)
 refs_take keys links key =
-    let own : List Entry = names_of links key in
-    let far : List Entry = filter (λ e. e.extended) own in
+    let own : List IndexedLink = names_of links key in
+    let far : List IndexedLink = filter (λ e. e.extended) own in
     let both = sum_by-append item_weight (inode_refs keys links key) (extrefs keys links key) in
-    let first = groups_take (inode_of keys key) 12 (parent_of keys) (λ e. inode_ref_bytes (inode_ref e)) (λ e. 10 + letters_of e) (filter (λ e. not e.extended) own) (λ e. ref_long (inode_ref e)) in
-    let second = groups_take (inode_of keys key) 13 (λ e. extref_hash (parent_of keys e) e.link.name) (λ e. extref_bytes (extref keys e)) (λ e. 18 + letters_of e) (ascending (parent_of keys) far) (λ e. far_long (extref keys e)) in
-    let order = ascending_sum (parent_of keys) (λ e. 25 + (18 + letters_of e)) far in
-    let parts = parts_weigh (λ e. not e.extended) (λ e. e.extended) (λ e. 25 + (10 + letters_of e)) (λ e. 25 + (18 + letters_of e)) (λ e. 43 + letters_of e) own (λ e. by e.extended (letters_of e)) in
+    let first = groups_take (ino_of_key keys key) INODE_REF (parent_of keys) (λ e. inode_ref_bytes (inode_ref e)) (λ e. 10 + letters_of e) (filter (λ e. not e.extended) own) (λ e. ref_long (inode_ref e)) in
+    let second = groups_take (ino_of_key keys key) INODE_EXTREF (λ e. extref_hash (parent_of keys e) e.link.name) (λ e. extref_bytes (extref keys e)) (λ e. 18 + letters_of e) (ascending (parent_of keys) far) (λ e. far_long (extref keys e)) in
+    let order = ascending_sum (parent_of keys) (λ e. ITEM_SIZE + (INODE_EXTREF_SIZE + letters_of e)) far in
+    let parts = parts_weigh (λ e. not e.extended) (λ e. e.extended) (λ e. ITEM_SIZE + (INODE_REF_SIZE + letters_of e)) (λ e. ITEM_SIZE + (INODE_EXTREF_SIZE + letters_of e)) (λ e. ITEM_SIZE + INODE_EXTREF_SIZE + letters_of e) own (λ e. by e.extended (letters_of e)) in
     omega (arith, both, first, second, order, parts)
   where
-    by : (b : Bool) (n : ℕ) → cond (not b) (25 + (10 + n)) 0 + cond b (25 + (18 + n)) 0 ≤ 43 + n
+    by : (b : Bool) (n : ℕ) → cond (not b) (ITEM_SIZE + (INODE_REF_SIZE + n)) 0 + cond b (ITEM_SIZE + (INODE_EXTREF_SIZE + n)) 0 ≤ ITEM_SIZE + INODE_EXTREF_SIZE + n
     by true n = omega arith
     by false n = omega arith
 
 -- ---- entries
 
 -- an entry takes two items
-entries_take : (ino : ℕ) (list : List Indexed) → sum_by item_weight (entry_items ino list) ≤ sum_by (λ (e : Indexed). 110 + 2 * length e.1.name) list
+entries_take : (ino : ℕ) (list : List Indexed) → sum_by item_weight (entry_items ino list) ≤ sum_by (λ (e : Indexed). 2 * (ITEM_SIZE + DIR_ITEM_SIZE) + 2 * length e.1.name) list
 entries_take ino list =
     let w : Indexed → ℕ = λ e. 55 + length e.1.name in
-    let both = sum_by-append item_weight (map (λ (g : ℕ × List Indexed). (make_key ino 84 g.0, flat_map (λ (e : Indexed). dir_entry_bytes e.1) g.1)) (grouped (λ (e : Indexed). name_hash e.1.name) list)) (map (λ (e : Indexed). (make_key ino 96 e.0, dir_entry_bytes e.1)) list) in
-    let first = groups_take ino 84 (λ (e : Indexed). name_hash e.1.name) (λ (e : Indexed). dir_entry_bytes e.1) (λ (e : Indexed). 30 + length e.1.name) list (λ e. entry_long e.1) in
-    let second = each_takes (λ (e : Indexed). (make_key ino 96 e.0, dir_entry_bytes e.1)) (λ (e : Indexed). 25 + (30 + length e.1.name)) list (λ e. let long = entry_long e.1 in omega (arith, long)) in
-    let twice = sum_split (λ (e : Indexed). 25 + (30 + length e.1.name)) (λ (e : Indexed). 25 + (30 + length e.1.name)) (λ (e : Indexed). 110 + 2 * length e.1.name) list (λ e. omega arith) in
+    let both = sum_by-append item_weight (map (λ (g : ℕ × List Indexed). (make_key ino DIR_ITEM g.0, flat_map (λ (e : Indexed). dir_entry_bytes e.1) g.1)) (grouped (λ (e : Indexed). name_hash e.1.name) list)) (map (λ (e : Indexed). (make_key ino DIR_INDEX e.0, dir_entry_bytes e.1)) list) in
+    let first = groups_take ino DIR_ITEM (λ (e : Indexed). name_hash e.1.name) (λ (e : Indexed). dir_entry_bytes e.1) (λ (e : Indexed). 30 + length e.1.name) list (λ e. entry_long e.1) in
+    let second = each_takes (λ (e : Indexed). (make_key ino DIR_INDEX e.0, dir_entry_bytes e.1)) (λ (e : Indexed). ITEM_SIZE + (DIR_ITEM_SIZE + length e.1.name)) list (λ e. let long = entry_long e.1 in omega (arith, long)) in
+    let twice = sum_split (λ (e : Indexed). ITEM_SIZE + (DIR_ITEM_SIZE + length e.1.name)) (λ (e : Indexed). ITEM_SIZE + (DIR_ITEM_SIZE + length e.1.name)) (λ (e : Indexed). 2 * (ITEM_SIZE + DIR_ITEM_SIZE) + 2 * length e.1.name) list (λ e. omega arith) in
     omega (arith, both, first, second, twice)
 
 -- so do those of a directory; the root has one more, for the tree of the saved image
 directory_takes : (kind : ObjectKey → Kind) (keys : List ObjectKey) (links : List Naming) (dir : ObjectKey) (ino : ℕ)
-    → sum_by item_weight (entry_items ino (indexed_in kind keys links dir)) ≤ sum_by (λ e. 110 + 2 * letters_of e) (names_in links dir) + cond (same_key dir root) 138 0
+    → sum_by item_weight (entry_items ino (indexed_in kind keys links dir)) ≤ sum_by (λ e. 2 * (ITEM_SIZE + DIR_ITEM_SIZE) + 2 * letters_of e) (names_in links dir) + cond (same_key dir root) 138 0
 directory_takes kind keys links dir ino =
-    let told : Entry → Indexed = λ e. (e.index, entry_to (inode_of keys e.link.target) (kind e.link.target) e.link.name) in
+    let told : IndexedLink → Indexed = λ e. (e.index, entry_to (ino_of_key keys e.link.target) (kind e.link.target) e.link.name) in
     let all = entries_take ino (indexed_in kind keys links dir) in
-    let both = sum_by-append (λ (e : Indexed). 110 + 2 * length e.1.name) (map told (names_in links dir)) (if same_key dir root then (next_index links dir, saved_entry) ∷ [] else []) in
-    let mapped = sum_mapped told (λ (e : Indexed). 110 + 2 * length e.1.name) (names_in links dir) in
+    let both = sum_by-append (λ (e : Indexed). 2 * (ITEM_SIZE + DIR_ITEM_SIZE) + 2 * length e.1.name) (map told (names_in links dir)) (if same_key dir root then (next_index links dir, saved_entry) ∷ [] else []) in
+    let mapped = sum_mapped told (λ (e : Indexed). 2 * (ITEM_SIZE + DIR_ITEM_SIZE) + 2 * length e.1.name) (names_in links dir) in
     let last = saved (same_key dir root) in
     omega (arith, all, both, mapped, last)
   where
-    saved : (b : Bool) → sum_by (λ (e : Indexed). 110 + 2 * length e.1.name) (if b then (next_index links dir, saved_entry) ∷ [] else []) ≡ cond b 138 0
-    saved true = let one = sum_by-cons (λ (e : Indexed). 110 + 2 * length e.1.name) (next_index links dir, saved_entry) [] in omega (arith, one)
+    saved : (b : Bool) → sum_by (λ (e : Indexed). 2 * (ITEM_SIZE + DIR_ITEM_SIZE) + 2 * length e.1.name) (if b then (next_index links dir, saved_entry) ∷ [] else []) ≡ cond b 138 0
+    saved true = let one = sum_by-cons (λ (e : Indexed). 2 * (ITEM_SIZE + DIR_ITEM_SIZE) + 2 * length e.1.name) (next_index links dir, saved_entry) [] in omega (arith, one)
     saved false = refl
 
 -- ---- extents
 
-extents_take : (ino : ℕ) (pieces : List Piece) → sum_by item_weight (extents_at ino file_block (pieces_of pieces ino)) ≤ sum_by (λ p. cond (owner_inode p == ino) 78 0) pieces
+extents_take : (ino : ℕ) (pieces : List Piece) → sum_by item_weight (extents_at ino file_block (pieces_of pieces ino)) ≤ sum_by (λ p. cond (owner_inode p == ino) FILE_EXTENT_BYTES 0) pieces
 extents_take ino pieces =
-    let each = each_takes (λ (p : Piece). extent_item ino (file_block p) (regular_extent p.place p.count)) (λ p. 78) (pieces_of pieces ino) (λ p. let long = regular_long p.place p.count in omega (arith, long)) in
-    let order = ascending_sum file_block (λ (p : Piece). 78) (filter (is_owned_by ino) pieces) in
-    let kept = kept_weigh (is_owned_by ino) (λ p. owner_inode p == ino) (λ p. 78) pieces (λ p is. owned p.owner is) in
+    let each = each_takes (λ (p : Piece). extent_item ino (file_block p) (regular_extent p.place p.count)) (λ p. FILE_EXTENT_BYTES) (pieces_of pieces ino) (λ p. let long = regular_long p.place p.count in omega (arith, long)) in
+    let order = ascending_sum file_block (λ (p : Piece). FILE_EXTENT_BYTES) (filter (is_owned_by ino) pieces) in
+    let kept = kept_weigh (is_owned_by ino) (λ p. owner_inode p == ino) (λ p. FILE_EXTENT_BYTES) pieces (λ p is. owned p.owner is) in
     omega (arith, each, order, kept)
   where
     owned : (o : Option (ℕ × ℕ)) → option_map_or (λ w. w.0 == ino) o false ≡ true → (option_map_or (λ w. w.0) o 0 == ino) ≡ true
@@ -120,26 +91,26 @@ extents_take ino pieces =
 module _ (s : Source) (key : ObjectKey) where
   -- what the names of an object take, the entries of a directory, the pieces of a file, and bytes that are inline
   abbrev pub names_weight : ℕ
-  names_weight = sum_by (λ e. cond (inode_of s.keys e.link.target == number_of s key) (43 + letters_of e) 0) (entries s.links)
+  names_weight = sum_by (λ e. cond (ino_of_key s.keys e.link.target == ino_of s key) (ITEM_SIZE + INODE_EXTREF_SIZE + letters_of e) 0) (indexed_links s.links)
 
   abbrev pub entries_weight : ℕ
-  entries_weight = sum_by (λ e. cond (inode_of s.keys e.link.dir == number_of s key) (110 + 2 * letters_of e) 0) (entries s.links)
+  entries_weight = sum_by (λ e. cond (ino_of_key s.keys e.link.dir == ino_of s key) (2 * (ITEM_SIZE + DIR_ITEM_SIZE) + 2 * letters_of e) 0) (indexed_links s.links)
 
   abbrev pub pieces_weight : ℕ
-  pieces_weight = sum_by (λ p. cond (owner_inode p == number_of s key) 78 0) s.pieces
+  pieces_weight = sum_by (λ p. cond (owner_inode p == ino_of s key) FILE_EXTENT_BYTES 0) s.pieces
 
   abbrev pub inline_weight : ℕ
-  inline_weight = cond (inline_in s key) (46 + size_in s key) 0
+  inline_weight = cond (inline_in s key) (INLINE_BYTES + size_in s key) 0
 
   -- the root has 37 more for its name, and 138 for the entry of the saved image
   abbrev pub root_weight : ℕ
-  root_weight = cond (256 == number_of s key) 175 0
+  root_weight = cond (256 == ino_of s key) 175 0
 
   self : (n : ℕ) → (n == n) ≡ true
   self n = grind (arith, nat_tests)
 
-  alike : (a : ObjectKey) → same_key a key ≡ true → (inode_of s.keys a == number_of s key) ≡ true
-  alike a is = ap (λ (k : ObjectKey). inode_of s.keys k == number_of s key) (same_key-true a key is) ∙ self (number_of s key)
+  alike : (a : ObjectKey) → same_key a key ≡ true → (ino_of_key s.keys a == ino_of s key) ≡ true
+  alike a is = ap (λ (k : ObjectKey). ino_of_key s.keys k == ino_of s key) (same_key-true a key is) ∙ self (ino_of s key)
 
   root_is : same_key key root ≡ true → root_weight ≡ 175
   root_is is = ap (λ (n : ℕ). cond (256 == n) 175 0) (root_first s.keys key is)
@@ -161,26 +132,26 @@ module _ (s : Source) (key : ObjectKey) where
       by false is =
           let own = ap (sum_by item_weight) (name_items_other s key s.keys s.links is refl refl) in
           let refs = refs_take s.keys s.links key in
-          let kept = kept_weigh (λ (e : Entry). same_key e.link.target key) (λ (e : Entry). inode_of s.keys e.link.target == number_of s key) (λ (e : Entry). 43 + letters_of e) (entries s.links) (λ e is. alike e.link.target is) in
+          let kept = kept_weigh (λ (e : IndexedLink). same_key e.link.target key) (λ (e : IndexedLink). ino_of_key s.keys e.link.target == ino_of s key) (λ (e : IndexedLink). ITEM_SIZE + INODE_EXTREF_SIZE + letters_of e) (indexed_links s.links) (λ e is. alike e.link.target is) in
           omega (arith, own, refs, kept)
 
-  data_takes : sum_by item_weight (extent_items s key) ≤ pieces_weight + inline_weight
-  unfolding extent_items
+  data_takes : sum_by item_weight (file_extent_items s key) ≤ pieces_weight + inline_weight
+  unfolding file_extent_items
   data_takes = by (inline_in s key)
     where
-      by : (b : Bool) → sum_by item_weight (if b then extent_item (number_of s key) 0 (inline_extent (target_bytes (items_of key s.items) (size_in s key))) ∷ [] else extents_at (number_of s key) file_block (pieces_of s.pieces (number_of s key)))
-          ≤ pieces_weight + cond b (46 + size_in s key) 0
+      by : (b : Bool) → sum_by item_weight (if b then extent_item (ino_of s key) 0 (inline_extent (target_bytes (items_of key s.items) (size_in s key))) ∷ [] else extents_at (ino_of s key) file_block (pieces_of s.pieces (ino_of s key)))
+          ≤ pieces_weight + cond b (INLINE_BYTES + size_in s key) 0
       by true =
-          let one = sum_by-cons item_weight (extent_item (number_of s key) 0 (inline_extent (target_bytes (items_of key s.items) (size_in s key)))) [] in
+          let one = sum_by-cons item_weight (extent_item (ino_of s key) 0 (inline_extent (target_bytes (items_of key s.items) (size_in s key)))) [] in
           let long = inline_long (target_bytes (items_of key s.items) (size_in s key)) in
           let part = length-take (size_in s key) (tail_block (items_of key s.items) (size_in s key) 0) in
           omega (arith, one, long, part)
-      by false = let all = extents_take (number_of s key) s.pieces in omega (arith, all)
+      by false = let all = extents_take (ino_of s key) s.pieces in omega (arith, all)
 
   content_takes : (kind : Kind) → sum_by item_weight (content_items s key kind) ≤ entries_weight + pieces_weight + inline_weight + cond (same_key key root) 138 0
   content_takes Directory =
-      let all = directory_takes (kind_in s) s.keys s.links key (number_of s key) in
-      let kept = kept_weigh (λ (e : Entry). same_key e.link.dir key) (λ (e : Entry). inode_of s.keys e.link.dir == number_of s key) (λ (e : Entry). 110 + 2 * letters_of e) (entries s.links) (λ e is. alike e.link.dir is) in
+      let all = directory_takes (kind_in s) s.keys s.links key (ino_of s key) in
+      let kept = kept_weigh (λ (e : IndexedLink). same_key e.link.dir key) (λ (e : IndexedLink). ino_of_key s.keys e.link.dir == ino_of s key) (λ (e : IndexedLink). 2 * (ITEM_SIZE + DIR_ITEM_SIZE) + 2 * letters_of e) (indexed_links s.links) (λ e is. alike e.link.dir is) in
       omega (arith, all, kept)
   content_takes File = let all = data_takes in omega (arith, all)
   content_takes Symlink = let all = data_takes in omega (arith, all)
@@ -190,10 +161,10 @@ module _ (s : Source) (key : ObjectKey) where
   content_takes Socket = omega arith
   content_takes Subvolume = omega arith
 
-  pub object_takes : sum_by item_weight (object_items s key) ≤ 185 + names_weight + entries_weight + pieces_weight + inline_weight + root_weight
+  pub object_takes : sum_by item_weight (object_items s key) ≤ INODE_BYTES + names_weight + entries_weight + pieces_weight + inline_weight + root_weight
   unfolding object_items
   object_takes =
-      let first = sum_by-cons item_weight (inode_item (number_of s key) (inode_in s key)) (name_items s key ++ content_items s key (kind_in s key)) in
+      let first = sum_by-cons item_weight (inode_item (ino_of s key) (inode_in s key)) (name_items s key ++ content_items s key (kind_in s key)) in
       let both = sum_by-append item_weight (name_items s key) (content_items s key (kind_in s key)) in
       let long = inode_long (inode_in s key) in
       let names = names_take in

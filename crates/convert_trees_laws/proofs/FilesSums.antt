@@ -1,12 +1,6 @@
 -- Sums over lists that a number divides.
-use Rattle.std.proofs.Common.{◌≡◌, ◌≤◌, ◌<◌, ℕ, ◌+◌, ◌==◌, nat_lt, Bool, true, false, cond, List, [], ◌∷◌, filter, flat_map, sum_by, refl, ap, if◌then◌else◌, arith}
-use Rattle.std.specs.List.{AllByRecursion}
-use Rattle.std.proofs.lemmas.Bool.Decides.{nat_tests}
-use Rattle.std.proofs.lemmas.List.Sums.{sum_by-append, sum_by-cons}
-use Rattle.btr_reader.proofs.fs_paths.Counts.{sum_split, sum_zero}
-use Rattle.convert_steps.specs.btr_item_list.Groups.{grouped, in_group}
-use Rattle.convert_steps.proofs.btr_item_list.Grouping.{other}
-use Rattle.convert_steps.proofs.extent_pieces.Bounding.{sum_fewer}
+use Rattle.convert_trees_laws.proofs.Imports.{◌≡◌, ◌≤◌, ◌<◌, ℕ, ◌+◌, ◌==◌, nat_lt, Bool, true, false, cond, List, [], ◌∷◌, filter, sum_by, refl, ap, if◌then◌else◌, arith, AllByRecursion, nat_tests, sum_by-append, sum_by-cons, ITEM_SIZE, sum_split, sum_zero, grouped, in_group, other, sum_fewer}
+use Rattle.std.proofs.Common.{flat_map}
 use Rattle.convert_trees_laws.proofs.Rising.{Climb}
 use Rattle.convert_trees_laws.proofs.Short.{sum_kept}
 
@@ -21,17 +15,17 @@ sum_flat f w (x ∷ xs) =
 -- what each element takes by itself is no less than what the groups take, where each of them takes so much more than its elements
 module _ {A : Type 0} (number : A → ℕ) (w : A → ℕ) where
   abbrev group_weight : ℕ × List A → ℕ
-  group_weight g = 25 + sum_by w g.1
+  group_weight g = ITEM_SIZE + sum_by w g.1
 
-  in_group_weighs : (n : ℕ) (x : A) (groups : List (ℕ × List A)) → sum_by group_weight (in_group n x groups) ≤ sum_by group_weight groups + (25 + w x)
+  in_group_weighs : (n : ℕ) (x : A) (groups : List (ℕ × List A)) → sum_by group_weight (in_group n x groups) ≤ sum_by group_weight groups + (ITEM_SIZE + w x)
   in_group_weighs n x [] =
       let one = sum_by-cons group_weight (n, x ∷ []) [] in
       let own = sum_by-cons w x [] in
       omega (arith, one, own)
   in_group_weighs n x (g ∷ groups) = by (in_group_weighs n x groups) (n == g.0) (nat_lt n g.0)
     where
-      by : sum_by group_weight (in_group n x groups) ≤ sum_by group_weight groups + (25 + w x) → (e l : Bool)
-          → sum_by group_weight (if e then (n, x ∷ g.1) ∷ groups else (if l then (n, x ∷ []) ∷ (g ∷ groups) else g ∷ in_group n x groups)) ≤ sum_by group_weight (g ∷ groups) + (25 + w x)
+      by : sum_by group_weight (in_group n x groups) ≤ sum_by group_weight groups + (ITEM_SIZE + w x) → (e l : Bool)
+          → sum_by group_weight (if e then (n, x ∷ g.1) ∷ groups else (if l then (n, x ∷ []) ∷ (g ∷ groups) else g ∷ in_group n x groups)) ≤ sum_by group_weight (g ∷ groups) + (ITEM_SIZE + w x)
       by later true l =
           let new = sum_by-cons group_weight (n, x ∷ g.1) groups in
           let old = sum_by-cons group_weight g groups in
@@ -46,12 +40,12 @@ module _ {A : Type 0} (number : A → ℕ) (w : A → ℕ) where
           let old = sum_by-cons group_weight g groups in
           omega (arith, new, old, later)
 
-  pub groups_weigh : (xs : List A) → sum_by group_weight (grouped number xs) ≤ sum_by (λ x. 25 + w x) xs
+  pub groups_weigh : (xs : List A) → sum_by group_weight (grouped number xs) ≤ sum_by (λ x. ITEM_SIZE + w x) xs
   groups_weigh [] = omega arith
   groups_weigh (x ∷ xs) =
       let put = in_group_weighs (number x) x (grouped number xs) in
       let later = groups_weigh xs in
-      let whole = sum_by-cons (λ y. 25 + w y) x xs in
+      let whole = sum_by-cons (λ y. ITEM_SIZE + w y) x xs in
       omega (arith, put, later, whole)
 
 -- What stands under numbers that rise is, together, no more than all there is.

@@ -1,52 +1,8 @@
 -- The pieces of an accepted volume hold its files.
-use Rattle.std.proofs.Common.{◌≡◌, ◌≤◌, ◌<◌, ℕ, ◌+◌, ◌-◌, ◌*◌, ◌==◌, ◌&&◌, nat_le, nat_lt, not, inl, inr, Bool, true, false, List, [], ◌∷◌, ◌++◌, length, length-append, map, filter, get_or, Option, Some, None, refl, sym, ap, subst, ◌∙◌, ⊎_elim, if◌then◌else◌, arith}
-use Rattle.std.specs.Prelude.{AllPairs, Contains}
-use Rattle.std.specs.Int.{div_ceil}
-use Rattle.std.specs.List.{range_with_len}
-use Rattle.std.specs.List.Sorted.{IsPermutation}
-use Rattle.std.specs.Option.{option_map_or}
-use Rattle.std.specs.Ordering.{is_lt}
-use Rattle.std.proofs.lemmas.Bool.{and_parts, cases_Bool, cases_lt, leb-true, ltb-true}
-use Rattle.std.proofs.lemmas.Bool.Decides.{nat_tests}
-use Rattle.std.proofs.lemmas.List.{length-drop}
-use Rattle.std.proofs.lemmas.List.FromFn.{length-range_with_len}
-use Rattle.std.proofs.lemmas.List.Elements.{Contains-append_cases, Contains-append_left, Contains-append_right}
-use Rattle.std.proofs.lemmas.List.Sorted.{Contains-permutation, IsPermutation-sym}
-use Rattle.std.proofs.lemmas.Map.Keys.{apart_from_distinct}
-use Rattle.btr_reader.proofs.fs_paths.Lists.{in_filter, in_flat_map, in_map}
-use Rattle.indexmap.specs.IndexMap.{keys}
-use Rattle.btr_reader.specs.outside.History.{Image}
-use Rattle.btr_reader.specs.fs_rows.Kinds.{is_file}
-use Rattle.btr_reader.specs.fs_rows.declared.row.Kind.{Kind}
-use Rattle.btr_reader.specs.fs_rows.declared.row.Kind.TheVariants.{Directory, File, Symlink, Character, Block, Fifo, Socket, Subvolume}
-use Rattle.convert_steps.proofs.reiser_bitmap.Ranges.{contains_cases, contains_head, contains_range, contains_tail}
-use Rattle.convert_steps.specs.reiser_volume_files.declared.map.RunFrom.{RunFrom}
-use Rattle.convert_steps.specs.reiser_volume_files.declared.map.RunFrom.TheVariants.{Disk, Tail}
-use Rattle.convert_steps.specs.reiser_volume_files.Runs.{block_from}
-use Rattle.convert_steps.specs.reiser_walk.Items.{Item}
-use Rattle.convert_steps.specs.reiser_volume_objects.declared.key.ObjectKey.{ObjectKey}
-use Rattle.convert_steps.specs.reiser_volume_objects.Keys.{items_of, root, same_key}
-use Rattle.convert_steps.specs.reiser_volume_names.Links.{object_cmp}
-use Rattle.convert_steps.specs.reiser_volume_names.Names.{inode_of}
-use Rattle.convert_steps.proofs.reiser_volume_names.Uniqueness.{count_one}
-use Rattle.convert_steps.specs.reiser_volume.Inline.{is_inline as stays_in_tree, is_tail}
-use Rattle.convert_steps.specs.reiser_volume.Volume.{volume_items}
-use Rattle.convert_steps.specs.reiser_volume.declared.volume.Volume.{Volume}
+use Rattle.convert_trees_laws.proofs.Imports.{◌≡◌, ◌≤◌, ◌<◌, ℕ, ◌+◌, ◌-◌, ◌*◌, ◌==◌, ◌&&◌, nat_le, nat_lt, not, inl, inr, Bool, true, false, List, [], ◌∷◌, ◌++◌, length, length-append, map, filter, get_or, Option, Some, None, refl, sym, ap, subst, ◌∙◌, ⊎_elim, if◌then◌else◌, arith, AllPairs, div_ceil, range_with_len, IsPermutation, option_map_or, is_lt, and_parts, cases_Bool, cases_lt, leb-true, ltb-true, nat_tests, length-drop, length-range_with_len, Contains-append_cases, Contains-append_left, Contains-append_right, Contains-permutation, IsPermutation-sym, apart_from_distinct, in_filter, in_flat_map, in_map, keys, Image, is_file, Kind, Directory, File, Symlink, Character, Block, Fifo, Socket, Subvolume, contains_cases, contains_head, contains_range, contains_tail, RunFrom, Disk, block_from, ReiserItem, ObjectKey, items_of, root, same_key, object_cmp, ino_of_key, count_one, stays_in_tree, is_tail, volume_items, Volume, Options, Piece, Plan, Tail as TailBlock, FileAt, file_at, file_blocks, file_tails, files_among, has_tail, is_file_at, is_file_inline, HoldsUsed, advanced, copied_pieces, tail_piece, at_place, at_places, blocks_of_units, plans_have_room, all_at, IsFileOf, file_of, lies_owns, owner_is, HasExtents, HasPieces, ComesFrom, in_piece, made_from, Source, kind_in, ino_of, size_in}
+use Rattle.std.specs.Prelude.{Contains}
+use Rattle.convert_steps.specs.reiser_volume_files.declared.map.RunFrom.TheVariants.{Tail}
 use Rattle.convert_steps.proofs.reiser_volume.Owners.{owners_are_one}
-use Rattle.convert_steps.specs.convert_options.declared.options.Options.{Options}
-use Rattle.convert_steps.specs.unit_plan.declared.piece.Piece.{Piece}
-use Rattle.convert_steps.specs.unit_plan.declared.plan.Plan.{Plan}
-use Rattle.convert_steps.specs.extent_pieces.declared.tail.Tail.{Tail as TailBlock}
-use Rattle.convert_steps.specs.extent_pieces.Files.{FileAt, file_at, file_blocks, file_tails, files_among, has_tail, is_file_at, is_inline}
-use Rattle.convert_steps.specs.extent_pieces.Laws.{HoldsUsed}
-use Rattle.convert_steps.specs.extent_pieces.Pieces.{advanced, copied_pieces, tail_piece}
-use Rattle.convert_steps.specs.extent_pieces.Placed.{at_place, at_places, blocks_of_units}
-use Rattle.convert_steps.proofs.extent_pieces.Apart.{plans_have_room}
-use Rattle.convert_steps.proofs.extent_pieces.Lists.{all_at}
-use Rattle.convert_steps.proofs.extent_pieces.Once.{IsFileOf, file_of, lies_owns}
-use Rattle.convert_steps.proofs.extent_pieces.Owners.{owner_is}
-use Rattle.convert_steps.specs.Source.{HasExtents, HasPieces, LiesIn, in_piece, made_from}
-use Rattle.convert_steps.specs.file_items.Tree.{Source, kind_in, number_of, size_in}
 use Rattle.convert_trees_laws.specs.Held.{FilesAreHeld}
 use Rattle.convert_trees_laws.proofs.Apart.{all_files, all_tails, back, by, cover, kept, made, permuted, placed_distinct, places, rest, some_blocks, used}
 use Rattle.convert_trees_laws.proofs.FileBlocks.{Disjoint, Lies, all_disjoint, once, one_file, piece_lies, tail_there}
@@ -163,7 +119,7 @@ none_there : (r : RunFrom) → (let o : Option RunFrom = None in o) ≡ Some r �
 none_there r is = absurd (cc)
 
 -- a block that lies anywhere begins below the size
-lies_low : (items : List Item) (size k : ℕ) (r : RunFrom) → block_from items size k ≡ Some r → 4096 * k < size
+lies_low : (items : List ReiserItem) (size k : ℕ) (r : RunFrom) → block_from items size k ≡ Some r → 4096 * k < size
 lies_low items size k r lies =
     ⊎_elim
     (λ (t : nat_lt (4096 * k) size ≡ true). ltb-true (4096 * k) size t)
@@ -171,7 +127,7 @@ lies_low items size k r lies =
     (cases_Bool (nat_lt (4096 * k) size))
 
 -- a file with a block on the disk is not inline
-disk_stays : (inline : Bool) (items : List Item) (size k b : ℕ) → block_from items size k ≡ Some (Disk b) → stays_in_tree inline items size File ≡ false
+disk_stays : (inline : Bool) (items : List ReiserItem) (size k b : ℕ) → block_from items size k ≡ Some (Disk b) → stays_in_tree inline items size File ≡ false
 disk_stays inline items size k b lies = ⊎_elim
     (λ (t : stays_in_tree inline items size File ≡ true).
     let parts = and_parts inline (nat_le size 2048 && is_tail (block_from items size 0)) t in
@@ -197,7 +153,7 @@ module _ (volume : Volume) (image : Image) (o : Options) (plan : Plan) (pieces :
   abbrev s : Source
   s = made_from volume image o pieces
 
-  abbrev items : List Item
+  abbrev items : List ReiserItem
   items = volume_items image
 
   abbrev named : List ObjectKey
@@ -209,7 +165,7 @@ module _ (volume : Volume) (image : Image) (o : Options) (plan : Plan) (pieces :
   abbrev the_files : List FileAt
   the_files = all_files image has_pieces.found o plan has_pieces.plan_
 
-  inode_same : (key : ObjectKey) → inode_of named key ≡ number_of s key
+  inode_same : (key : ObjectKey) → ino_of_key named key ≡ ino_of s key
   inode_same key = ap (λ (n : ℕ). if same_key key root then 256 else 257 + n) (count_one items named (keys volume.named) has_pieces.plan_.sorted.are_keys has_pieces.opened.are_keys (λ k. is_lt (object_cmp k key) && not (same_key k root)))
 
   to_named : (key : ObjectKey) → Contains s.keys key → Contains named key
@@ -277,7 +233,7 @@ module _ (volume : Volume) (image : Image) (o : Options) (plan : Plan) (pieces :
           let file = one_file image has_pieces.found o plan has_pieces.plan_ t.file lies.file t.among lies.among (inode ∙ sym lies.inode) in
           subst (λ (f : FileAt). stays_in_tree o.inline f.items f.size File ≡ false) file t.stays
 
-  each_of : (p : Piece) (i first : ℕ) → Contains pieces p → p.owner ≡ Some (i, first) → (key : ObjectKey) × HasExtents s key × (number_of s key ≡ i) × ((j : ℕ) → j < p.count → LiesIn s key (first + j) (in_piece p j))
+  each_of : (p : Piece) (i first : ℕ) → Contains pieces p → p.owner ≡ Some (i, first) → (key : ObjectKey) × HasExtents s key × (ino_of s key ≡ i) × ((j : ℕ) → j < p.count → ComesFrom s key (first + j) (in_piece p j))
   each_of p i first h owned =
       let q = was_old p h in
       let own : q.was.owner ≡ Some (i, first) = q.owner ∙ owned in
@@ -285,7 +241,7 @@ module _ (volume : Volume) (image : Image) (o : Options) (plan : Plan) (pieces :
       let zero_lies = piece_lies image has_pieces.found o plan has_pieces.plan_ q.was q.among i first 0 own (omega (arith, some)) in
       let of = file_key zero_lies.file zero_lies.among in
       let kind : kind_in s of.key ≡ File = file_kind (kind_in s of.key) of.file in
-      let inode : number_of s of.key ≡ i = sym (inode_same of.key) ∙ (ap (λ (f : FileAt). f.inode) of.is ∙ zero_lies.inode) in
+      let inode : ino_of s of.key ≡ i = sym (inode_same of.key) ∙ (ap (λ (f : FileAt). f.inode) of.is ∙ zero_lies.inode) in
       let out : stays_in_tree o.inline (items_of of.key items) (size_in s of.key) File ≡ false = subst (λ (f : FileAt). stays_in_tree o.inline f.items f.size File ≡ false) (sym of.is) (stays p q i first owned zero_lies) in (
         of.key,
         record { named = from_named of.key of.among; file = kind; not_inline = ap (λ (k : Kind). stays_in_tree o.inline (items_of of.key items) (size_in s of.key) k) kind ∙ out },
@@ -299,13 +255,13 @@ module _ (volume : Volume) (image : Image) (o : Options) (plan : Plan) (pieces :
   -- ---- each block of a file
 
   abbrev IsIn : ObjectKey → ℕ → RunFrom → Type 0
-  IsIn key k from = (p : Piece) × (first : ℕ) × Contains pieces p × (p.owner ≡ Some (number_of s key, first)) × (first ≤ k) × (k < first + p.count) × (from ≡ in_piece p (k - first))
+  IsIn key k from = (p : Piece) × (first : ℕ) × Contains pieces p × (p.owner ≡ Some (ino_of s key, first)) × (first ≤ k) × (k < first + p.count) × (from ≡ in_piece p (k - first))
 
   file_in : (key : ObjectKey) → HasExtents s key → Contains the_files (file_at items named key)
   unfolding files_among
   file_in key ext = in_map (file_at items named) (filter (is_file_at items) named) key (in_filter (is_file_at items) named key (to_named key ext.named) (ap is_file ext.file))
 
-  whole_of : (key : ObjectKey) (k : ℕ) (from : RunFrom) → HasExtents s key → LiesIn s key k from → IsIn key k from
+  whole_of : (key : ObjectKey) (k : ℕ) (from : RunFrom) → HasExtents s key → ComesFrom s key k from → IsIn key k from
   whole_of key k (Disk b) ext lies =
       let f : FileAt = file_at items named key in
       let owned : by image has_pieces.found o plan has_pieces.plan_ b ≡ Some (f.inode, k) =
@@ -337,7 +293,7 @@ module _ (volume : Volume) (image : Image) (o : Options) (plan : Plan) (pieces :
   whole_of key k Tail ext lies =
       let f : FileAt = file_at items named key in
       let t : TailBlock = record { inode = f.inode; at = k } in
-      let out : is_inline o.inline f ≡ false = sym (ap (λ (kind : Kind). stays_in_tree o.inline (items_of key items) (size_in s key) kind) ext.file) ∙ ext.not_inline in
+      let out : is_file_inline o.inline f ≡ false = sym (ap (λ (kind : Kind). stays_in_tree o.inline (items_of key items) (size_in s key) kind) ext.file) ∙ ext.not_inline in
       let low = lies_low (items_of key items) (size_in s key) k Tail lies in
       let passes : has_tail f k ≡ true = ap is_tail lies in
       let among : Contains (filter (has_tail f) (file_blocks f)) k = in_filter (has_tail f) (file_blocks f) k (contains_range 0 (div_ceil f.size 4096) k (omega arith) (omega (arith, low))) passes in

@@ -1,46 +1,7 @@
 -- Each directory index of the file tree's items has an entry.
-use Rattle.std.proofs.Common.{◌≡◌, ◌≤◌, ◌<◌, ℕ, ◌+◌, ◌^◌, ◌&&◌, not, Bool, true, false, cond, List, [], ◌∷◌, ◌++◌, length, map, filter, count_by, Contains, Option, Some, None, refl, sym, ap, subst, ◌∙◌, if◌then◌else◌, arith}
-use Rattle.std.specs.List.{AllByRecursion, flat_map}
-use Rattle.std.specs.Ordering.{is_lt}
-use Rattle.std.proofs.lemmas.List.{append-nil}
-use Rattle.std.proofs.lemmas.List.Sums.{sum_by-cons}
-use Rattle.btr_reader.specs.castagnoli.Castagnoli.{extref_hash, name_hash}
-use Rattle.indexmap.specs.IndexMap.{keys}
-use Rattle.btr_reader.specs.outside.History.{Image}
-use Rattle.btr_reader.proofs.fs_paths.Lists.{in_map}
-use Rattle.btr_reader.specs.fs_rows.declared.row.Kind.{Kind}
-use Rattle.btr_reader.specs.fs_rows.declared.row.Kind.TheVariants.{Directory, File, Symlink, Character, Block, Fifo, Socket, Subvolume}
-use Rattle.btr_reader.specs.btr_keys.DirEntry.{DirEntryValue, dir_entry_bytes, dir_entry_head, dir_items_of}
-use Rattle.btr_reader.specs.btr_keys.Extref.{extref_bytes}
-use Rattle.btr_reader.specs.btr_keys.InodeRef.{inode_ref_bytes}
-use Rattle.btr_reader.specs.btr_keys.Key.{key_layout, make_key}
-use Rattle.btr_reader.proofs.btr_keys.Records.{dir_items_read_back}
-use Rattle.btr_reader.specs.btr_reader_names.Links.{index_entry, only_one}
-use Rattle.btr_reader.specs.btr_node.Leaf.{Item}
-use Rattle.btr_reader.specs.btr_reader_walk.Events.{TreeItem}
-use Rattle.btr_reader.specs.btr_reader_walk.Tree.{bare_item}
-use Rattle.convert_steps.specs.Source.{HasPieces, made_from}
-use Rattle.convert_steps.specs.file_items.Extents.{extents_at, file_block, pieces_of}
-use Rattle.convert_steps.specs.file_items.Names.{Entry, Indexed, entry_items, entry_kind, entry_to, extref, extrefs, indexed_in, inode_ref, inode_refs, names_in, names_of, next_index, parent_of, saved_entry}
-use Rattle.convert_steps.specs.file_items.Tree.{Source, content_items, extent_items, inline_in, kind_in, name_items, number_of, object_items, size_in, tree_items}
-use Rattle.convert_steps.proofs.file_items.Named.{name_items_other, name_items_root}
+use Rattle.convert_trees_laws.proofs.Imports.{◌≡◌, ◌≤◌, ◌<◌, ℕ, ◌+◌, ◌^◌, ◌&&◌, not, Bool, true, false, cond, List, [], ◌∷◌, ◌++◌, length, map, filter, count_by, Contains, Option, Some, None, refl, sym, ap, subst, ◌∙◌, if◌then◌else◌, arith, AllByRecursion, flat_map, is_lt, append-nil, sum_by-cons, DIR_INDEX, DIR_ITEM, INODE_EXTREF, INODE_REF, extref_hash, name_hash, keys, Image, in_map, Kind, Directory, File, Symlink, Character, Block, Fifo, Socket, Subvolume, DirEntryValue, dir_entry_bytes, dir_entry_head, dir_items_of, extref_bytes, inode_ref_bytes, key_layout, make_key, dir_items_read_back, index_entry, only_one, Item, TreeItem, bare_item, HasPieces, made_from, extents_at, file_block, pieces_of, IndexedLink, Indexed, entry_items, entry_kind, entry_to, extref, extrefs, indexed_in, inode_ref, inode_refs, names_in, names_of, next_index, parent_of, saved_entry, Source, content_items, file_extent_items, inline_in, kind_in, name_items, ino_of, object_items, size_in, fs_tree_items, name_items_other, name_items_root, extent_item, inline_extent, regular_extent, ascending, grouped, target_bytes, object_cmp, ino_of_key, ObjectKey, Naming, items_of, root, same_key, by_inode, Volume, accepted_is_small, Options, Piece, Plan, ReadAs}
 use Rattle.convert_trees_laws.proofs.Rising.{all_append, all_each, all_flat, all_mapped, all_true}
 use Rattle.convert_trees_laws.proofs.Short.{names_low}
-use Rattle.convert_steps.specs.btr_item_list.Extents.{extent_item, inline_extent, regular_extent}
-use Rattle.convert_steps.specs.btr_item_list.Groups.{ascending, grouped}
-use Rattle.convert_steps.specs.reiser_volume_files.Bytes.{target_bytes}
-use Rattle.convert_steps.specs.reiser_volume_names.Links.{object_cmp}
-use Rattle.convert_steps.specs.reiser_volume_names.Names.{inode_of}
-use Rattle.convert_steps.specs.reiser_volume_objects.declared.key.ObjectKey.{ObjectKey}
-use Rattle.convert_steps.specs.reiser_volume_objects.declared.naming.Naming.{Naming as Link}
-use Rattle.convert_steps.specs.reiser_volume_objects.Keys.{items_of, root, same_key}
-use Rattle.convert_steps.specs.reiser_volume.Numbers.{by_inode}
-use Rattle.convert_steps.specs.reiser_volume.declared.volume.Volume.{Volume}
-use Rattle.convert_steps.proofs.reiser_volume.Bounds.{accepted_is_small}
-use Rattle.convert_steps.specs.convert_options.declared.options.Options.{Options}
-use Rattle.convert_steps.specs.unit_plan.declared.piece.Piece.{Piece}
-use Rattle.convert_steps.specs.unit_plan.declared.plan.Plan.{Plan}
-use Rattle.convert_trees_laws.specs.Names.{ReadAs}
 use Rattle.convert_trees_laws.proofs.Known.{links_short}
 use Rattle.convert_trees_laws.proofs.Lists.{all_in}
 
@@ -64,7 +25,7 @@ count_low p (k ∷ ks) = by (p k) (count_low p ks) (sum_by-cons (λ (x : ObjectK
     by true later is = omega (arith, later, is)
     by false later is = omega (arith, later, is)
 
-inode_low : (all : List ObjectKey) (key : ObjectKey) → length all ≤ 2 ^ 37 → inode_of all key < 2 ^ 64
+inode_low : (all : List ObjectKey) (key : ObjectKey) → length all ≤ 2 ^ 37 → ino_of_key all key < 2 ^ 64
 inode_low all key few = by (same_key key root)
   where
     by : (b : Bool) → (if b then 256 else 257 + count_by (λ k. is_lt (object_cmp k key) && not (same_key k root)) all) < 2 ^ 64
@@ -79,14 +40,14 @@ saved_fits : dir_entry_head.fits saved_entry
 unfolding dir_entry_head key_layout
 saved_fits = (((((tt, (((tt, omega arith), omega arith), omega arith)), omega arith), omega arith), omega arith), omega arith)
 
-module _ (kind : ObjectKey → Kind) (all : List ObjectKey) (links : List Link) (dir : ObjectKey) (few : length all ≤ 2 ^ 37) where
-  abbrev listed : Entry → Indexed
-  listed e = (e.index, entry_to (inode_of all e.link.target) (kind e.link.target) e.link.name)
+module _ (kind : ObjectKey → Kind) (all : List ObjectKey) (links : List Naming) (dir : ObjectKey) (few : length all ≤ 2 ^ 37) where
+  abbrev listed : IndexedLink → Indexed
+  listed e = (e.index, entry_to (ino_of_key all e.link.target) (kind e.link.target) e.link.name)
 
-  each_fits : (es : List Entry) (rest : List Indexed) → AllByRecursion (λ (e : Indexed). length e.1.name ≤ 255) (map listed es ++ rest) → AllByRecursion (λ (e : Indexed). dir_entry_head.fits e.1) rest
+  each_fits : (es : List IndexedLink) (rest : List Indexed) → AllByRecursion (λ (e : Indexed). length e.1.name ≤ 255) (map listed es ++ rest) → AllByRecursion (λ (e : Indexed). dir_entry_head.fits e.1) rest
       → AllByRecursion (λ (e : Indexed). dir_entry_head.fits e.1) (map listed es ++ rest)
   each_fits [] rest low fits = fits
-  each_fits (e ∷ es) rest low fits = (entry_fits (inode_of all e.link.target) (kind e.link.target) e.link.name (inode_low all e.link.target few) low.0, each_fits es rest low.1 fits)
+  each_fits (e ∷ es) rest low fits = (entry_fits (ino_of_key all e.link.target) (kind e.link.target) e.link.name (inode_low all e.link.target few) low.0, each_fits es rest low.1 fits)
 
   all_fit : AllByRecursion (λ (e : Indexed). length e.1.name ≤ 255) (indexed_in kind all links dir) → AllByRecursion (λ (e : Indexed). dir_entry_head.fits e.1) (indexed_in kind all links dir)
   all_fit low = each_fits (names_in links dir) (if same_key dir root then (next_index links dir, saved_entry) ∷ [] else []) low (saved (same_key dir root))
@@ -99,7 +60,7 @@ module _ (kind : ObjectKey → Kind) (all : List ObjectKey) (links : List Link) 
 
 -- an index has an entry
 abbrev IsReadable : Item → Type 0
-IsReadable i = i.0.kind ≡ 96 → index_entry i.1 ≡ None → ⊥
+IsReadable i = i.0.kind ≡ DIR_INDEX → index_entry i.1 ≡ None → ⊥
 
 not_none : (e : DirEntryValue) (r : Option DirEntryValue) → r ≡ Some e → r ≡ None → ⊥
 not_none e r some none = absurd (cc)
@@ -107,30 +68,30 @@ not_none e r some none = absurd (cc)
 index_readable : (e : DirEntryValue) → dir_entry_head.fits e → index_entry (dir_entry_bytes e) ≡ None → ⊥
 index_readable e fits = not_none e (index_entry (dir_entry_bytes e)) (ap only_one (ap dir_items_of (sym (append-nil (dir_entry_bytes e))) ∙ dir_items_read_back e [] (fits, tt)))
 
-other_kind : (k : ℕ) (r : Option DirEntryValue) → k ≤ 95 → k ≡ 96 → r ≡ None → ⊥
+other_kind : (k : ℕ) (r : Option DirEntryValue) → k ≤ 95 → k ≡ DIR_INDEX → r ≡ None → ⊥
 other_kind k r low is none = omega (arith, low, is)
 
 module _ (s : Source) (fit : (key : ObjectKey) → AllByRecursion (λ (e : Indexed). dir_entry_head.fits e.1) (indexed_in (kind_in s) s.keys s.links key)) where
   entries_readable : (ino : ℕ) (list : List Indexed) → AllByRecursion (λ (e : Indexed). dir_entry_head.fits e.1) list → AllByRecursion IsReadable (entry_items ino list)
   entries_readable ino list all =
       all_append IsReadable
-      (map (λ g. (make_key ino 84 g.0, flat_map (λ (e : Indexed). dir_entry_bytes e.1) g.1)) (grouped (λ (e : Indexed). name_hash e.1.name) list))
-      (map (λ (e : Indexed). (make_key ino 96 e.0, dir_entry_bytes e.1)) list)
-      (all_mapped IsReadable (λ (g : ℕ × List Indexed). (make_key ino 84 g.0, flat_map (λ (e : Indexed). dir_entry_bytes e.1) g.1)) (grouped (λ (e : Indexed). name_hash e.1.name) list)
+      (map (λ g. (make_key ino DIR_ITEM g.0, flat_map (λ (e : Indexed). dir_entry_bytes e.1) g.1)) (grouped (λ (e : Indexed). name_hash e.1.name) list))
+      (map (λ (e : Indexed). (make_key ino DIR_INDEX e.0, dir_entry_bytes e.1)) list)
+      (all_mapped IsReadable (λ (g : ℕ × List Indexed). (make_key ino DIR_ITEM g.0, flat_map (λ (e : Indexed). dir_entry_bytes e.1) g.1)) (grouped (λ (e : Indexed). name_hash e.1.name) list)
       (all_true _ (grouped (λ (e : Indexed). name_hash e.1.name) list) (λ g is none. absurd (omega (arith, is)))))
-      (all_mapped IsReadable (λ (e : Indexed). (make_key ino 96 e.0, dir_entry_bytes e.1)) list
-      (all_each (λ (e : Indexed). dir_entry_head.fits e.1) (λ (e : Indexed). IsReadable (make_key ino 96 e.0, dir_entry_bytes e.1)) list (λ e fits is none. index_readable e.1 fits none) all))
+      (all_mapped IsReadable (λ (e : Indexed). (make_key ino DIR_INDEX e.0, dir_entry_bytes e.1)) list
+      (all_each (λ (e : Indexed). dir_entry_head.fits e.1) (λ (e : Indexed). IsReadable (make_key ino DIR_INDEX e.0, dir_entry_bytes e.1)) list (λ e fits is none. index_readable e.1 fits none) all))
 
-  data_readable : (key : ObjectKey) → AllByRecursion IsReadable (extent_items s key)
-  unfolding extent_items
+  data_readable : (key : ObjectKey) → AllByRecursion IsReadable (file_extent_items s key)
+  unfolding file_extent_items
   data_readable key = by (inline_in s key)
     where
-      by : (b : Bool) → AllByRecursion IsReadable (if b then extent_item (number_of s key) 0 (inline_extent (target_bytes (items_of key s.items) (size_in s key))) ∷ [] else extents_at (number_of s key) file_block (pieces_of s.pieces (number_of s key)))
+      by : (b : Bool) → AllByRecursion IsReadable (if b then extent_item (ino_of s key) 0 (inline_extent (target_bytes (items_of key s.items) (size_in s key))) ∷ [] else extents_at (ino_of s key) file_block (pieces_of s.pieces (ino_of s key)))
       by true = (λ is none. absurd (omega (arith, is)), tt)
-      by false = all_mapped IsReadable (λ (p : Piece). extent_item (number_of s key) (file_block p) (regular_extent p.place p.count)) (pieces_of s.pieces (number_of s key)) (all_true _ (pieces_of s.pieces (number_of s key)) (λ p is none. absurd (omega (arith, is))))
+      by false = all_mapped IsReadable (λ (p : Piece). extent_item (ino_of s key) (file_block p) (regular_extent p.place p.count)) (pieces_of s.pieces (ino_of s key)) (all_true _ (pieces_of s.pieces (ino_of s key)) (λ p is none. absurd (omega (arith, is))))
 
   content_readable : (key : ObjectKey) (kind : Kind) → AllByRecursion IsReadable (content_items s key kind)
-  content_readable key Directory = entries_readable (number_of s key) (indexed_in (kind_in s) s.keys s.links key) (fit key)
+  content_readable key Directory = entries_readable (ino_of s key) (indexed_in (kind_in s) s.keys s.links key) (fit key)
   content_readable key File = data_readable key
   content_readable key Symlink = data_readable key
   content_readable key Character = tt
@@ -141,13 +102,13 @@ module _ (s : Source) (fit : (key : ObjectKey) → AllByRecursion (λ (e : Index
 
   refs_readable : (key : ObjectKey) → AllByRecursion IsReadable (inode_refs s.keys s.links key ++ extrefs s.keys s.links key)
   refs_readable key =
-      let plain : List Entry = filter (λ e. not e.extended) (names_of s.links key) in
-      let far : List Entry = ascending (parent_of s.keys) (filter (λ e. e.extended) (names_of s.links key)) in
-      let hash : Entry → ℕ = λ e. extref_hash (parent_of s.keys e) e.link.name in
+      let plain : List IndexedLink = filter (λ e. not e.extended) (names_of s.links key) in
+      let far : List IndexedLink = ascending (parent_of s.keys) (filter (λ e. e.extended) (names_of s.links key)) in
+      let hash : IndexedLink → ℕ = λ e. extref_hash (parent_of s.keys e) e.link.name in
       all_append IsReadable (inode_refs s.keys s.links key) (extrefs s.keys s.links key)
-      (all_mapped IsReadable (λ (g : ℕ × List Entry). (make_key (number_of s key) 12 g.0, flat_map (λ (e : Entry). inode_ref_bytes (inode_ref e)) g.1)) (grouped (parent_of s.keys) plain)
+      (all_mapped IsReadable (λ (g : ℕ × List IndexedLink). (make_key (ino_of s key) INODE_REF g.0, flat_map (λ (e : IndexedLink). inode_ref_bytes (inode_ref e)) g.1)) (grouped (parent_of s.keys) plain)
       (all_true _ (grouped (parent_of s.keys) plain) (λ g is none. absurd (omega (arith, is)))))
-      (all_mapped IsReadable (λ (g : ℕ × List Entry). (make_key (number_of s key) 13 g.0, flat_map (λ (e : Entry). extref_bytes (extref s.keys e)) g.1)) (grouped hash far)
+      (all_mapped IsReadable (λ (g : ℕ × List IndexedLink). (make_key (ino_of s key) INODE_EXTREF g.0, flat_map (λ (e : IndexedLink). extref_bytes (extref s.keys e)) g.1)) (grouped hash far)
       (all_true _ (grouped hash far) (λ g is none. absurd (omega (arith, is)))))
 
   names_readable : (key : ObjectKey) → AllByRecursion IsReadable (name_items s key)
@@ -166,17 +127,17 @@ module _ (s : Source) (fit : (key : ObjectKey) → AllByRecursion (λ (e : Index
         (content_readable key (kind_in s key)),
   )
 
-  tree_readable : AllByRecursion IsReadable (tree_items s)
-  unfolding tree_items
+  tree_readable : AllByRecursion IsReadable (fs_tree_items s)
+  unfolding fs_tree_items
   tree_readable = all_flat IsReadable (object_items s) (by_inode s.keys) (all_true (λ key. AllByRecursion IsReadable (object_items s key)) (by_inode s.keys) object_readable)
 
 -- each directory index of such a tree has an entry
 pub indexes_readable : (volume : Volume) (image : Image) (o : Options) (plan : Plan) (pieces : List Piece) (items : List TreeItem) (i : TreeItem) → HasPieces volume image o plan pieces
-    → ReadAs (made_from volume image o pieces) items → Contains items i → i.key.kind ≡ 96 → index_entry i.body ≡ None → ⊥
+    → ReadAs (made_from volume image o pieces) items → Contains items i → i.key.kind ≡ DIR_INDEX → index_entry i.body ≡ None → ⊥
 indexes_readable volume image o plan pieces items i has read among is none =
     let s : Source = made_from volume image o pieces in
     let few = (accepted_is_small image has.accepted).objects (keys volume.named) has.opened.are_keys in
     let readable = tree_readable s
     (λ key. all_fit (kind_in s) s.keys s.links key few (names_low (kind_in s) s.keys s.links key (links_short volume image has.accepted has.opened))) in
-    let there : Contains (tree_items s) (bare_item i) = subst (λ (l : List Item). Contains l (bare_item i)) read (in_map bare_item items i among) in
-    all_in IsReadable (tree_items s) (bare_item i) readable there is none
+    let there : Contains (fs_tree_items s) (bare_item i) = subst (λ (l : List Item). Contains l (bare_item i)) read (in_map bare_item items i among) in
+    all_in IsReadable (fs_tree_items s) (bare_item i) readable there is none

@@ -1,8 +1,6 @@
 -- What is read of an inode that was written: each field that fits.
-use Rattle.std.proofs.Common.{◌≡◌, ◌<◌, ◌^◌, Bool, length, Option, Some, None, ap, eq-eqb, arith, if◌then◌else◌}
-use Rattle.btr_reader.specs.btr_keys.Inode.{inode_bytes, inode_layout, inode_of}
-use Rattle.btr_reader.specs.btr_keys.Stamp.{stamp_layout}
-use Rattle.btr_reader.specs.btr_keys.declared.inode.Inode.{Inode}
+use Rattle.convert_trees_laws.proofs.Imports.{◌≡◌, ◌<◌, ◌^◌, Bool, length, Option, Some, None, ap, arith, if◌then◌else◌, inode_bytes, inode_layout, inode_of, stamp_layout, Inode}
+use Rattle.std.proofs.Common.{eq-eqb}
 use Rattle.convert_trees_laws.proofs.Short.{inode_long}
 
 -- the inode that is read of another one's bytes

@@ -1,33 +1,13 @@
 -- The inodes of objects in a tree of the file tree's items.
-use Rattle.std.proofs.Common.{◌≡◌, ◌≤◌, ◌<◌, ℕ, ◌==◌, ◌&&◌, not, Bool, true, false, List, [], ◌∷◌, ◌++◌, map, filter, Option, Some, None, refl, sym, ap, subst, ◌∙◌, ⊎_elim, if◌then◌else◌, arith}
+use Rattle.convert_trees_laws.proofs.Imports.{◌≡◌, ◌≤◌, ◌<◌, ℕ, ◌==◌, ◌&&◌, not, Bool, true, false, List, [], ◌∷◌, ◌++◌, map, filter, Option, Some, None, refl, sym, ap, subst, ◌∙◌, ⊎_elim, if◌then◌else◌, arith, AllByRecursion, flat_map, cases_Bool, not_from_false, nat_tests, EXTENT_DATA, INODE_ITEM, INODE_REF, keys, in_filter, contains_cases, contains_head, contains_tail, find_inode_item, Item, TreeItem, bare_item, made_from, AreSortedKeys, numbered, Source, content_items, inode_in, kind_in, name_items, ino_of, object_items, fs_tree_items, inode_item, ObjectKey, root, same_key, same_key-true, by_inode, InodesAreThere}
 use Rattle.std.specs.Prelude.{Contains}
-use Rattle.std.specs.List.{AllByRecursion, flat_map}
-use Rattle.std.proofs.lemmas.Bool.{cases_Bool, not_from_false}
-use Rattle.std.proofs.lemmas.Bool.Decides.{nat_tests}
-use Rattle.indexmap.specs.IndexMap.{keys}
-use Rattle.btr_reader.proofs.fs_paths.Lists.{in_filter}
-use Rattle.convert_steps.proofs.reiser_bitmap.Ranges.{contains_cases, contains_head, contains_tail}
-use Rattle.btr_reader.specs.btr_reader_names.Inodes.{inode_item as item_of}
-use Rattle.btr_reader.specs.btr_node.Leaf.{Item}
-use Rattle.btr_reader.specs.btr_reader_walk.Events.{TreeItem}
-use Rattle.btr_reader.specs.btr_reader_walk.Tree.{bare_item}
-use Rattle.convert_steps.specs.Source.{made_from}
-use Rattle.convert_steps.specs.extent_pieces.Laws.{AreSortedKeys}
-use Rattle.convert_steps.proofs.extent_pieces.Named.{numbered}
-use Rattle.convert_steps.specs.file_items.Tree.{Source, content_items, inode_in, kind_in, name_items, number_of, object_items, tree_items}
-use Rattle.convert_steps.specs.btr_item_list.Inodes.{inode_item}
-use Rattle.convert_steps.specs.reiser_volume_objects.declared.key.ObjectKey.{ObjectKey}
-use Rattle.convert_steps.specs.reiser_volume_objects.Keys.{root, same_key}
-use Rattle.convert_steps.proofs.reiser_volume_objects.Tables.{same_key-true}
-use Rattle.convert_steps.specs.reiser_volume.Numbers.{by_inode}
-use Rattle.convert_trees_laws.specs.Inodes.{InodesAreThere}
 use Rattle.convert_trees_laws.proofs.FileBlocks.{starts_none}
 use Rattle.convert_trees_laws.proofs.Keys.{inodes_climb, rest_part}
 use Rattle.convert_trees_laws.proofs.Rising.{Climb, IsOf, all_each}
 
 -- an item is that of an inode
 abbrev is_inode : ℕ → Item → Bool
-is_inode ino i = (i.0.objectid == ino) && ((i.0.kind == 1) && (i.0.offset == 0))
+is_inode ino i = (i.0.objectid == ino) && ((i.0.kind == INODE_ITEM) && (i.0.offset == 0))
 
 -- the first one of these
 abbrev first_inode : List Item → ℕ → Option Item
@@ -37,7 +17,7 @@ first_inode (i ∷ items) ino = if is_inode ino i then Some i else first_inode i
 -- the item in a leaf
 record IsRead (items : List TreeItem) (ino : ℕ) (i : Item) : Type 0 where
   item : TreeItem
-  found : item_of items ino ≡ Some item
+  found : find_inode_item items ino ≡ Some item
   bare : bare_item item ≡ i
 
 same_item : (a b : Item) → (let o : Option Item = Some a in o) ≡ Some b → a ≡ b
@@ -51,10 +31,10 @@ read_of [] ino i is = absurd (none_item i is)
 read_of (t ∷ items) ino i is = by (is_inode ino (bare_item t)) refl (read_of items ino i) is
   where
     by : (b : Bool) → is_inode ino (bare_item t) ≡ b → (first_inode (map bare_item items) ino ≡ Some i → IsRead items ino i) → (if b then Some (bare_item t) else first_inode (map bare_item items) ino) ≡ Some i → IsRead (t ∷ items) ino i
-    by true test later here = record { item = t; found = ap (λ (c : Bool). if c then Some t else item_of items ino) test; bare = same_item (bare_item t) i here }
+    by true test later here = record { item = t; found = ap (λ (c : Bool). if c then Some t else find_inode_item items ino) test; bare = same_item (bare_item t) i here }
     by false test later there =
         let rest = later there in
-        record { item = rest.item; found = ap (λ (c : Bool). if c then Some t else item_of items ino) test ∙ rest.found; bare = rest.bare }
+        record { item = rest.item; found = ap (λ (c : Bool). if c then Some t else find_inode_item items ino) test ∙ rest.found; bare = rest.bare }
 
 skipped : (xs ys : List Item) (ino : ℕ) → AllByRecursion (λ i. is_inode ino i ≡ false) xs → first_inode (xs ++ ys) ino ≡ first_inode ys ino
 skipped [] ys ino all = refl
@@ -62,7 +42,7 @@ skipped (x ∷ xs) ys ino all = ap (λ (c : Bool). if c then Some x else first_i
 
 module _ (s : Source) where
   abbrev own : ObjectKey → Item
-  own key = inode_item (number_of s key) (inode_in s key)
+  own key = inode_item (ino_of s key) (inode_in s key)
 
   other_kind : (ino n k o : ℕ) → 12 ≤ k → ((n == ino) && ((k == 1) && (o == 0))) ≡ false
   other_kind ino n k o low = grind (arith, nat_tests)
@@ -74,26 +54,26 @@ module _ (s : Source) where
   own_test n = grind (arith, nat_tests)
 
   -- behind the objects before it an object's own inode is the first
-  inode_at : (ks : List ObjectKey) (key : ObjectKey) → ((k : ObjectKey) → AllByRecursion (IsOf (number_of s k) 12 108) (name_items s k ++ content_items s k (kind_in s k))) → Climb (number_of s) ks → Contains ks key
-      → first_inode (flat_map (object_items s) ks) (number_of s key) ≡ Some (own key)
+  inode_at : (ks : List ObjectKey) (key : ObjectKey) → ((k : ObjectKey) → AllByRecursion (IsOf (ino_of s k) INODE_REF EXTENT_DATA) (name_items s k ++ content_items s k (kind_in s k))) → Climb (ino_of s) ks → Contains ks key
+      → first_inode (flat_map (object_items s) ks) (ino_of s key) ≡ Some (own key)
   unfolding object_items
   inode_at [] key parts up h = absurd (omega (arith, h.1))
   inode_at (k ∷ ks) key parts up h =
       ⊎_elim
       (λ (same : k ≡ key).
-      subst (λ (x : ObjectKey). first_inode (flat_map (object_items s) (k ∷ ks)) (number_of s x) ≡ Some (own x)) same
-      (ap (λ (c : Bool). if c then Some (own k) else first_inode ((name_items s k ++ content_items s k (kind_in s k)) ++ flat_map (object_items s) ks) (number_of s k)) (own_test (number_of s k))))
+      subst (λ (x : ObjectKey). first_inode (flat_map (object_items s) (k ∷ ks)) (ino_of s x) ≡ Some (own x)) same
+      (ap (λ (c : Bool). if c then Some (own k) else first_inode ((name_items s k ++ content_items s k (kind_in s k)) ++ flat_map (object_items s) ks) (ino_of s k)) (own_test (ino_of s k))))
       (λ (later : Contains ks key).
-      skipped (object_items s k) (flat_map (object_items s) ks) (number_of s key) (
-        other_object (number_of s key) (number_of s k) (above ks up.0 key later),
-        all_each (IsOf (number_of s k) 12 108) (λ i. is_inode (number_of s key) i ≡ false) (name_items s k ++ content_items s k (kind_in s k)) (λ i of. other_kind (number_of s key) i.0.objectid i.0.kind i.0.offset of.low) (parts k),
+      skipped (object_items s k) (flat_map (object_items s) ks) (ino_of s key) (
+        other_object (ino_of s key) (ino_of s k) (above ks up.0 key later),
+        all_each (IsOf (ino_of s k) INODE_REF EXTENT_DATA) (λ i. is_inode (ino_of s key) i ≡ false) (name_items s k ++ content_items s k (kind_in s k)) (λ i of. other_kind (ino_of s key) i.0.objectid i.0.kind i.0.offset of.low) (parts k),
       )
       ∙ inode_at ks key parts up.1 later)
       (contains_cases key k ks h)
     where
-      above : (ys : List ObjectKey) → AllByRecursion (λ y. number_of s k < number_of s y) ys → (y : ObjectKey) → Contains ys y → number_of s k < number_of s y
+      above : (ys : List ObjectKey) → AllByRecursion (λ y. ino_of s k < ino_of s y) ys → (y : ObjectKey) → Contains ys y → ino_of s k < ino_of s y
       above [] all y h = absurd (omega (arith, h.1))
-      above (z ∷ zs) all y h = ⊎_elim (λ (same : z ≡ y). subst (λ (x : ObjectKey). number_of s k < number_of s x) same all.0) (λ (later : Contains zs y). above zs all.1 y later) (contains_cases y z zs h)
+      above (z ∷ zs) all y h = ⊎_elim (λ (same : z ≡ y). subst (λ (x : ObjectKey). ino_of s k < ino_of s x) same all.0) (λ (later : Contains zs y). above zs all.1 y later) (contains_cases y z zs h)
 
 in_order : (all : List ObjectKey) (key : ObjectKey) → Contains all key → Contains (by_inode all) key
 in_order all key h =
@@ -103,12 +83,12 @@ in_order all key h =
     (cases_Bool (same_key key root))
 
 pub inodes_are_there : InodesAreThere
-unfolding tree_items
+unfolding fs_tree_items
 inodes_are_there volume image o plan pieces items key has read named =
     let s : Source = made_from volume image o pieces in
     let sorted : AreSortedKeys image (keys volume.named) = record { accepted = has.accepted; are_keys = has.opened.are_keys; ascend = has.opened.ascends } in
     let at = numbered image (keys volume.named) sorted in
     let distinct = starts_none image has.found o plan has.plan_ pieces has.placed in
-    let first = ap (λ (is : List Item). first_inode is (number_of s key)) read ∙ inode_at s (by_inode s.keys) key (λ k. (rest_part s distinct k).each) (inodes_climb s.keys at.0 at.1) (in_order s.keys key named) in
-    let found = read_of items (number_of s key) (inode_item (number_of s key) (inode_in s key)) first in
+    let first = ap (λ (is : List Item). first_inode is (ino_of s key)) read ∙ inode_at s (by_inode s.keys) key (λ k. (rest_part s distinct k).each) (inodes_climb s.keys at.0 at.1) (in_order s.keys key named) in
+    let found = read_of items (ino_of s key) (inode_item (ino_of s key) (inode_in s key)) first in
     (found.item, found.found, found.bare)

@@ -1,16 +1,7 @@
 -- What the items of a list take in leaves.
-use Rattle.std.proofs.Common.{◌≡◌, ◌≤◌, ℕ, ◌+◌, ◌*◌, List, [], ◌∷◌, ◌++◌, length, map, sum_by, ap, ◌∙◌, arith}
-use Rattle.std.specs.Prelude.{All}
-use Rattle.std.proofs.lemmas.List.{map-append}
-use Rattle.std.proofs.lemmas.List.Elements.{All-head, All-tail}
-use Rattle.std.proofs.lemmas.List.Sums.{sum_by-append, sum_by-cons}
-use Rattle.btr_reader.specs.btr_node.Leaf.{Item}
-use Rattle.convert_steps.specs.btr_tree.Counting.{bytes_of}
-use Rattle.convert_steps.specs.btr_tree.Packing.{weight}
-use Rattle.convert_steps.specs.btr_tree.Roots.{lengths_of}
-use Rattle.convert_trees_laws.specs.Bounds.{bytes_in}
+use Rattle.convert_trees_laws.proofs.Imports.{◌≡◌, ◌≤◌, ℕ, ◌+◌, ◌*◌, List, [], ◌∷◌, ◌++◌, length, map, sum_by, ap, ◌∙◌, arith, All, map-append, All-head, All-tail, sum_by-append, sum_by-cons, ITEM_SIZE, Item, bytes_of, weight, lengths_of, bytes_in}
 
-pub bytes-cons : (i : Item) (items : List Item) → bytes_in (i ∷ items) ≡ 25 + length i.1 + bytes_in items
+pub bytes-cons : (i : Item) (items : List Item) → bytes_in (i ∷ items) ≡ ITEM_SIZE + length i.1 + bytes_in items
 bytes-cons i items = sum_by-cons weight (length i.1) (lengths_of items)
 
 pub bytes-append : (xs ys : List Item) → bytes_in (xs ++ ys) ≡ bytes_in xs + bytes_in ys
@@ -25,21 +16,21 @@ sum-same {A} n (x ∷ xs) =
     omega (arith, all, rest, more)
 
 -- an item for each element
-pub bytes-map : {A : Type 0} (f : A → Item) (w : A → ℕ) → ((x : A) → length (f x).1 ≤ w x) → (xs : List A) → bytes_in (map f xs) ≤ sum_by (λ x. 25 + w x) xs
+pub bytes-map : {A : Type 0} (f : A → Item) (w : A → ℕ) → ((x : A) → length (f x).1 ≤ w x) → (xs : List A) → bytes_in (map f xs) ≤ sum_by (λ x. ITEM_SIZE + w x) xs
 bytes-map f w each [] = omega arith
 bytes-map {A} f w each (x ∷ xs) =
     let here = each x in
     let rest = bytes-map f w each xs in
     let one = bytes-cons (f x) (map f xs) in
-    let all : sum_by (λ (y : A). 25 + w y) (x ∷ xs) ≡ 25 + w x + sum_by (λ (y : A). 25 + w y) xs = sum_by-cons (λ (y : A). 25 + w y) x xs in
+    let all : sum_by (λ (y : A). ITEM_SIZE + w y) (x ∷ xs) ≡ ITEM_SIZE + w x + sum_by (λ (y : A). ITEM_SIZE + w y) xs = sum_by-cons (λ (y : A). ITEM_SIZE + w y) x xs in
     omega (arith, here, rest, one, all)
 
 -- items of the same length at most
-pub bytes-short : (most : ℕ) (items : List Item) → All (λ i. length i.1 ≤ most) items → bytes_in items ≤ (25 + most) * length items
+pub bytes-short : (most : ℕ) (items : List Item) → All (λ i. length i.1 ≤ most) items → bytes_in items ≤ (ITEM_SIZE + most) * length items
 bytes-short most [] all = omega arith
 bytes-short most (i ∷ items) all =
     let one = bytes-cons i items in
     let here = All-head (λ (j : Item). length j.1 ≤ most) i items all in
     let rest = bytes-short most items (All-tail (λ (j : Item). length j.1 ≤ most) i items all) in
-    let more : (25 + most) * length (i ∷ items) ≡ 25 + most + (25 + most) * length items = grind arith in
+    let more : (ITEM_SIZE + most) * length (i ∷ items) ≡ ITEM_SIZE + most + (ITEM_SIZE + most) * length items = grind arith in
     omega (arith, one, here, rest, more)

@@ -1,47 +1,7 @@
 -- The keys of the file tree.
-use Rattle.std.proofs.Common.{◌≡◌, ◌≤◌, ◌<◌, ℕ, ◌+◌, ◌*◌, ◌==◌, ◌&&◌, not, Bool, true, false, cond, List, [], ◌∷◌, ◌++◌, append_assoc, length, map, filter, get_or, count_by, Option, Some, None, refl, sym, ap, subst, ⊎_elim, if◌then◌else◌, arith}
-use Rattle.std.specs.Prelude.{All, AllPairs, slice_get}
-use Rattle.std.specs.List.{AllByRecursion, IsDistinct, flat_map}
-use Rattle.std.specs.Option.{option_map_or}
-use Rattle.std.specs.Ordering.{is_lt}
-use Rattle.std.proofs.lemmas.Bool.{cases_lt}
-use Rattle.std.proofs.lemmas.Bool.Decides.{nat_tests}
-use Rattle.std.proofs.lemmas.List.{append-nil}
-use Rattle.std.proofs.lemmas.List.Sums.{sum_by_push}
+use Rattle.convert_trees_laws.proofs.Imports.{◌≡◌, ◌≤◌, ◌<◌, ℕ, ◌+◌, ◌*◌, ◌==◌, ◌&&◌, not, Bool, true, false, cond, List, [], ◌∷◌, ◌++◌, append_assoc, length, map, filter, get_or, count_by, Option, Some, None, refl, sym, ap, subst, ⊎_elim, if◌then◌else◌, arith, All, AllPairs, slice_get, AllByRecursion, IsDistinct, flat_map, option_map_or, is_lt, cases_lt, nat_tests, append-nil, sum_by_push, DIR_INDEX, DIR_ITEM, EXTENT_DATA, INODE_EXTREF, INODE_ITEM, INODE_REF, FIRST_FREE_OBJECTID, keys, extref_hash, Kind, Directory, File, Symlink, Character, Block, Fifo, Socket, Subvolume, extref_bytes, file_extent_bytes, inode_bytes, inode_ref_bytes, Item, extent_item, inline_extent, ascending, grouped, inode_item, rising_grouped, ascending_filter, ascending_sorted, target_bytes, ObjectKey, Naming, items_of, root, same_key, same_key-true, same_key-self, object_cmp, ino_of_key, AreNumbered, by_inode, Piece, AreSortedKeys, all_head, all_tail, pairs_head, pairs_tail, numbered, extents_at, file_block, is_owned_by, pieces_of, IndexedLink, Indexed, entries_behind, entry_behind, entry_to, extref, extrefs, indexed_in, inode_ref, inode_refs, names_in, names_of, next_index, parent_of, root_ref, saved_entry, Source, content_items, file_extent_items, inline_in, inode_in, kind_in, name_items, ino_of, object_items, size_in, fs_tree_items, name_items_root, name_items_other, made_from, FileKeysAscend}
 use Rattle.std.proofs.lemmas.Option.{slice_get-get_or}
-use Rattle.indexmap.specs.IndexMap.{keys}
-use Rattle.btr_reader.specs.castagnoli.Castagnoli.{extref_hash}
-use Rattle.btr_reader.specs.fs_rows.declared.row.Kind.{Kind}
-use Rattle.btr_reader.specs.fs_rows.declared.row.Kind.TheVariants.{Directory, File, Symlink, Character, Block, Fifo, Socket, Subvolume}
-use Rattle.btr_reader.specs.btr_keys.Extref.{extref_bytes}
-use Rattle.btr_reader.specs.btr_keys.FileExtent.{file_extent_bytes}
-use Rattle.btr_reader.specs.btr_keys.Inode.{inode_bytes}
-use Rattle.btr_reader.specs.btr_keys.InodeRef.{inode_ref_bytes}
-use Rattle.btr_reader.specs.btr_node.Leaf.{Item}
-use Rattle.convert_steps.specs.btr_item_list.Extents.{extent_item, inline_extent}
-use Rattle.convert_steps.specs.btr_item_list.Groups.{ascending, grouped}
-use Rattle.convert_steps.specs.btr_item_list.Inodes.{inode_item}
-use Rattle.convert_steps.proofs.btr_item_list.Grouping.{rising_grouped}
-use Rattle.convert_steps.proofs.btr_item_list.Sorting.{ascending_filter, ascending_sorted}
-use Rattle.convert_steps.specs.reiser_volume_files.Bytes.{target_bytes}
-use Rattle.convert_steps.specs.reiser_volume_objects.declared.key.ObjectKey.{ObjectKey}
-use Rattle.convert_steps.specs.reiser_volume_objects.declared.naming.Naming.{Naming}
-use Rattle.convert_steps.specs.reiser_volume_objects.Keys.{items_of, root, same_key}
-use Rattle.convert_steps.proofs.reiser_volume_objects.Tables.{same_key-true, same_key-self}
-use Rattle.convert_steps.specs.reiser_volume_names.Links.{object_cmp}
-use Rattle.convert_steps.specs.reiser_volume_names.Names.{inode_of}
-use Rattle.convert_steps.specs.reiser_volume.Numbers.{AreNumbered, by_inode}
 use Rattle.convert_steps.proofs.reiser_volume.Numbered.{inode_before, inode_behind, inode_of_root}
-use Rattle.convert_steps.specs.unit_plan.declared.piece.Piece.{Piece}
-use Rattle.convert_steps.specs.extent_pieces.Laws.{AreSortedKeys}
-use Rattle.convert_steps.proofs.extent_pieces.Lists.{all_head, all_tail, pairs_head, pairs_tail}
-use Rattle.convert_steps.proofs.extent_pieces.Named.{numbered}
-use Rattle.convert_steps.specs.file_items.Extents.{extents_at, file_block, is_owned_by, pieces_of}
-use Rattle.convert_steps.specs.file_items.Names.{Entry, Indexed, entries_behind, entry_behind, entry_to, extref, extrefs, indexed_in, inode_ref, inode_refs, names_in, names_of, next_index, parent_of, root_ref, saved_entry}
-use Rattle.convert_steps.specs.file_items.Tree.{Source, content_items, extent_items, inline_in, inode_in, kind_in, name_items, number_of, object_items, size_in, tree_items}
-use Rattle.convert_steps.proofs.file_items.Named.{name_items_root, name_items_other}
-use Rattle.convert_steps.specs.Source.{made_from}
-use Rattle.convert_trees_laws.specs.Keys.{FileKeysAscend}
 use Rattle.convert_trees_laws.proofs.Apart.{at_most_one}
 use Rattle.convert_trees_laws.proofs.FileBlocks.{same_start, starts, starts_none}
 use Rattle.convert_trees_laws.proofs.Rising.{Climb, IsOf, IsPart, Rise, all_each, all_true, climb_groups, climb_mapped, climb_once, climb_push, no_part, part_append, part_of_kind, part_one, rise_ascends, rise_objects}
@@ -72,16 +32,16 @@ not_false false is = refl
 not_false true is = absurd (cc)
 
 -- any other object is behind the root
-behind_root : (all : List ObjectKey) (key : ObjectKey) → same_key key root ≡ false → 257 ≤ inode_of all key
+behind_root : (all : List ObjectKey) (key : ObjectKey) → same_key key root ≡ false → 257 ≤ ino_of_key all key
 behind_root all key is =
     let told = ap (λ (b : Bool). if b then 256 else 257 + count_by (λ k. is_lt (object_cmp k key) && not (same_key k root)) all) is in
     omega (arith, told)
 
-pub root_first : (all : List ObjectKey) (key : ObjectKey) → same_key key root ≡ true → inode_of all key ≡ 256
+pub root_first : (all : List ObjectKey) (key : ObjectKey) → same_key key root ≡ true → ino_of_key all key ≡ 256
 root_first all key is = ap (λ (b : Bool). if b then 256 else 257 + count_by (λ k. is_lt (object_cmp k key) && not (same_key k root)) all) is
 
 module _ (all : List ObjectKey) (at : ℕ) (are : AreNumbered at all) where
-  inode_less : (i j : ℕ) (a b : ObjectKey) → i < j → slice_get all i ≡ Some a → slice_get all j ≡ Some b → same_key a root ≡ false → same_key b root ≡ false → inode_of all a < inode_of all b
+  inode_less : (i j : ℕ) (a b : ObjectKey) → i < j → slice_get all i ≡ Some a → slice_get all j ≡ Some b → same_key a root ≡ false → same_key b root ≡ false → ino_of_key all a < ino_of_key all b
   inode_less i j a b order at_a at_b other_a other_b =
       let low_a = behind_root all a other_a in
       let low_b = behind_root all b other_b in
@@ -99,11 +59,11 @@ module _ (all : List ObjectKey) (at : ℕ) (are : AreNumbered at all) where
       (cases_lt at i))
       (cases_lt j at)
 
-  pub inodes_climb : Climb (inode_of all) (by_inode all)
+  pub inodes_climb : Climb (ino_of_key all) (by_inode all)
   inodes_climb =
-      let first : inode_of all root ≡ 256 = root_first all root (same_key-self root) in (
-        kept_all (inode_of all) (λ key. not (same_key key root)) (inode_of all root) all (λ k d h is. let low = behind_root all (get_or all k d) (not_false (same_key (get_or all k d) root) is) in omega (arith, low, first)),
-        climb_kept (inode_of all) (λ key. not (same_key key root)) all
+      let first : ino_of_key all root ≡ 256 = root_first all root (same_key-self root) in (
+        kept_all (ino_of_key all) (λ key. not (same_key key root)) (ino_of_key all root) all (λ k d h is. let low = behind_root all (get_or all k d) (not_false (same_key (get_or all k d) root) is) in omega (arith, low, first)),
+        climb_kept (ino_of_key all) (λ key. not (same_key key root)) all
             (λ i j d order inside in_a in_b. inode_less i j (get_or all i d) (get_or all j d) order (slice_get-get_or all i d (omega (arith, order, inside))) (slice_get-get_or all j d inside)
             (not_false (same_key (get_or all i d) root) in_a) (not_false (same_key (get_or all j d) root) in_b)),
       )
@@ -111,8 +71,8 @@ module _ (all : List ObjectKey) (at : ℕ) (are : AreNumbered at all) where
 -- ---- indexes of entries
 
 -- the indexes rise between two numbers
-record IsBetween (lo hi : ℕ) (es : List Entry) : Type 0 where
-  climb : Climb (λ (e : Entry). e.index) es
+record IsBetween (lo hi : ℕ) (es : List IndexedLink) : Type 0 where
+  climb : Climb (λ (e : IndexedLink). e.index) es
   low : AllByRecursion (λ e. lo ≤ e.index) es
   high : AllByRecursion (λ e. e.index < hi) es
   order : lo ≤ hi
@@ -156,22 +116,22 @@ between dir before (n ∷ ls) =
 entries_climb : (kind : ObjectKey → Kind) (all : List ObjectKey) (links : List Naming) (dir : ObjectKey) → Climb (λ (e : Indexed). e.0) (indexed_in kind all links dir)
 entries_climb kind all links dir = by (same_key dir root)
   where
-    named : Entry → Indexed
-    named e = (e.index, entry_to (inode_of all e.link.target) (kind e.link.target) e.link.name)
+    named : IndexedLink → Indexed
+    named e = (e.index, entry_to (ino_of_key all e.link.target) (kind e.link.target) e.link.name)
 
-    low : (es : List Entry) → AllByRecursion (λ e. e.index < next_index links dir) es → AllByRecursion (λ (e : Indexed). e.0 < next_index links dir) (map (λ e. (e.index, entry_to (inode_of all e.link.target) (kind e.link.target) e.link.name)) es)
+    low : (es : List IndexedLink) → AllByRecursion (λ e. e.index < next_index links dir) es → AllByRecursion (λ (e : Indexed). e.0 < next_index links dir) (map (λ e. (e.index, entry_to (ino_of_key all e.link.target) (kind e.link.target) e.link.name)) es)
     low [] below = tt
     low (e ∷ es) below = (below.0, low es below.1)
 
-    by : (b : Bool) → Climb (λ (e : Indexed). e.0) (map (λ e. (e.index, entry_to (inode_of all e.link.target) (kind e.link.target) e.link.name)) (names_in links dir) ++ (if b then (next_index links dir, saved_entry) ∷ [] else []))
+    by : (b : Bool) → Climb (λ (e : Indexed). e.0) (map (λ e. (e.index, entry_to (ino_of_key all e.link.target) (kind e.link.target) e.link.name)) (names_in links dir) ++ (if b then (next_index links dir, saved_entry) ∷ [] else []))
     by true =
         let are = between dir [] links in
-        climb_push (λ (e : Indexed). e.0) (map (λ e. (e.index, entry_to (inode_of all e.link.target) (kind e.link.target) e.link.name)) (names_in links dir)) (next_index links dir, saved_entry)
-        (climb_mapped (λ (e : Indexed). e.0) (λ e. (e.index, entry_to (inode_of all e.link.target) (kind e.link.target) e.link.name)) (names_in links dir) are.climb) (low (names_in links dir) are.high)
+        climb_push (λ (e : Indexed). e.0) (map (λ e. (e.index, entry_to (ino_of_key all e.link.target) (kind e.link.target) e.link.name)) (names_in links dir)) (next_index links dir, saved_entry)
+        (climb_mapped (λ (e : Indexed). e.0) (λ e. (e.index, entry_to (ino_of_key all e.link.target) (kind e.link.target) e.link.name)) (names_in links dir) are.climb) (low (names_in links dir) are.high)
     by false =
         let are = between dir [] links in
-        subst (Climb (λ (e : Indexed). e.0)) (sym (append-nil (map (λ e. (e.index, entry_to (inode_of all e.link.target) (kind e.link.target) e.link.name)) (names_in links dir))))
-        (climb_mapped (λ (e : Indexed). e.0) (λ e. (e.index, entry_to (inode_of all e.link.target) (kind e.link.target) e.link.name)) (names_in links dir) are.climb)
+        subst (Climb (λ (e : Indexed). e.0)) (sym (append-nil (map (λ e. (e.index, entry_to (ino_of_key all e.link.target) (kind e.link.target) e.link.name)) (names_in links dir))))
+        (climb_mapped (λ (e : Indexed). e.0) (λ e. (e.index, entry_to (ino_of_key all e.link.target) (kind e.link.target) e.link.name)) (names_in links dir) are.climb)
 
 -- ---- extents
 
@@ -199,63 +159,63 @@ widened n a b c d items low high part = record {
 }
 
 module _ (s : Source) (distinct : IsDistinct starts s.pieces) (key : ObjectKey) where
-  refs_part : IsPart (number_of s key) 12 13 (inode_refs s.keys s.links key ++ extrefs s.keys s.links key)
+  refs_part : IsPart (ino_of s key) INODE_REF INODE_EXTREF (inode_refs s.keys s.links key ++ extrefs s.keys s.links key)
   refs_part =
-      let plain : List Entry = filter (λ e. not e.extended) (names_of s.links key) in
-      let far : List Entry = ascending (parent_of s.keys) (filter (λ e. e.extended) (names_of s.links key)) in
-      let hash : Entry → ℕ = λ e. extref_hash (parent_of s.keys e) e.link.name in
-      part_append (number_of s key) 12 12 13 13 (inode_refs s.keys s.links key) (extrefs s.keys s.links key) (omega arith) (omega arith) (omega arith)
-      (part_of_kind (number_of s key) 12 (λ (g : ℕ × List Entry). g.0) (λ (g : ℕ × List Entry). flat_map (λ (e : Entry). inode_ref_bytes (inode_ref e)) g.1) (grouped (parent_of s.keys) plain) (climb_groups (grouped (parent_of s.keys) plain) (rising_grouped (parent_of s.keys) plain)))
-      (part_of_kind (number_of s key) 13 (λ (g : ℕ × List Entry). g.0) (λ (g : ℕ × List Entry). flat_map (λ (e : Entry). extref_bytes (extref s.keys e)) g.1) (grouped hash far) (climb_groups (grouped hash far) (rising_grouped hash far)))
+      let plain : List IndexedLink = filter (λ e. not e.extended) (names_of s.links key) in
+      let far : List IndexedLink = ascending (parent_of s.keys) (filter (λ e. e.extended) (names_of s.links key)) in
+      let hash : IndexedLink → ℕ = λ e. extref_hash (parent_of s.keys e) e.link.name in
+      part_append (ino_of s key) INODE_REF INODE_REF INODE_EXTREF INODE_EXTREF (inode_refs s.keys s.links key) (extrefs s.keys s.links key) (omega arith) (omega arith) (omega arith)
+      (part_of_kind (ino_of s key) INODE_REF (λ (g : ℕ × List IndexedLink). g.0) (λ (g : ℕ × List IndexedLink). flat_map (λ (e : IndexedLink). inode_ref_bytes (inode_ref e)) g.1) (grouped (parent_of s.keys) plain) (climb_groups (grouped (parent_of s.keys) plain) (rising_grouped (parent_of s.keys) plain)))
+      (part_of_kind (ino_of s key) INODE_EXTREF (λ (g : ℕ × List IndexedLink). g.0) (λ (g : ℕ × List IndexedLink). flat_map (λ (e : IndexedLink). extref_bytes (extref s.keys e)) g.1) (grouped hash far) (climb_groups (grouped hash far) (rising_grouped hash far)))
 
-  pub names_part : IsPart (number_of s key) 12 13 (name_items s key)
+  pub names_part : IsPart (ino_of s key) INODE_REF INODE_EXTREF (name_items s key)
   names_part = by (same_key key root) refl
     where
-      by : (b : Bool) → same_key key root ≡ b → IsPart (number_of s key) 12 13 (name_items s key)
+      by : (b : Bool) → same_key key root ≡ b → IsPart (ino_of s key) INODE_REF INODE_EXTREF (name_items s key)
       by true is =
-          subst (IsPart (number_of s key) 12 13) (sym (name_items_root s key is))
-          (subst (λ (n : ℕ). IsPart n 12 13 (root_ref ∷ [])) (sym (root_first s.keys key is))
-          (widened 256 12 12 12 13 (root_ref ∷ []) (omega arith) (omega arith) (part_one 256 12 256 (inode_ref_bytes (record { index = 0; name = 46 ∷ 46 ∷ [] })))))
-      by false is = subst (IsPart (number_of s key) 12 13) (sym (name_items_other s key s.keys s.links is refl refl)) refs_part
+          subst (IsPart (ino_of s key) INODE_REF INODE_EXTREF) (sym (name_items_root s key is))
+          (subst (λ (n : ℕ). IsPart n INODE_REF INODE_EXTREF (root_ref ∷ [])) (sym (root_first s.keys key is))
+          (widened FIRST_FREE_OBJECTID INODE_REF INODE_REF INODE_REF INODE_EXTREF (root_ref ∷ []) (omega arith) (omega arith) (part_one FIRST_FREE_OBJECTID INODE_REF FIRST_FREE_OBJECTID (inode_ref_bytes (record { index = 0; name = 46 ∷ 46 ∷ [] })))))
+      by false is = subst (IsPart (ino_of s key) INODE_REF INODE_EXTREF) (sym (name_items_other s key s.keys s.links is refl refl)) refs_part
 
-  data_part : IsPart (number_of s key) 84 108 (extent_items s key)
-  unfolding extent_items
-  data_part = widened (number_of s key) 108 108 84 108 (extent_items s key) (omega arith) (omega arith) (by (inline_in s key))
+  data_part : IsPart (ino_of s key) DIR_ITEM EXTENT_DATA (file_extent_items s key)
+  unfolding file_extent_items
+  data_part = widened (ino_of s key) EXTENT_DATA EXTENT_DATA DIR_ITEM EXTENT_DATA (file_extent_items s key) (omega arith) (omega arith) (by (inline_in s key))
     where
-      by : (b : Bool) → IsPart (number_of s key) 108 108
-          (if b then extent_item (number_of s key) 0 (inline_extent (target_bytes (items_of key s.items) (size_in s key))) ∷ [] else extents_at (number_of s key) file_block (pieces_of s.pieces (number_of s key)))
-      by true = part_one (number_of s key) 108 (4096 * 0) (file_extent_bytes (inline_extent (target_bytes (items_of key s.items) (size_in s key))))
-      by false = extents_part (number_of s key) file_block (pieces_of s.pieces (number_of s key)) (blocks_once s.pieces (number_of s key) distinct)
+      by : (b : Bool) → IsPart (ino_of s key) EXTENT_DATA EXTENT_DATA
+          (if b then extent_item (ino_of s key) 0 (inline_extent (target_bytes (items_of key s.items) (size_in s key))) ∷ [] else extents_at (ino_of s key) file_block (pieces_of s.pieces (ino_of s key)))
+      by true = part_one (ino_of s key) EXTENT_DATA (4096 * 0) (file_extent_bytes (inline_extent (target_bytes (items_of key s.items) (size_in s key))))
+      by false = extents_part (ino_of s key) file_block (pieces_of s.pieces (ino_of s key)) (blocks_once s.pieces (ino_of s key) distinct)
 
-  content_part : (kind : Kind) → IsPart (number_of s key) 84 108 (content_items s key kind)
+  content_part : (kind : Kind) → IsPart (ino_of s key) DIR_ITEM EXTENT_DATA (content_items s key kind)
   content_part Directory =
-      widened (number_of s key) 84 96 84 108 (content_items s key Directory) (omega arith) (omega arith)
-      (entries_part (number_of s key) (indexed_in (kind_in s) s.keys s.links key) (entries_climb (kind_in s) s.keys s.links key))
+      widened (ino_of s key) DIR_ITEM DIR_INDEX DIR_ITEM EXTENT_DATA (content_items s key Directory) (omega arith) (omega arith)
+      (entries_part (ino_of s key) (indexed_in (kind_in s) s.keys s.links key) (entries_climb (kind_in s) s.keys s.links key))
   content_part File = data_part
   content_part Symlink = data_part
-  content_part Character = no_part (number_of s key) 84 108
-  content_part Block = no_part (number_of s key) 84 108
-  content_part Fifo = no_part (number_of s key) 84 108
-  content_part Socket = no_part (number_of s key) 84 108
-  content_part Subvolume = no_part (number_of s key) 84 108
+  content_part Character = no_part (ino_of s key) DIR_ITEM EXTENT_DATA
+  content_part Block = no_part (ino_of s key) DIR_ITEM EXTENT_DATA
+  content_part Fifo = no_part (ino_of s key) DIR_ITEM EXTENT_DATA
+  content_part Socket = no_part (ino_of s key) DIR_ITEM EXTENT_DATA
+  content_part Subvolume = no_part (ino_of s key) DIR_ITEM EXTENT_DATA
 
   -- what stands behind the item of the inode
-  pub rest_part : IsPart (number_of s key) 12 108 (name_items s key ++ content_items s key (kind_in s key))
-  rest_part = part_append (number_of s key) 12 13 84 108 (name_items s key) (content_items s key (kind_in s key)) (omega arith) (omega arith) (omega arith) names_part (content_part (kind_in s key))
+  pub rest_part : IsPart (ino_of s key) INODE_REF EXTENT_DATA (name_items s key ++ content_items s key (kind_in s key))
+  rest_part = part_append (ino_of s key) INODE_REF INODE_EXTREF DIR_ITEM EXTENT_DATA (name_items s key) (content_items s key (kind_in s key)) (omega arith) (omega arith) (omega arith) names_part (content_part (kind_in s key))
 
-  object_part : IsPart (number_of s key) 1 108 (object_items s key)
+  object_part : IsPart (ino_of s key) INODE_ITEM EXTENT_DATA (object_items s key)
   unfolding object_items
   object_part =
-      part_append (number_of s key) 1 1 12 108 (inode_item (number_of s key) (inode_in s key) ∷ []) (name_items s key ++ content_items s key (kind_in s key)) (omega arith) (omega arith) (omega arith)
-      (part_one (number_of s key) 1 0 (inode_bytes (inode_in s key))) rest_part
+      part_append (ino_of s key) INODE_ITEM INODE_ITEM INODE_REF EXTENT_DATA (inode_item (ino_of s key) (inode_in s key) ∷ []) (name_items s key ++ content_items s key (kind_in s key)) (omega arith) (omega arith) (omega arith)
+      (part_one (ino_of s key) INODE_ITEM 0 (inode_bytes (inode_in s key))) rest_part
 
-tree_rises : (s : Source) (at : ℕ) → AreNumbered at s.keys → IsDistinct starts s.pieces → Rise (tree_items s)
-unfolding tree_items
+tree_rises : (s : Source) (at : ℕ) → AreNumbered at s.keys → IsDistinct starts s.pieces → Rise (fs_tree_items s)
+unfolding fs_tree_items
 tree_rises s at are distinct =
-    rise_objects 1 108 (number_of s) (object_items s) (by_inode s.keys) (inodes_climb s.keys at are) (all_true (λ key. IsPart (number_of s key) 1 108 (object_items s key)) (by_inode s.keys) (object_part s distinct))
+    rise_objects INODE_ITEM EXTENT_DATA (ino_of s) (object_items s) (by_inode s.keys) (inodes_climb s.keys at are) (all_true (λ key. IsPart (ino_of s key) INODE_ITEM EXTENT_DATA (object_items s key)) (by_inode s.keys) (object_part s distinct))
 
 pub file_keys_ascend : FileKeysAscend
 file_keys_ascend volume image o plan pieces has =
     let sorted : AreSortedKeys image (keys volume.named) = record { accepted = has.accepted; are_keys = has.opened.are_keys; ascend = has.opened.ascends } in
     let at = numbered image (keys volume.named) sorted in
-    rise_ascends (tree_items (made_from volume image o pieces)) (tree_rises (made_from volume image o pieces) at.0 at.1 (starts_none image has.found o plan has.plan_ pieces has.placed))
+    rise_ascends (fs_tree_items (made_from volume image o pieces)) (tree_rises (made_from volume image o pieces) at.0 at.1 (starts_none image has.found o plan has.plan_ pieces has.placed))

@@ -1,42 +1,10 @@
 -- The objects and the links of an accepted volume that was opened.
-use Rattle.std.proofs.Common.{◌≡◌, ◌≢◌, ◌≤◌, ◌<◌, ℕ, suc, ◌/◌, ◌%◌, ◌^◌, true, false, List, [], ◌∷◌, length, count_by, AllPairs, Contains, Option, Some, None, refl, sym, ap, subst, ◌∙◌, ⊎_elim, true≢false, arith}
-use Rattle.std.proofs.lemmas.Bool.{cases_lt, ne_eqb}
+use Rattle.convert_trees_laws.proofs.Imports.{◌≡◌, ◌≢◌, ◌≤◌, ◌<◌, ℕ, suc, ◌/◌, ◌%◌, ◌^◌, true, false, List, [], ◌∷◌, length, count_by, Contains, Option, Some, None, refl, sym, ap, subst, ◌∙◌, ⊎_elim, true≢false, arith, cases_lt, ne_eqb, unwrap_or, keys, Image, from_filter, in_filter, is_directory, kind_of_code, NameList, Kind, Directory, File, Symlink, ReiserItem, ObjectKey, Naming, ObjectStat, stat_of_object, root, same_key, namings, IsDirectory, IsObject, AreNames, ino_of_key, saved_name, links_one, kind_by, no_stat, IsOpened, links_in, LeadsToObject, IsAccepted, volume_items, Volume, AreSortedKeys, numbered, inodes_apart, kind_there, stat_there, two_cases, Options, Piece, kind_of_mode as tree_kind, is_name as is_tree_name, made_from, Source, kind_in, size_in, stat_in}
+use Rattle.std.proofs.Common.{AllPairs}
+use Rattle.convert_steps.specs.reiser_volume_objects.Names.{is_followed}
 use Rattle.std.proofs.lemmas.List.Kept.{AllPairs-filter}
-use Rattle.std.specs.Prelude.{unwrap_or}
-use Rattle.indexmap.specs.IndexMap.{keys}
-use Rattle.btr_reader.specs.outside.History.{Image}
-use Rattle.btr_reader.proofs.fs_paths.Lists.{from_filter, in_filter}
-use Rattle.btr_reader.specs.fs_rows.Kinds.{is_directory, kind_of_code}
-use Rattle.btr_reader.specs.fs_rows.Rows.{NameList}
-use Rattle.btr_reader.specs.fs_rows.declared.row.Kind.{Kind}
-use Rattle.btr_reader.specs.fs_rows.declared.row.Kind.TheVariants.{Directory, File, Symlink}
-use Rattle.convert_steps.specs.reiser_walk.Items.{Item as ReiserItem}
-use Rattle.convert_steps.specs.reiser_volume_objects.declared.key.ObjectKey.{ObjectKey}
-use Rattle.convert_steps.specs.reiser_volume_objects.declared.naming.Naming.{Naming as Link}
-use Rattle.convert_steps.specs.reiser_volume_objects.declared.stat.ObjectStat.{ObjectStat}
-use Rattle.convert_steps.specs.reiser_volume_objects.Items.{stat_of_object}
-use Rattle.convert_steps.specs.reiser_volume_objects.Keys.{root, same_key}
 use Rattle.convert_steps.specs.reiser_volume_objects.Kinds.{kind_of_mode}
-use Rattle.convert_steps.specs.reiser_volume_objects.Names.{is_followed, namings}
-use Rattle.convert_steps.specs.reiser_volume_objects.Rules.{IsDirectory, IsObject}
-use Rattle.convert_steps.specs.reiser_volume_names.Names.{AreNames, inode_of, saved_name}
-use Rattle.convert_steps.proofs.reiser_volume_names.Uniqueness.{links_one}
-use Rattle.convert_steps.specs.reiser_volume.Made.{kind_by, no_stat}
-use Rattle.convert_steps.specs.reiser_volume.Opened.{IsOpened, links_in}
-use Rattle.convert_steps.specs.reiser_volume.Rows.{Leads}
-use Rattle.convert_steps.specs.reiser_volume.Volume.{IsAccepted, volume_items}
-use Rattle.convert_steps.specs.reiser_volume.declared.volume.Volume.{Volume}
 use Rattle.convert_steps.proofs.reiser_volume.Leading.{link_entry}
-use Rattle.convert_steps.specs.extent_pieces.Laws.{AreSortedKeys}
-use Rattle.convert_steps.proofs.extent_pieces.Named.{numbered}
-use Rattle.convert_steps.proofs.extent_pieces.Once.{inodes_apart, kind_there, stat_there}
-use Rattle.convert_steps.proofs.extent_pieces.Owning.{two_cases}
-use Rattle.convert_steps.specs.convert_options.declared.options.Options.{Options}
-use Rattle.convert_steps.specs.unit_plan.declared.piece.Piece.{Piece}
-use Rattle.btr_reader.specs.btr_reader_names.Inodes.{kind_of_mode as tree_kind}
-use Rattle.btr_reader.specs.btr_reader_names.Links.{is_name as is_tree_name}
-use Rattle.convert_steps.specs.Source.{made_from}
-use Rattle.convert_steps.specs.file_items.Tree.{Source, kind_in, size_in, stat_in}
 use Rattle.convert_trees_laws.proofs.Links.{entries_directory, tree_name}
 
 -- ---- modes
@@ -62,7 +30,7 @@ tree_kind_is mode kind is = let low = code_low (mode / 4096) kind is in ap kind_
 -- ---- links
 
 -- a link leads from a named directory to a named object
-pub record IsGood (volume : Volume) (image : Image) (n : Link) : Type 0 where
+pub record IsGood (volume : Volume) (image : Image) (n : Naming) : Type 0 where
   pub dir_known : Contains (keys volume.named) n.dir
   pub target_known : Contains (keys volume.named) n.target
   pub directory : IsDirectory (volume_items image) n.dir
@@ -77,7 +45,7 @@ module _ (volume : Volume) (image : Image) (accepted : IsAccepted image) (opened
   abbrev all : List ObjectKey
   all = keys volume.named
 
-  abbrev links : List Link
+  abbrev links : List Naming
   links = links_in volume
 
   names : AreNames items
@@ -90,17 +58,17 @@ module _ (volume : Volume) (image : Image) (accepted : IsAccepted image) (opened
   root_known = (opened.are_keys.exact root).1 (0, refl)
 
   -- each object has an inode of its own
-  pub one : (a b : ObjectKey) → Contains all a → Contains all b → inode_of all a ≡ inode_of all b → a ≡ b
+  pub one : (a b : ObjectKey) → Contains all a → Contains all b → ino_of_key all a ≡ ino_of_key all b → a ≡ b
   one a b in_a in_b same =
       let sorted : AreSortedKeys image all = record { accepted = accepted; are_keys = opened.are_keys; ascend = opened.ascends } in
       let at = numbered image all sorted in
-      ⊎_elim (λ is. is) (λ apart. ⊎_elim (λ first. absurd (first same)) (λ second. absurd (second (sym same))) apart) (two_cases (λ x y. inode_of all x ≢ inode_of all y) all a b (inodes_apart all at.0 at.1) in_a in_b)
+      ⊎_elim (λ is. is) (λ apart. ⊎_elim (λ first. absurd (first same)) (λ second. absurd (second (sym same))) apart) (two_cases (λ x y. ino_of_key all x ≢ ino_of_key all y) all a b (inodes_apart all at.0 at.1) in_a in_b)
 
-  pub good : (n : Link) → Contains links n → IsGood volume image n
+  pub good : (n : Naming) → Contains links n → IsGood volume image n
   good n h =
-      let among : Contains names.links n = subst (λ (ns : List Link). Contains ns n) (sym links_same) h in
+      let among : Contains names.links n = subst (λ (ns : List Naming). Contains ns n) (sym links_same) h in
       let e = link_entry items names.visible names.links names.are_links n among in
-      let visible = from_filter is_followed names.visible n (subst (λ (ns : List Link). Contains ns n) names.are_links.are_links among) in
+      let visible = from_filter is_followed names.visible n (subst (λ (ns : List Naming). Contains ns n) names.are_links.are_links among) in
       record {
         dir_known = (opened.are_keys.exact n.dir).1 e.2;
         target_known = (opened.are_keys.exact n.target).1 (suc e.2.0, (n, in_filter is_followed (namings items) n e.0 e.1, refl, e.2.1));
@@ -111,20 +79,20 @@ module _ (volume : Volume) (image : Image) (accepted : IsAccepted image) (opened
       }
 
   -- what a path leads to is known
-  pub path_known : (from key : ObjectKey) (path : NameList) → Contains all from → Leads links from path key → Contains all key
+  pub path_known : (from key : ObjectKey) (path : NameList) → Contains all from → LeadsToObject links from path key → Contains all key
   path_known from key [] among leads = subst (Contains all) leads among
   path_known from key (name ∷ path) among leads = path_known leads.0.target key path (good leads.0 leads.1).target_known leads.4
 
-  pub links_short : (n : Link) → Contains links n → length n.name ≤ 255
-  links_short n h = names.keeps.short n (subst (λ (ns : List Link). Contains ns n) (sym links_same) h)
+  pub links_short : (n : Naming) → Contains links n → length n.name ≤ 255
+  links_short n h = names.keeps.short n (subst (λ (ns : List Naming). Contains ns n) (sym links_same) h)
 
   pub names_apart : AllPairs (λ m n. m.dir ≡ n.dir → m.name ≢ n.name) links
   names_apart =
-      subst (AllPairs (λ (m n : Link). m.dir ≡ n.dir → m.name ≢ n.name)) (sym names.are_links.are_links ∙ links_same)
-      (AllPairs-filter (λ (m n : Link). m.dir ≡ n.dir → m.name ≢ n.name) is_followed names.visible names.keeps.once)
+      subst (AllPairs (λ (m n : Naming). m.dir ≡ n.dir → m.name ≢ n.name)) (sym names.are_links.are_links ∙ links_same)
+      (AllPairs-filter (λ (m n : Naming). m.dir ≡ n.dir → m.name ≢ n.name) is_followed names.visible names.keeps.once)
 
   pub directories_apart : AllPairs (λ m n. IsDirectory items n.target → m.target ≢ n.target) links
-  directories_apart = subst (AllPairs (λ (m n : Link). IsDirectory items n.target → m.target ≢ n.target)) links_same names.keeps.directories_once
+  directories_apart = subst (AllPairs (λ (m n : Naming). IsDirectory items n.target → m.target ≢ n.target)) links_same names.keeps.directories_once
 
   module _ (o : Options) (pieces : List Piece) where
     abbrev s : Source
@@ -165,5 +133,5 @@ module _ (volume : Volume) (image : Image) (accepted : IsAccepted image) (opened
     -- what is no directory has not too many names
     pub few_names : (key : ObjectKey) → Contains all key → is_directory (kind_in s key) ≡ false → count_by (λ n. same_key n.target key) links < 2 ^ 32
     few_names key h no_dir =
-        subst (λ (ns : List Link). count_by (λ n. same_key n.target key) ns < 2 ^ 32) links_same
+        subst (λ (ns : List Naming). count_by (λ n. same_key n.target key) ns < 2 ^ 32) links_same
         (names.keeps.counts key ((opened.are_keys.exact key).0 h) (λ is. true≢false (sym (ap is_directory (directory_there key is)) ∙ no_dir)))

@@ -10,6 +10,7 @@ pub mod FilesInline
 pub mod FilesObjects
 pub mod FilesSums
 mod Holding
+pub mod Imports
 pub mod Indexing
 pub mod InodeRead
 mod Inodes

@@ -1,14 +1,8 @@
 -- The links of a volume as the entries of its directories.
-use Rattle.std.proofs.Common.{◌≡◌, List, [], ◌∷◌, ◌++◌, map, Contains, refl, sym, ap, subst, ◌∙◌}
-use Rattle.btr_reader.proofs.fs_paths.Lists.{from_filter, from_map, in_filter, in_map}
-use Rattle.convert_steps.specs.reiser_volume_objects.declared.key.ObjectKey.{ObjectKey}
-use Rattle.convert_steps.specs.reiser_volume_objects.declared.naming.Naming.{Naming}
-use Rattle.convert_steps.specs.reiser_volume_objects.Keys.{same_key}
-use Rattle.convert_steps.proofs.reiser_volume_objects.Tables.{same_key-true, same_key-self}
-use Rattle.convert_steps.specs.file_items.Names.{Entry, entries, entries_behind, names_in}
+use Rattle.convert_trees_laws.proofs.Imports.{◌≡◌, List, [], ◌∷◌, ◌++◌, map, Contains, refl, sym, ap, subst, ◌∙◌, from_filter, from_map, in_filter, in_map, ObjectKey, Naming, same_key, same_key-true, same_key-self, IndexedLink, indexed_links, entries_behind, names_in}
 use Rattle.convert_trees_laws.proofs.Lists.{Apart, apart_kept, apart_unmap}
 
-abbrev pub link_of : Entry → Naming
+abbrev pub link_of : IndexedLink → Naming
 link_of e = e.link
 
 behind_links : (before ls : List Naming) → map link_of (entries_behind before ls) ≡ ls
@@ -20,19 +14,19 @@ pub record IsLink (links : List Naming) (dir : ObjectKey) (n : Naming) : Type 0 
   pub among : Contains links n
   pub dir_is : n.dir ≡ dir
 
-pub is_link : (links : List Naming) (dir : ObjectKey) (e : Entry) → Contains (names_in links dir) e → IsLink links dir e.link
+pub is_link : (links : List Naming) (dir : ObjectKey) (e : IndexedLink) → Contains (names_in links dir) e → IsLink links dir e.link
 is_link links dir e h =
-    let kept = from_filter (λ (f : Entry). same_key f.link.dir dir) (entries links) e h in
-    record { among = subst (λ (l : List Naming). Contains l e.link) (behind_links [] links) (in_map link_of (entries links) e kept.0); dir_is = same_key-true e.link.dir dir kept.1 }
+    let kept = from_filter (λ (f : IndexedLink). same_key f.link.dir dir) (indexed_links links) e h in
+    record { among = subst (λ (l : List Naming). Contains l e.link) (behind_links [] links) (in_map link_of (indexed_links links) e kept.0); dir_is = same_key-true e.link.dir dir kept.1 }
 
 -- and a link in it one of its entries
-pub link_is : (links : List Naming) (n : Naming) → Contains links n → (e : Entry) × Contains (names_in links n.dir) e × (e.link ≡ n)
+pub link_is : (links : List Naming) (n : Naming) → Contains links n → (e : IndexedLink) × Contains (names_in links n.dir) e × (e.link ≡ n)
 link_is links n h =
-    let found = from_map link_of (entries links) n (subst (λ (l : List Naming). Contains l n) (sym (behind_links [] links)) h) in
-    (found.0, in_filter (λ (f : Entry). same_key f.link.dir n.dir) (entries links) found.0 found.1 (ap (λ (m : Naming). same_key m.dir n.dir) found.2 ∙ same_key-self n.dir), found.2)
+    let found = from_map link_of (indexed_links links) n (subst (λ (l : List Naming). Contains l n) (sym (behind_links [] links)) h) in
+    (found.0, in_filter (λ (f : IndexedLink). same_key f.link.dir n.dir) (indexed_links links) found.0 found.1 (ap (λ (m : Naming). same_key m.dir n.dir) found.2 ∙ same_key-self n.dir), found.2)
 
 -- what holds of each two links holds of each two entries of a directory
-pub entries_apart : (R : Naming → Naming → Type 0) (links : List Naming) (dir : ObjectKey) → Apart R links → Apart (λ (e f : Entry). R e.link f.link) (names_in links dir)
+pub entries_apart : (R : Naming → Naming → Type 0) (links : List Naming) (dir : ObjectKey) → Apart R links → Apart (λ (e f : IndexedLink). R e.link f.link) (names_in links dir)
 entries_apart R links dir apart =
-    apart_kept (λ (e f : Entry). R e.link f.link) (λ (e : Entry). same_key e.link.dir dir) (entries links)
-    (apart_unmap R link_of (entries links) (subst (Apart R) (sym (behind_links [] links)) apart))
+    apart_kept (λ (e f : IndexedLink). R e.link f.link) (λ (e : IndexedLink). same_key e.link.dir dir) (indexed_links links)
+    (apart_unmap R link_of (indexed_links links) (subst (Apart R) (sym (behind_links [] links)) apart))

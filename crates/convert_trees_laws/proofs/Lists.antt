@@ -1,10 +1,7 @@
 -- Lists whose elements differ from one another, and lists that are made of others.
-use Rattle.std.proofs.Common.{◌≡◌, ℕ, zero, suc, ◌<◌, Bool, true, false, cond, List, [], ◌∷◌, ◌++◌, map, filter, flat_map, All, AllPairs, Contains, ⊎_elim, refl, sym, ap, subst, ◌∙◌, arith}
-use Rattle.std.specs.List.{AllByRecursion}
-use Rattle.std.proofs.lemmas.List.Elements.{Contains-append_left, Contains-append_right, filter-append}
-use Rattle.btr_reader.proofs.fs_paths.Lists.{at_head, in_tail, head_or_tail}
+use Rattle.convert_trees_laws.proofs.Imports.{◌≡◌, ℕ, zero, suc, ◌<◌, Bool, true, false, cond, List, [], ◌∷◌, ◌++◌, map, filter, Contains, ⊎_elim, refl, sym, ap, subst, ◌∙◌, arith, AllByRecursion, Contains-append_left, Contains-append_right, filter-append, at_head, in_tail, head_or_tail, AreIn}
+use Rattle.std.proofs.Common.{flat_map, All, AllPairs}
 use Rattle.convert_trees_laws.proofs.Rising.{Climb}
-use Rattle.btr_reader.specs.btr_reader_names.Rules.{AreIn}
 
 -- ---- what holds of each element
 

@@ -1,18 +1,8 @@
 -- A tree of items that take few bytes has few nodes.
-use Rattle.std.proofs.Common.{◌≡◌, ℕ, zero, suc, ◌+◌, ◌-◌, ◌*◌, ◌/◌, ◌^◌, ◌<◌, ◌≤◌, List, [], ◌∷◌, ◌++◌, length, ap, arith, ⊎_elim}
-use Rattle.std.specs.Int.{div_ceil}
-use Rattle.std.proofs.lemmas.Bool.{cases_lt}
-use Rattle.std.proofs.lemmas.Grind.{div_ceil_times}
-use Rattle.std.proofs.lemmas.List.{length_push}
-use Rattle.std.proofs.lemmas.List.Sums.{sum_by-cons, sum_by_push}
+use Rattle.convert_trees_laws.proofs.Imports.{◌≡◌, ℕ, zero, suc, ◌+◌, ◌-◌, ◌*◌, ◌/◌, ◌^◌, ◌<◌, ◌≤◌, List, [], ◌∷◌, ◌++◌, length, ap, arith, ⊎_elim, div-mul-le_self, div_ceil, cases_lt, div_ceil_times, length_push, sum_by-cons, sum_by_push, IsNodeSize, bytes_of, leaf_bound, node_bound, tree_nodes, capacity, fan_out, packed_leaves, packed_from, weight, bound_up}
 use Rattle.std.proofs.lemmas.Nat.{le-div, mul-le}
-use Rattle.std.proofs.Common.{div-mul-le_self}
-use Rattle.btr_reader.specs.btr_node.NodeSize.{IsNodeSize}
-use Rattle.convert_steps.specs.btr_tree.Counting.{bytes_of, leaf_bound, node_bound, tree_nodes}
-use Rattle.convert_steps.specs.btr_tree.Packing.{capacity, fan_out, leaves, packed_from, weight}
 use Rattle.convert_steps.proofs.btr_tree.Groups.{ends_in, packed-fits, packed-next, packed-none}
 use Rattle.convert_steps.proofs.btr_tree.Sizes.{all_few}
-use Rattle.convert_steps.proofs.space_items.OwnBound.{bound_up}
 
 one_off : (n room : ℕ) → 1 ≤ n → (n - 1) * room + room ≡ n * room
 one_off zero room h = absurd (omega arith)
@@ -48,9 +38,9 @@ roomy n size =
     ⊎_elim (λ (e : n ≡ 4096). omega arith) (λ rest. ⊎_elim (λ (e : n ≡ 8192). omega arith) (λ rest'. ⊎_elim (λ (e : n ≡ 16384). omega arith) (λ rest''. ⊎_elim (λ (e : n ≡ 32768). omega arith) (λ (e : n ≡ 65536). omega arith) rest'') rest') rest) size in
     record { room = room; wide = omega (arith, room) }
 
-few_leaves : (nodesize : ℕ) (lengths : List ℕ) → IsNodeSize nodesize → length (leaves nodesize lengths) ≤ leaf_bound (bytes_of lengths) nodesize
+few_leaves : (nodesize : ℕ) (lengths : List ℕ) → IsNodeSize nodesize → length (packed_leaves nodesize lengths) ≤ leaf_bound (bytes_of lengths) nodesize
 few_leaves nodesize lengths size =
-    let n : ℕ = length (leaves nodesize lengths) in
+    let n : ℕ = length (packed_leaves nodesize lengths) in
     let some : 1 ≤ n = some_groups (capacity nodesize) [] lengths in
     let few : (n - 1) * capacity nodesize ≤ 2 * bytes_of lengths = omega (arith, few_groups (capacity nodesize) [] lengths) in
     omega (arith, le-div (n - 1) (2 * bytes_of lengths) (capacity nodesize) (omega (arith, (roomy nodesize size).room)) few, some)
@@ -65,7 +55,7 @@ leaves_low nodesize bytes size small = below (2 * bytes / capacity nodesize) (ca
 -- what the tree takes is no more than the bound
 exactly_few : (nodesize : ℕ) (lengths : List ℕ) → IsNodeSize nodesize → bytes_of lengths < 2 ^ 60 → tree_nodes nodesize lengths ≤ node_bound (bytes_of lengths) nodesize
 exactly_few nodesize lengths size small =
-    let n : ℕ = length (leaves nodesize lengths) in
+    let n : ℕ = length (packed_leaves nodesize lengths) in
     let most : n ≤ leaf_bound (bytes_of lengths) nodesize = few_leaves nodesize lengths size in
     let low : leaf_bound (bytes_of lengths) nodesize ≤ 2 ^ 50 = leaves_low nodesize (bytes_of lengths) size small in
     let all : 120 * tree_nodes nodesize lengths ≤ 121 * n + 960 = all_few (fan_out nodesize) n (roomy nodesize size).wide (some_groups (capacity nodesize) [] lengths) (omega (arith, most, low)) in

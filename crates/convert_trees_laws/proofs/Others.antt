@@ -1,19 +1,7 @@
 -- The trees but the file tree take no more than was counted for them.
-use Rattle.std.proofs.Common.{◌≡◌, ◌≤◌, ◌<◌, ℕ, zero, suc, ◌^◌, ◌-◌, List, [], ◌∷◌, length, get_or, sym, ap, subst, arith, sum_by}
-use Rattle.std.specs.Prelude.{AllPairs}
-use Rattle.btr_reader.specs.outside.History.{Image}
-use Rattle.convert_steps.specs.Making.{IsMaking, Making, new_ids, saved_index}
-use Rattle.convert_steps.specs.Standing.{listed}
+use Rattle.convert_trees_laws.proofs.Imports.{◌≡◌, ◌≤◌, ◌<◌, ℕ, zero, suc, ◌^◌, ◌-◌, List, [], ◌∷◌, length, get_or, sym, ap, subst, arith, sum_by, AllPairs, CONV_IMAGE_SUBVOL, CSUM_TREE, DATA_RELOC_TREE, DEV_TREE, EXTENT_TREE, FS_TREE, Image, IsMaking, Making, new_ids, saved_index, rooted_trees, Pieces, free_runs, used_of, TreeRoot, chunk_bound, need, Counts, Piece, TreesAreCounted}
 use Rattle.convert_steps.specs.declared.trees.VolumeTrees.{VolumeTrees}
-use Rattle.convert_steps.specs.extent_pieces.declared.pieces.Pieces.{Pieces}
-use Rattle.convert_steps.specs.reiser_bitmap.Runs.{free_runs}
-use Rattle.convert_steps.specs.reiser_volume.Volume.{used_of}
-use Rattle.convert_steps.specs.space_items.declared.node.TreeRoot.{TreeRoot}
-use Rattle.convert_steps.specs.unit_plan.Needed.{chunk_bound, need}
-use Rattle.convert_steps.specs.unit_plan.declared.counts.Counts.{Counts}
-use Rattle.convert_steps.specs.unit_plan.declared.piece.Piece.{Piece}
 use Rattle.convert_steps.proofs.unit_plan.Counted.{chunks_few}
-use Rattle.convert_trees_laws.specs.Bounds.{TreesAreCounted}
 use Rattle.convert_trees_laws.proofs.Booting.{chunks_of}
 use Rattle.convert_trees_laws.proofs.ChunkBytes.{chunks_counted, device_counted, roots_counted}
 use Rattle.convert_trees_laws.proofs.PlacedSums.{placed_blocks, placed_number}
@@ -34,14 +22,14 @@ two a b list less rest = λ i j d before inside. by i j d before inside
 one : (a : TreeRoot) → AllPairs (λ r s. r.tree < s.tree) (a ∷ [])
 one a = λ i j d l h. absurd (omega (arith, l, h))
 
-trees_ascend : (r : VolumeTrees) → AllPairs (λ a b. a.tree < b.tree) (listed r)
+trees_ascend : (r : VolumeTrees) → AllPairs (λ a b. a.tree < b.tree) (rooted_trees r)
 trees_ascend r =
-    let a : TreeRoot = record { tree = 2; root = r.extents } in
-    let b : TreeRoot = record { tree = 4; root = r.device } in
-    let c : TreeRoot = record { tree = 5; root = r.files } in
-    let d : TreeRoot = record { tree = 7; root = r.sums } in
-    let e : TreeRoot = record { tree = 256; root = r.image } in
-    let f : TreeRoot = record { tree = 2 ^ 64 - 9; root = r.relocation } in
+    let a : TreeRoot = record { tree = EXTENT_TREE; root = r.extents } in
+    let b : TreeRoot = record { tree = DEV_TREE; root = r.device } in
+    let c : TreeRoot = record { tree = FS_TREE; root = r.files } in
+    let d : TreeRoot = record { tree = CSUM_TREE; root = r.sums } in
+    let e : TreeRoot = record { tree = CONV_IMAGE_SUBVOL; root = r.image } in
+    let f : TreeRoot = record { tree = DATA_RELOC_TREE; root = r.relocation } in
     let last : List TreeRoot = f ∷ [] in
     two a b (c ∷ (d ∷ (e ∷ last))) (omega arith) (two b c (d ∷ (e ∷ last)) (omega arith) (two c d (e ∷ last) (omega arith) (two d e last (omega arith) (two e f [] (omega arith) (one f)))))
 
@@ -85,5 +73,5 @@ trees_counted = λ image other m made are.
       sums = sums_counted m.options.datasum m.options.sums other m.pieces counts number (blocks_few image m made);
       device = device_counted (new_ids m) m.chunks (chunk_bound counts.runs counts.blocks) are chunks;
       chunk = chunks_counted (new_ids m) m.volume.sup.blocks m.chunks (chunk_bound counts.runs counts.blocks) are chunks;
-      root = λ r. roots_counted (listed r) (saved_index m) (new_ids m) m.now m.options.nodesize are (trees_ascend r) (omega arith);
+      root = λ r. roots_counted (rooted_trees r) (saved_index m) (new_ids m) m.now m.options.nodesize are (trees_ascend r) (omega arith);
     }

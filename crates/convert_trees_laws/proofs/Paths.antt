@@ -1,40 +1,12 @@
 -- The paths of a tree of the file tree's items are those of the volume.
-use Rattle.std.proofs.Common.{◌≡◌, ◌≢◌, ℕ, ◌==◌, ◌&&◌, not, Bool, false, List, [], ◌∷◌, ◌++◌, map, filter, Contains, refl, sym, ap, subst, ◌∙◌, true≢false}
-use Rattle.std.specs.List.{flat_map}
-use Rattle.std.proofs.lemmas.Bool.{ne_eqb}
-use Rattle.std.proofs.lemmas.List.{map-append}
-use Rattle.std.proofs.lemmas.List.Elements.{filter-append}
-use Rattle.indexmap.specs.IndexMap.{keys}
-use Rattle.btr_reader.specs.outside.History.{Image}
-use Rattle.btr_reader.proofs.fs_paths.Lists.{from_filter, from_map}
-use Rattle.btr_reader.specs.fs_rows.Rows.{NameList}
-use Rattle.btr_reader.specs.fs_rows.declared.row.Kind.{Kind}
-use Rattle.btr_reader.specs.fs_rows.declared.row.Kind.TheVariants.{Directory, File, Symlink, Character, Block, Fifo, Socket, Subvolume}
-use Rattle.btr_reader.specs.btr_keys.declared.key.Key.{Key}
-use Rattle.btr_reader.specs.btr_reader_names.Links.{is_followed, is_saved_name, namings, Names, Target, inode, tree, Leads as LeadsOn}
-use Rattle.btr_reader.specs.btr_reader_names.declared.naming.Naming.{Naming}
-use Rattle.btr_reader.specs.btr_reader_walk.Events.{TreeItem}
-use Rattle.convert_steps.specs.Source.{HasPieces, made_from}
-use Rattle.convert_steps.specs.file_items.Names.{Indexed, indexed, indexed_in, names_in, next_index, saved_entry}
-use Rattle.convert_steps.specs.file_items.Tree.{Source, kind_in, number_of}
-use Rattle.convert_trees_laws.specs.Entries.{EntriesAreThere, naming_by, namings_by, unplaced}
-use Rattle.convert_trees_laws.specs.Inodes.{InodesAreThere}
-use Rattle.convert_steps.specs.reiser_volume_objects.declared.key.ObjectKey.{ObjectKey}
-use Rattle.convert_steps.specs.reiser_volume_objects.declared.naming.Naming.{Naming as Link}
-use Rattle.convert_steps.specs.reiser_volume_objects.Keys.{root, same_key}
-use Rattle.convert_steps.specs.reiser_volume.Rows.{Leads}
-use Rattle.convert_steps.specs.reiser_volume.declared.volume.Volume.{Volume}
-use Rattle.convert_steps.specs.convert_options.declared.options.Options.{Options}
-use Rattle.convert_steps.specs.unit_plan.declared.piece.Piece.{Piece}
-use Rattle.convert_steps.specs.unit_plan.declared.plan.Plan.{Plan}
-use Rattle.convert_trees_laws.specs.Names.{NamesAreKept, ReadAs}
+use Rattle.convert_trees_laws.proofs.Imports.{◌≡◌, ◌≢◌, ℕ, ◌==◌, ◌&&◌, not, Bool, false, List, [], ◌∷◌, ◌++◌, map, filter, Contains, refl, sym, ap, subst, ◌∙◌, true≢false, flat_map, ne_eqb, map-append, filter-append, INODE_ITEM, ROOT_ITEM, FIRST_FREE_OBJECTID, keys, Image, from_filter, from_map, NameList, Kind, Directory, File, Symlink, Character, Block, Fifo, Socket, Subvolume, Key, is_followed, is_saved_name, dir_indexes, NamesTarget, Target, inode, tree, LeadsToTarget as LeadsOn, DirIndex, TreeItem, HasPieces, made_from, Indexed, indexed, indexed_in, names_in, next_index, saved_entry, Source, kind_in, ino_of, EntriesAreThere, naming_by, namings_by, unplaced, InodesAreThere, ObjectKey, Naming, root, same_key, LeadsToObject, Volume, Options, Piece, Plan, NamesAreKept, ReadAs}
 use Rattle.convert_trees_laws.proofs.Known.{directory_there, root_known}
 use Rattle.convert_trees_laws.proofs.Linking.{is_link}
 use Rattle.convert_trees_laws.proofs.Lists.{all_from, kept_flat_none, kept_map, kept_none}
 use Rattle.convert_trees_laws.proofs.Telling.{IsLinkOf, directory_in, good_link, inode_there, link_directory, link_followed, link_there, link_told, one_object}
 
 -- an entry is no part of the paths
-abbrev aside : Naming → Bool
+abbrev aside : DirIndex → Bool
 aside n = not (is_followed n)
 
 module _ (volume : Volume) (image : Image) (o : Options) (plan : Plan) (pieces : List Piece) (has : HasPieces volume image o plan pieces) where
@@ -48,36 +20,36 @@ module _ (volume : Volume) (image : Image) (o : Options) (plan : Plan) (pieces :
   root_there = root_known volume image has.accepted has.opened
 
   module _ (items : List TreeItem) (read : ReadAs s items) (inodes : InodesAreThere) (entries : EntriesAreThere) where
-    down : (from : ObjectKey) (path : NameList) (key : ObjectKey) → Contains all from → Leads s.links from path key → LeadsOn items (inode (number_of s from)) path (inode (number_of s key))
-    down from [] key among leads = ap (λ (k : ObjectKey). inode (number_of s k)) leads
+    down : (from : ObjectKey) (path : NameList) (key : ObjectKey) → Contains all from → LeadsToObject s.links from path key → LeadsOn items (inode (ino_of s from)) path (inode (ino_of s key))
+    down from [] key among leads = ap (λ (k : ObjectKey). inode (ino_of s k)) leads
     down from (name ∷ names) key among leads =
-        let l : Link = leads.0 in
+        let l : Naming = leads.0 in
         let n = link_there volume image o plan pieces has items read entries l leads.1 in
         let g = good_link volume image o plan pieces has l leads.1 in
         let directory : kind_in s from ≡ Directory = subst (λ (k : ObjectKey). kind_in s k ≡ Directory) leads.2 (link_directory volume image o plan pieces has l leads.1) in (
           n.0,
-          inode (number_of s l.target),
+          inode (ino_of s l.target),
           n.1,
-          n.2.dir ∙ ap (number_of s) leads.2,
+          n.2.dir ∙ ap (ino_of s) leads.2,
           directory_in s items from (inode_there volume image o plan pieces has items read inodes from among) directory,
           n.2.name ∙ leads.3,
-          (ap (λ (k : Key). k.kind == 1) n.2.location, ap (λ (k : Key). k.objectid) n.2.location),
+          (ap (λ (k : Key). k.kind == INODE_ITEM) n.2.location, ap (λ (k : Key). k.objectid) n.2.location),
           down l.target names key g.target_known leads.4,
         )
 
     abbrev Reaches : ObjectKey → NameList → Target → Type 0
-    Reaches from path to = (key : ObjectKey) × Contains all key × (to ≡ inode (number_of s key)) × Leads s.links from path key
+    Reaches from path to = (key : ObjectKey) × Contains all key × (to ≡ inode (ino_of s key)) × LeadsToObject s.links from path key
 
-    goes_on : (n : Naming) (l : Link) (next to : Target) (names : NameList) → IsLinkOf s n l → Names n next → LeadsOn items next names to → (LeadsOn items (inode (number_of s l.target)) names to → Reaches l.target names to) → Reaches l.target names to
+    goes_on : (n : DirIndex) (l : Naming) (next to : Target) (names : NameList) → IsLinkOf s n l → NamesTarget n next → LeadsOn items next names to → (LeadsOn items (inode (ino_of s l.target)) names to → Reaches l.target names to) → Reaches l.target names to
     goes_on n l (inode ino) to names is named leads later =
-        let same : ino ≡ number_of s l.target = sym named.1 ∙ ap (λ (k : Key). k.objectid) is.location in
+        let same : ino ≡ ino_of s l.target = sym named.1 ∙ ap (λ (k : Key). k.objectid) is.location in
         later (subst (λ (i : ℕ). LeadsOn items (inode i) names to) same leads)
-    goes_on n l (tree number) to names is named leads later = absurd (true≢false (sym named.0 ∙ ap (λ (k : Key). k.kind == 132) is.location))
+    goes_on n l (tree number) to names is named leads later = absurd (true≢false (sym named.0 ∙ ap (λ (k : Key). k.kind == ROOT_ITEM) is.location))
 
-    up : (from : ObjectKey) (path : NameList) (to : Target) → Contains all from → LeadsOn items (inode (number_of s from)) path to → Reaches from path to
+    up : (from : ObjectKey) (path : NameList) (to : Target) → Contains all from → LeadsOn items (inode (ino_of s from)) path to → Reaches from path to
     up from [] to among leads = (from, among, sym leads, refl)
     up from (name ∷ names) to among leads =
-        let n : Naming = leads.0 in
+        let n : DirIndex = leads.0 in
         let l = link_told volume image o plan pieces has items read entries n leads.2 in
         let g = good_link volume image o plan pieces has l.0 l.1 in
         let dir : l.0.dir ≡ from = one_object volume image o plan pieces has l.0.dir from g.dir_known among (sym l.2.dir ∙ leads.3) in
@@ -86,38 +58,38 @@ module _ (volume : Volume) (image : Image) (o : Options) (plan : Plan) (pieces :
 
     -- ---- the one entry aside
 
-    abbrev listed_by : ObjectKey → List Naming
+    abbrev listed_by : ObjectKey → List DirIndex
     listed_by key = namings_by s key (kind_in s key)
 
     abbrev named : ObjectKey → List Indexed
     named key = map (indexed (kind_in s) s.keys) (names_in s.links key)
 
-    not_aside : (key : ObjectKey) (n : Naming) → Contains (map (naming_by (number_of s key)) (named key)) n → aside n ≡ false
+    not_aside : (key : ObjectKey) (n : DirIndex) → Contains (map (naming_by (ino_of s key)) (named key)) n → aside n ≡ false
     not_aside key n h =
-        let m = from_map (naming_by (number_of s key)) (named key) n h in
+        let m = from_map (naming_by (ino_of s key)) (named key) n h in
         let e = from_map (indexed (kind_in s) s.keys) (names_in s.links key) m.0 m.1 in
         let l = is_link s.links key e.0 e.1 in
-        let is : naming_by (number_of s key) (indexed (kind_in s) s.keys e.0) ≡ n = ap (naming_by (number_of s key)) e.2 ∙ m.2 in
+        let is : naming_by (ino_of s key) (indexed (kind_in s) s.keys e.0) ≡ n = ap (naming_by (ino_of s key)) e.2 ∙ m.2 in
         ap not (link_followed volume image o plan pieces has items read n e.0.link l.among (record {
-          dir = sym (ap (λ (x : Naming). x.dir) is) ∙ ap (number_of s) (sym l.dir_is);
-          name = sym (ap (λ (x : Naming). x.name) is);
-          location = sym (ap (λ (x : Naming). x.location) is);
+          dir = sym (ap (λ (x : DirIndex). x.dir) is) ∙ ap (ino_of s) (sym l.dir_is);
+          name = sym (ap (λ (x : DirIndex). x.name) is);
+          location = sym (ap (λ (x : DirIndex). x.location) is);
         }))
 
     root_aside : filter aside (listed_by root) ≡ naming_by 256 (next_index s.links root, saved_entry) ∷ []
     root_aside =
-        let f : Indexed → Naming = naming_by (number_of s root) in
+        let f : Indexed → DirIndex = naming_by (ino_of s root) in
         let last : List Indexed = (next_index s.links root, saved_entry) ∷ [] in
         ap (λ (k : Kind). filter aside (namings_by s root k)) (directory_there volume image has.accepted has.opened o pieces root has.accepted.objects.root_directory)
         ∙ (ap (filter aside) (map-append f (named root) last)
         ∙ (filter-append aside (map f (named root)) (map f last)
-        ∙ ap (λ (l : List Naming). l ++ filter aside (map f last)) (kept_none aside (map f (named root)) (all_from (λ n. aside n ≡ false) (map f (named root)) (not_aside root)))))
+        ∙ ap (λ (l : List DirIndex). l ++ filter aside (map f last)) (kept_none aside (map f (named root)) (all_from (λ n. aside n ≡ false) (map f (named root)) (not_aside root)))))
 
     other_aside : (key : ObjectKey) (kind : Kind) → Contains all key → key ≢ root → filter aside (namings_by s key kind) ≡ []
     other_aside key Directory among other =
-        kept_none aside (map (naming_by (number_of s key)) (indexed_in (kind_in s) s.keys s.links key)) (all_from (λ n. aside n ≡ false) (map (naming_by (number_of s key)) (indexed_in (kind_in s) s.keys s.links key)) (λ n h.
-        let m = from_map (naming_by (number_of s key)) (indexed_in (kind_in s) s.keys s.links key) n h in
-        let apart : (n.dir == 256) ≡ false = ne_eqb n.dir 256 (λ is. other (one_object volume image o plan pieces has key root among root_there (ap (λ (x : Naming). x.dir) m.2 ∙ is))) in
+        kept_none aside (map (naming_by (ino_of s key)) (indexed_in (kind_in s) s.keys s.links key)) (all_from (λ n. aside n ≡ false) (map (naming_by (ino_of s key)) (indexed_in (kind_in s) s.keys s.links key)) (λ n h.
+        let m = from_map (naming_by (ino_of s key)) (indexed_in (kind_in s) s.keys s.links key) n h in
+        let apart : (n.dir == FIRST_FREE_OBJECTID) ≡ false = ne_eqb n.dir 256 (λ is. other (one_object volume image o plan pieces has key root among root_there (ap (λ (x : DirIndex). x.dir) m.2 ∙ is))) in
         ap (λ (b : Bool). not (not (b && is_saved_name n.name))) apart))
     other_aside key File among other = refl
     other_aside key Symlink among other = refl
@@ -134,13 +106,13 @@ module _ (volume : Volume) (image : Image) (o : Options) (plan : Plan) (pieces :
         let kept = from_filter (λ k. not (same_key k root)) all key h in
         other_aside key (kind_in s key) kept.0 (λ is. true≢false (sym kept.1 ∙ ap not (ap (λ (k : ObjectKey). same_key k root) is)))))
 
-    saved_alone : map unplaced (filter aside (namings items)) ≡ naming_by 256 (next_index s.links root, saved_entry) ∷ []
+    saved_alone : map unplaced (filter aside (dir_indexes items)) ≡ naming_by 256 (next_index s.links root, saved_entry) ∷ []
     saved_alone =
         let others : List ObjectKey = filter (λ key. not (same_key key root)) all in
-        sym (kept_map aside unplaced (namings items))
+        sym (kept_map aside unplaced (dir_indexes items))
         ∙ (ap (filter aside) (entries volume image o plan pieces items has read)
         ∙ (filter-append aside (listed_by root) (flat_map listed_by others)
-        ∙ (ap (λ (l : List Naming). l ++ filter aside (flat_map listed_by others)) root_aside ∙ ap (λ (l : List Naming). naming_by 256 (next_index s.links root, saved_entry) ∷ l) others_aside)))
+        ∙ (ap (λ (l : List DirIndex). l ++ filter aside (flat_map listed_by others)) root_aside ∙ ap (λ (l : List DirIndex). naming_by 256 (next_index s.links root, saved_entry) ∷ l) others_aside)))
 
 pub names_are_kept : InodesAreThere → EntriesAreThere → NamesAreKept
 names_are_kept inodes entries volume image o plan pieces items has read = record {

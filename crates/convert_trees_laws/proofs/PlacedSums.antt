@@ -1,9 +1,5 @@
 -- Sums over the pieces at their places.
-use Rattle.std.proofs.Common.{◌≡◌, ◌≤◌, ℕ, List, [], ◌∷◌, ◌++◌, length, take, drop, sum_by, refl, arith}
-use Rattle.std.proofs.lemmas.List.Sorted.{sum_by-IsPermutation}
-use Rattle.std.proofs.lemmas.List.Sums.{sum_by-append, sum_by-cons, sum_by-take-drop}
-use Rattle.convert_steps.specs.extent_pieces.Placed.{ArePlaced, at_place, at_places, blocks_of_units}
-use Rattle.convert_steps.specs.unit_plan.declared.piece.Piece.{Piece}
+use Rattle.convert_trees_laws.proofs.Imports.{◌≡◌, ◌≤◌, ℕ, List, [], ◌∷◌, ◌++◌, length, take, drop, sum_by, refl, arith, sum_by-IsPermutation, sum_by-append, sum_by-cons, sum_by-take-drop, WerePlaced, at_place, at_places, blocks_of_units, Piece}
 use Rattle.convert_trees_laws.proofs.ItemBytes.{sum-same}
 
 -- what goes by no place
@@ -18,7 +14,7 @@ module _ (f : Piece → ℕ) (same : (p : Piece) (b : ℕ) → f (at_place p b) 
       let rest = moved_few ps bs in
       omega (arith, one, other, here, rest)
 
-  pub placed_few : (kept : ℕ) (units : List ℕ) (old new : List Piece) → ArePlaced kept units old new → sum_by f new ≤ sum_by f old
+  pub placed_few : (kept : ℕ) (units : List ℕ) (old new : List Piece) → WerePlaced kept units old new → sum_by f new ≤ sum_by f old
   placed_few kept units old new are =
       let moved : List Piece = at_places (drop kept old) (blocks_of_units units) in
       let all = sum_by-IsPermutation f (take kept old ++ moved) new are.same in
@@ -28,12 +24,12 @@ module _ (f : Piece → ℕ) (same : (p : Piece) (b : ℕ) → f (at_place p b) 
       omega (arith, all, parts, few, whole)
 
 -- their number, and the number of their blocks
-pub placed_number : (kept : ℕ) (units : List ℕ) (old new : List Piece) → ArePlaced kept units old new → length new ≤ length old
+pub placed_number : (kept : ℕ) (units : List ℕ) (old new : List Piece) → WerePlaced kept units old new → length new ≤ length old
 placed_number kept units old new are =
     let few : sum_by (λ (p : Piece). 1) new ≤ sum_by (λ (p : Piece). 1) old = placed_few (λ p. 1) (λ p b. refl) kept units old new are in
     let one = sum-same {A = Piece} 1 new in
     let other = sum-same {A = Piece} 1 old in
     omega (arith, few, one, other)
 
-pub placed_blocks : (kept : ℕ) (units : List ℕ) (old new : List Piece) → ArePlaced kept units old new → sum_by (λ p. p.count) new ≤ sum_by (λ p. p.count) old
+pub placed_blocks : (kept : ℕ) (units : List ℕ) (old new : List Piece) → WerePlaced kept units old new → sum_by (λ p. p.count) new ≤ sum_by (λ p. p.count) old
 placed_blocks kept units old new are = placed_few (λ p. p.count) (λ p b. refl) kept units old new are

@@ -1,16 +1,8 @@
 -- Items whose keys rise.
-use Rattle.std.proofs.Common.{◌≡◌, ◌≤◌, ◌<◌, ℕ, ◌*◌, ◌==◌, Bool, true, false, cond, List, [], ◌∷◌, ◌++◌, length, map, filter, refl, sym, ap, ◌∙◌, arith}
-use Rattle.std.specs.List.{AllByRecursion, flat_map}
-use Rattle.std.specs.Ordering.{is_lt, nat_cmp, ordering_then}
+use Rattle.convert_trees_laws.proofs.Imports.{◌≡◌, ◌≤◌, ◌<◌, ℕ, ◌*◌, ◌==◌, Bool, true, false, cond, List, [], ◌∷◌, ◌++◌, length, map, filter, refl, sym, ap, ◌∙◌, arith, AllByRecursion, flat_map, is_lt, nat_cmp, ordering_then, and_from, lt-ltb, le-ltb, eq-eqb, nat_tests, make_key, Item, keys_of, Rising, Sorted}
 use Rattle.std.specs.declared.cmp.Ordering.{Ordering}
 use Rattle.std.specs.declared.cmp.Ordering.TheVariants.{Less, Equal}
-use Rattle.std.proofs.lemmas.Bool.{and_from, lt-ltb, le-ltb, eq-eqb}
-use Rattle.std.proofs.lemmas.Bool.Decides.{nat_tests}
-use Rattle.btr_reader.specs.btr_keys.Key.{make_key}
-use Rattle.btr_reader.specs.btr_node.Leaf.{Item, keys_of}
 use Rattle.btr_reader.specs.btr_node.Order.{Ascends, ascends, is_before}
-use Rattle.convert_steps.proofs.btr_item_list.Grouping.{Rising}
-use Rattle.convert_steps.proofs.btr_item_list.Sorting.{Sorted}
 
 abbrev pub Before : Item → Item → Type 0
 Before a b = is_before a.0 b.0 ≡ true

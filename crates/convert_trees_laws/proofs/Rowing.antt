@@ -1,38 +1,8 @@
 -- The rows of a volume are the rows of a tree of the file tree's items.
-use Rattle.std.proofs.Common.{◌≡◌, ◌<◌, ℕ, ◌+◌, ◌*◌, ◌/◌, ◌%◌, ◌^◌, Bool, true, false, not, ◌&&◌, List, [], Contains, Option, Some, if◌then◌else◌, refl, sym, ap, subst, ◌∙◌, true≢false, arith}
-use Rattle.std.specs.Prelude.{unwrap_or}
-use Rattle.indexmap.specs.IndexMap.{keys}
-use Rattle.btr_reader.specs.outside.History.{Image}
-use Rattle.btr_reader.specs.fs_rows.Kinds.{has_bytes, is_device, is_file, is_symlink}
-use Rattle.btr_reader.specs.fs_rows.Rows.{WholeRow}
-use Rattle.btr_reader.specs.fs_rows.declared.row.Kind.{Kind}
-use Rattle.btr_reader.specs.fs_rows.declared.row.Kind.TheVariants.{Directory, File, Symlink, Character, Block, Fifo, Socket, Subvolume}
-use Rattle.btr_reader.specs.btr_reader_contents.Extents.{file_bytes as bytes_on}
-use Rattle.btr_reader.specs.btr_keys.declared.inode.Inode.{Inode}
-use Rattle.btr_reader.specs.btr_reader_names.Links.{inode}
+use Rattle.convert_trees_laws.proofs.Imports.{◌≡◌, ◌<◌, ℕ, ◌+◌, ◌*◌, ◌/◌, ◌%◌, ◌^◌, Bool, true, false, not, ◌&&◌, List, [], Contains, Option, Some, if◌then◌else◌, refl, sym, ap, subst, ◌∙◌, true≢false, arith, unwrap_or, keys, Image, has_bytes, is_device, is_file, is_symlink, WholeRow, Kind, Directory, File, Symlink, Character, Block, Fifo, Socket, Subvolume, Inode, inode, TreeItem, HasPieces, made_from, device_number, inode_from, Source, nbytes_by, inode_in, kind_in, link_count, ino_of, size_by, size_in, stat_in, file_bytes, links_one, ObjectKey, Naming, ObjectStat, stat_of_object, root, items_of, kind_by, no_stat, links_in, AreReiserRows, HasStat, IsRow, LeadsToObject, flag, major_of, minor_of, superblock, volume_items, Volume, Options, Piece, Plan, HasSamePaths, NamesAreKept, ReadAs, HasBytes, InodesAreRead, KeepsBytes, RowsAreKept}
+use Rattle.btr_reader.specs.btr_reader_contents.Extents.{bytes_of_inode as bytes_on}
 use Rattle.btr_reader.specs.Rows.{AreRows, HasInode, IsInodeRow, has_flag}
-use Rattle.btr_reader.specs.btr_reader_walk.Events.{TreeItem}
 use Rattle.btr_reader.specs.btr_reader_walk.declared.map.MapRange.{MapRange}
-use Rattle.convert_steps.specs.Source.{HasPieces, made_from}
-use Rattle.convert_steps.specs.file_items.Inodes.{device_number, inode_from}
-use Rattle.convert_steps.specs.file_items.Tree.{Source, bytes_by, inode_in, kind_in, link_count, number_of, size_by, size_in, stat_in}
-use Rattle.convert_steps.specs.reiser_volume_files.Bytes.{file_bytes}
-use Rattle.convert_steps.proofs.reiser_volume_names.Uniqueness.{links_one}
-use Rattle.convert_steps.specs.reiser_volume_objects.declared.key.ObjectKey.{ObjectKey}
-use Rattle.convert_steps.specs.reiser_volume_objects.declared.naming.Naming.{Naming as Link}
-use Rattle.convert_steps.specs.reiser_volume_objects.declared.stat.ObjectStat.{ObjectStat}
-use Rattle.convert_steps.specs.reiser_volume_objects.Items.{stat_of_object}
-use Rattle.convert_steps.specs.reiser_volume_objects.Keys.{root, items_of}
-use Rattle.convert_steps.specs.reiser_volume.Made.{kind_by, no_stat}
-use Rattle.convert_steps.specs.reiser_volume.Opened.{links_in}
-use Rattle.convert_steps.specs.reiser_volume.Rows.{AreReiserRows, HasStat, IsRow, Leads, flag, major_of, minor_of}
-use Rattle.convert_steps.specs.reiser_volume.Volume.{superblock, volume_items}
-use Rattle.convert_steps.specs.reiser_volume.declared.volume.Volume.{Volume}
-use Rattle.convert_steps.specs.convert_options.declared.options.Options.{Options}
-use Rattle.convert_steps.specs.unit_plan.declared.piece.Piece.{Piece}
-use Rattle.convert_steps.specs.unit_plan.declared.plan.Plan.{Plan}
-use Rattle.convert_trees_laws.specs.Names.{HasSamePaths, NamesAreKept, ReadAs}
-use Rattle.convert_trees_laws.specs.Rows.{HasBytes, InodesAreRead, KeepsBytes, RowsAreKept}
 use Rattle.convert_trees_laws.proofs.Fields.{bit_eight, bit_five, bit_nine, bit_seven, bit_six}
 use Rattle.convert_trees_laws.proofs.Known.{path_known, root_known, tree_kind_is}
 use Rattle.convert_trees_laws.proofs.Stats.{FitsStat, stat_fits}
@@ -82,7 +52,7 @@ fields_kept datasum flags stat kind size nbytes nlink row f same r =
       minor = r.minor ∙ (ap (λ (k : Kind). if is_device k then minor_of stat.fields.rdev else 0) (sym same) ∙ (sym device.1 ∙ ap (λ (k : Kind). if is_device k then own.rdev % 2 ^ 20 else 0) same));
     }
 
-inode_is : (s : Source) (key : ObjectKey) → inode_in s key ≡ inode_from s.datasum s.flags (stat_in s key) (kind_in s key) (size_by s key (kind_in s key)) (bytes_by s key) (link_count s key)
+inode_is : (s : Source) (key : ObjectKey) → inode_in s key ≡ inode_from s.datasum s.flags (stat_in s key) (kind_in s key) (size_by s key (kind_in s key)) (nbytes_by s key) (link_count s key)
 unfolding inode_in
 inode_is s key = refl
 
@@ -108,7 +78,7 @@ module _ (volume : Volume) (image other : Image) (o : Options) (plan : Plan) (pi
   all = keys volume.named
 
   -- the row of a path of the volume
-  row_kept : (key : ObjectKey) (row : WholeRow) → Contains all key → IsRow image s.flags s.items s.links rows key row → IsInodeRow other ranges items rows (number_of s key) row
+  row_kept : (key : ObjectKey) (row : WholeRow) → Contains all key → IsRow image s.flags s.items s.links rows key row → IsInodeRow other ranges items rows (ino_of s key) row
   row_kept key row among r =
       let at : stat_in s key ≡ r.stat = ap (λ (x : Option ObjectStat). unwrap_or x no_stat) r.has_stat in
       let kind : kind_in s key ≡ row.kind = ap kind_by at ∙ ap (λ (x : Option Kind). unwrap_or x File) r.fields.kind in
@@ -119,13 +89,13 @@ module _ (volume : Volume) (image other : Image) (o : Options) (plan : Plan) (pi
         leads = paths.kept row.path key r.leads;
         own = inode_in s key;
         has = inodes volume image o plan pieces items key has read bytes among;
-        fields = subst (λ (i : Inode). HasInode i row) (sym (inode_is s key)) (fields_kept s.datasum s.flags (stat_in s key) (kind_in s key) (size_by s key (kind_in s key)) (bytes_by s key) (link_count s key) row fits kind fields);
+        fields = subst (λ (i : Inode). HasInode i row) (sym (inode_is s key)) (fields_kept s.datasum s.flags (stat_in s key) (kind_in s key) (size_by s key (kind_in s key)) (nbytes_by s key) (link_count s key) row fits kind fields);
         least = record {
           leads = paths.kept row.least key r.least.leads;
           least = λ path leads.
-              let back = paths.only path (inode (number_of s key)) leads in
+              let back = paths.only path (inode (ino_of s key)) leads in
               let same : back.0 ≡ key = paths.apart back.0 key back.1 among (sym (same_number back.2)) in
-              r.least.least path (subst (Leads s.links root path) same back.3);
+              r.least.least path (subst (LeadsToObject s.links root path) same back.3);
         };
         names = r.names;
         bytes = r.bytes ∙ content (has_bytes row.kind) refl at kind;
@@ -135,12 +105,12 @@ module _ (volume : Volume) (image other : Image) (o : Options) (plan : Plan) (pi
       same_number is = cc
 
       content : (b : Bool) → has_bytes row.kind ≡ b → stat_in s key ≡ r.stat → kind_in s key ≡ row.kind
-          → (if b then file_bytes image (items_of key s.items) r.stat.fields.size else []) ≡ (if b then bytes_on other ranges items (number_of s key) (inode_in s key).size else [])
+          → (if b then file_bytes image (items_of key s.items) r.stat.fields.size else []) ≡ (if b then bytes_on other ranges items (ino_of s key) (inode_in s key).size else [])
       content false none at kind = refl
       content true some at kind =
           let there : has_bytes (kind_in s key) ≡ true = ap has_bytes kind ∙ some in
           let size : (inode_in s key).size ≡ size_in s key = ap (λ (i : Inode). i.size) (inode_is s key) ∙ size_is s key (kind_in s key) there in
-          ap (λ (x : ObjectStat). file_bytes image (items_of key s.items) x.fields.size) (sym at) ∙ (sym (held key among there) ∙ ap (bytes_on other ranges items (number_of s key)) (sym size))
+          ap (λ (x : ObjectStat). file_bytes image (items_of key s.items) x.fields.size) (sym at) ∙ (sym (held key among there) ∙ ap (bytes_on other ranges items (ino_of s key)) (sym size))
 
   links_are : (r : AreReiserRows image (superblock image).flags (volume_items image) rows) → r.links ≡ s.links
   links_are r = links_one (volume_items image) r.visible r.links has.opened.visible (links_in volume) r.are_links has.opened.are_links
@@ -151,11 +121,11 @@ module _ (volume : Volume) (image other : Image) (o : Options) (plan : Plan) (pi
     each = λ row h.
         let of = r.each row h in
         let flags : (superblock image).flags ≡ s.flags = ap (λ x. x.flags) (sym has.opened.sup) in
-        let is : IsRow image s.flags s.items s.links rows of.0 row = subst (λ (ls : List Link). IsRow image s.flags s.items ls rows of.0 row) (links_are r) (subst (λ (f : ℕ). IsRow image f s.items r.links rows of.0 row) flags of.1) in
-        (inode (number_of s of.0), row_kept of.0 row (known of.0 row is) is);
+        let is : IsRow image s.flags s.items s.links rows of.0 row = subst (λ (ls : List Naming). IsRow image s.flags s.items ls rows of.0 row) (links_are r) (subst (λ (f : ℕ). IsRow image f s.items r.links rows of.0 row) flags of.1) in
+        (inode (ino_of s of.0), row_kept of.0 row (known of.0 row is) is);
     whole = λ path to leads.
         let back = paths.only path to leads in
-        r.whole path back.0 (subst (λ (ls : List Link). Leads ls root path back.0) (sym (links_are r)) back.3);
+        r.whole path back.0 (subst (λ (ls : List Naming). LeadsToObject ls root path back.0) (sym (links_are r)) back.3);
   }
     where
       known : (key : ObjectKey) (row : WholeRow) → IsRow image s.flags s.items s.links rows key row → Contains all key

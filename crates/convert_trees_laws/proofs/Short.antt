@@ -1,37 +1,7 @@
 -- The items of file trees are short.
-use Rattle.std.proofs.Common.{◌≡◌, ◌≤◌, ℕ, ◌+◌, ◌==◌, ◌&&◌, not, nat_lt, Bool, true, false, cond, List, [], ◌∷◌, ◌++◌, length, length-append, map, filter, take, sum_by, refl, sym, ap, subst, ◌∙◌, if◌then◌else◌, arith}
+use Rattle.convert_trees_laws.proofs.Imports.{◌≡◌, ◌≤◌, ℕ, ◌+◌, ◌==◌, ◌&&◌, not, nat_lt, Bool, true, false, cond, List, [], ◌∷◌, ◌++◌, length, length-append, map, filter, take, sum_by, refl, sym, ap, subst, ◌∙◌, if◌then◌else◌, arith, AllByRecursion, flat_map, nat_tests, length-take, sum_by-append, sum_by-cons, DIR_INDEX, DIR_ITEM, INODE_EXTREF, INODE_REF, name_hash, extref_hash, contains_head, contains_tail, Kind, DirEntryValue, dir_entry_bytes, dir_entry_head, ExtrefValue, extref_bytes, extref_head, disk_range_layout, file_extent_bytes, file_extent_head, inode_bytes, inode_layout, InodeRefValue, inode_ref_bytes, inode_ref_head, key_layout, make_key, stamp_layout, Inode, extent_item, inline_extent, regular_extent, ascending, grouped, of_number, inode_item, Above, Rising, of_number_grouped, other, rising_grouped, same_test, ascending_sum, ObjectKey, Naming, root, same_key, same_key-true, same_key-self, crowd_of, extended, extended_crowd_of, ino_of_key, reference_size, saved_name, flips, Piece, extents_at, IndexedLink, Indexed, entries_behind, entry_behind, entry_items, entry_to, extref, extrefs, indexed_in, inode_ref, inode_refs, names_in, names_of, next_index, parent_of, saved_entry, IsShort}
 use Rattle.std.specs.Prelude.{Contains}
-use Rattle.std.specs.List.{AllByRecursion, flat_map}
-use Rattle.std.proofs.lemmas.Bool.Decides.{nat_tests}
-use Rattle.std.proofs.lemmas.List.{length-take}
-use Rattle.std.proofs.lemmas.List.Sums.{sum_by-append, sum_by-cons}
-use Rattle.btr_reader.specs.castagnoli.Castagnoli.{name_hash, extref_hash}
-use Rattle.convert_steps.proofs.reiser_bitmap.Ranges.{contains_head, contains_tail}
-use Rattle.btr_reader.specs.fs_rows.declared.row.Kind.{Kind}
-use Rattle.btr_reader.specs.btr_keys.DirEntry.{DirEntryValue, dir_entry_bytes, dir_entry_head}
-use Rattle.btr_reader.specs.btr_keys.Extref.{ExtrefValue, extref_bytes, extref_head}
-use Rattle.btr_reader.specs.btr_keys.FileExtent.{disk_range_layout, file_extent_bytes, file_extent_head}
-use Rattle.btr_reader.specs.btr_keys.Inode.{inode_bytes, inode_layout}
-use Rattle.btr_reader.specs.btr_keys.InodeRef.{InodeRefValue, inode_ref_bytes, inode_ref_head}
-use Rattle.btr_reader.specs.btr_keys.Key.{key_layout, make_key}
-use Rattle.btr_reader.specs.btr_keys.Stamp.{stamp_layout}
-use Rattle.btr_reader.specs.btr_keys.declared.inode.Inode.{Inode}
-use Rattle.convert_steps.specs.btr_item_list.Extents.{extent_item, inline_extent, regular_extent}
-use Rattle.convert_steps.specs.btr_item_list.Groups.{ascending, grouped, of_number}
-use Rattle.convert_steps.specs.btr_item_list.Inodes.{inode_item}
-use Rattle.convert_steps.proofs.btr_item_list.Grouping.{Above, Rising, of_number_grouped, other, rising_grouped, same_test}
-use Rattle.convert_steps.proofs.btr_item_list.Sorting.{ascending_sum}
-use Rattle.convert_steps.specs.reiser_volume_objects.declared.key.ObjectKey.{ObjectKey}
-use Rattle.convert_steps.specs.reiser_volume_objects.declared.naming.Naming.{Naming}
-use Rattle.convert_steps.specs.reiser_volume_objects.Keys.{root, same_key}
-use Rattle.convert_steps.proofs.reiser_volume_objects.Tables.{same_key-true, same_key-self}
-use Rattle.convert_steps.specs.reiser_volume_names.Names.{crowd_of, extended, extended_crowd_of, inode_of, reference_size, saved_name}
 use Rattle.convert_steps.proofs.reiser_volume_names.Sums.{weight_push}
-use Rattle.convert_steps.proofs.reiser_volume_names.Uniqueness.{flips}
-use Rattle.convert_steps.specs.unit_plan.declared.piece.Piece.{Piece}
-use Rattle.convert_steps.specs.file_items.Extents.{extents_at}
-use Rattle.convert_steps.specs.file_items.Names.{Entry, Indexed, entries_behind, entry_behind, entry_items, entry_to, extref, extrefs, indexed_in, inode_ref, inode_refs, names_in, names_of, next_index, parent_of, saved_entry}
-use Rattle.convert_trees_laws.specs.Keys.{IsShort}
 use Rattle.convert_trees_laws.proofs.Rising.{all_append, all_each, all_mapped, all_true}
 
 -- ---- lengths of bodies
@@ -106,11 +76,11 @@ sum_mapped f w (x ∷ xs) =
     omega (arith, later, first, second)
 
 -- a sum over entries that asks for their links alone
-pub sum_links : (w : Naming → ℕ) (before ls : List Naming) → sum_by (λ (e : Entry). w e.link) (entries_behind before ls) ≡ sum_by w ls
+pub sum_links : (w : Naming → ℕ) (before ls : List Naming) → sum_by (λ (e : IndexedLink). w e.link) (entries_behind before ls) ≡ sum_by w ls
 sum_links w before [] = refl
 sum_links w before (n ∷ ls) =
     let later = sum_links w (before ++ n ∷ []) ls in
-    let first = sum_by-cons (λ (e : Entry). w e.link) (entry_behind before n) (entries_behind (before ++ n ∷ []) ls) in
+    let first = sum_by-cons (λ (e : IndexedLink). w e.link) (entry_behind before n) (entries_behind (before ++ n ∷ []) ls) in
     let second = sum_by-cons w n ls in
     omega (arith, later, first, second)
 
@@ -145,8 +115,8 @@ groups_short {A} n kind number bytes w xs each few =
 
 -- ---- references
 
-module _ (all : List ObjectKey) (one : (a b : ObjectKey) → Contains all a → Contains all b → inode_of all a ≡ inode_of all b → a ≡ b) (key : ObjectKey) (m : ℕ) where
-  abbrev plain_weight : Entry → ℕ
+module _ (all : List ObjectKey) (one : (a b : ObjectKey) → Contains all a → Contains all b → ino_of_key all a ≡ ino_of_key all b → a ≡ b) (key : ObjectKey) (m : ℕ) where
+  abbrev plain_weight : IndexedLink → ℕ
   plain_weight e = cond (same_key e.link.target key) (cond (not e.extended) (cond (parent_of all e == m) (10 + length e.link.name) 0) 0) 0
 
   grows : (before : List Naming) (n : Naming) (dir : ObjectKey) → reference_size before dir key ≤ reference_size (before ++ n ∷ []) dir key
@@ -165,22 +135,22 @@ module _ (all : List ObjectKey) (one : (a b : ObjectKey) → Contains all a → 
       let push = weight_push (λ (x : Naming). same_key x.dir n.dir && same_key x.target key) (λ (x : Naming). 10 + length x.name) before n in
       push ∙ ap (λ (b : Bool). reference_size before n.dir key + (if b then 10 + length n.name else 0)) (ap (λ (b : Bool). b && same_key n.target key) (same_key-self n.dir) ∙ (ap (λ (k : ObjectKey). same_key k key) target ∙ same_key-self key))
 
-  refs_few : (before ls : List Naming) (acc : ℕ) → ((n : Naming) → Contains ls n → Contains all n.dir) → acc ≤ 3900 → ((dir : ObjectKey) → Contains all dir → inode_of all dir ≡ m → acc ≤ reference_size before dir key)
+  refs_few : (before ls : List Naming) (acc : ℕ) → ((n : Naming) → Contains ls n → Contains all n.dir) → acc ≤ 3900 → ((dir : ObjectKey) → Contains all dir → ino_of_key all dir ≡ m → acc ≤ reference_size before dir key)
       → acc + sum_by plain_weight (entries_behind before ls) ≤ 3900
   refs_few before [] acc known few sizes = omega (arith, few)
   refs_few before (n ∷ ls) acc known few sizes =
       let first = sum_by-cons plain_weight (entry_behind before n) (entries_behind (before ++ n ∷ []) ls) in
-      let whole = cases (same_key n.target key) (entry_behind before n).extended (inode_of all n.dir == m) refl refl refl (λ more. refs_few (before ++ n ∷ []) ls more (λ x h. known x (contains_tail x n ls h))) in
+      let whole = cases (same_key n.target key) (entry_behind before n).extended (ino_of_key all n.dir == m) refl refl refl (λ more. refs_few (before ++ n ∷ []) ls more (λ x h. known x (contains_tail x n ls h))) in
       omega (arith, first, whole)
     where
       rest : ℕ
       rest = sum_by plain_weight (entries_behind (before ++ n ∷ []) ls)
 
-      larger : (dir : ObjectKey) → Contains all dir → inode_of all dir ≡ m → acc ≤ reference_size (before ++ n ∷ []) dir key
+      larger : (dir : ObjectKey) → Contains all dir → ino_of_key all dir ≡ m → acc ≤ reference_size (before ++ n ∷ []) dir key
       larger dir among is = let was = sizes dir among is in let more = grows before n dir in omega (arith, was, more)
 
-      cases : (t x q : Bool) → same_key n.target key ≡ t → (entry_behind before n).extended ≡ x → (inode_of all n.dir == m) ≡ q
-          → ((more : ℕ) → more ≤ 3900 → ((dir : ObjectKey) → Contains all dir → inode_of all dir ≡ m → more ≤ reference_size (before ++ n ∷ []) dir key) → more + sum_by plain_weight (entries_behind (before ++ n ∷ []) ls) ≤ 3900)
+      cases : (t x q : Bool) → same_key n.target key ≡ t → (entry_behind before n).extended ≡ x → (ino_of_key all n.dir == m) ≡ q
+          → ((more : ℕ) → more ≤ 3900 → ((dir : ObjectKey) → Contains all dir → ino_of_key all dir ≡ m → more ≤ reference_size (before ++ n ∷ []) dir key) → more + sum_by plain_weight (entries_behind (before ++ n ∷ []) ls) ≤ 3900)
           → acc + (cond t (cond (not x) (cond q (10 + length n.name) 0) 0) 0 + sum_by plain_weight (entries_behind (before ++ n ∷ []) ls)) ≤ 3900
       cases false x q is_t is_x is_q later = let got = later acc few larger in omega (arith, got)
       cases true true q is_t is_x is_q later = let got = later acc few larger in omega (arith, got)
@@ -188,7 +158,7 @@ module _ (all : List ObjectKey) (one : (a b : ObjectKey) → Contains all a → 
       cases true false true is_t is_x is_q later =
           let target : n.target ≡ key = same_key-true n.target key is_t in
           let here : Contains all n.dir = known n (contains_head n ls) in
-          let inode = equal (inode_of all n.dir) m is_q in
+          let inode = equal (ino_of_key all n.dir) m is_q in
           let was = sizes n.dir here inode in
           let size = own_size before n target in
           let low : reference_size (before ++ n ∷ []) n.dir key ≤ 3900 = subst (λ (k : ObjectKey). reference_size (before ++ n ∷ []) n.dir k ≤ 3900) target (not_less 3900 (reference_size (before ++ n ∷ []) n.dir n.target) is_x) in
@@ -196,82 +166,82 @@ module _ (all : List ObjectKey) (one : (a b : ObjectKey) → Contains all a → 
           let got = later (acc + (10 + length n.name)) (omega (arith, top, low)) (λ dir among is. subst (λ (k : ObjectKey). acc + (10 + length n.name) ≤ reference_size (before ++ n ∷ []) k key) (one n.dir dir here among (inode ∙ sym is)) top) in
           omega (arith, got)
 
-  refs_sum : (links : List Naming) → ((n : Naming) → Contains links n → Contains all n.dir) → sum_by (λ (e : Entry). 10 + length e.link.name) (filter (λ e. parent_of all e == m) (filter (λ e. not e.extended) (names_of links key))) ≤ 3900
+  refs_sum : (links : List Naming) → ((n : Naming) → Contains links n → Contains all n.dir) → sum_by (λ (e : IndexedLink). 10 + length e.link.name) (filter (λ e. parent_of all e == m) (filter (λ e. not e.extended) (names_of links key))) ≤ 3900
   refs_sum links known =
       let few = refs_few [] links 0 known (omega arith) (λ dir among is. omega arith) in
-      let one_ = sum_kept (λ (e : Entry). parent_of all e == m) (λ (e : Entry). 10 + length e.link.name) (filter (λ e. not e.extended) (names_of links key)) in
-      let two = sum_kept (λ (e : Entry). not e.extended) (λ (e : Entry). cond (parent_of all e == m) (10 + length e.link.name) 0) (names_of links key) in
-      let three = sum_kept (λ (e : Entry). same_key e.link.target key) (λ (e : Entry). cond (not e.extended) (cond (parent_of all e == m) (10 + length e.link.name) 0) 0) (entries_behind [] links) in
+      let one_ = sum_kept (λ (e : IndexedLink). parent_of all e == m) (λ (e : IndexedLink). 10 + length e.link.name) (filter (λ e. not e.extended) (names_of links key)) in
+      let two = sum_kept (λ (e : IndexedLink). not e.extended) (λ (e : IndexedLink). cond (parent_of all e == m) (10 + length e.link.name) 0) (names_of links key) in
+      let three = sum_kept (λ (e : IndexedLink). same_key e.link.target key) (λ (e : IndexedLink). cond (not e.extended) (cond (parent_of all e == m) (10 + length e.link.name) 0) 0) (entries_behind [] links) in
       omega (arith, few, one_, two, three)
 
   -- ---- extended references
 
-  abbrev far_hash : Entry → ℕ
+  abbrev far_hash : IndexedLink → ℕ
   far_hash e = extref_hash (parent_of all e) e.link.name
 
-  abbrev far_weight : Entry → ℕ
+  abbrev far_weight : IndexedLink → ℕ
   far_weight e = cond (same_key e.link.target key) (cond e.extended (cond (far_hash e == m) (18 + length e.link.name) 0) 0) 0
 
   abbrev crowd_weight : Naming → ℕ
-  crowd_weight n = cond (same_key n.target key && (extref_hash (inode_of all n.dir) n.name == m)) (18 + length n.name) 0
+  crowd_weight n = cond (same_key n.target key && (extref_hash (ino_of_key all n.dir) n.name == m)) (18 + length n.name) 0
 
   far_same : (before ls : List Naming) → sum_by far_weight (entries_behind before ls) ≡ sum_by crowd_weight (extended before ls)
   far_same before [] = refl
   far_same before (n ∷ ls) =
       sum_by-cons far_weight (entry_behind before n) (entries_behind (before ++ n ∷ []) ls)
-      ∙ cases (same_key n.target key) (nat_lt 3900 (reference_size (before ++ n ∷ []) n.dir n.target)) (extref_hash (inode_of all n.dir) n.name == m) refl refl (far_same (before ++ n ∷ []) ls)
+      ∙ cases (same_key n.target key) (nat_lt 3900 (reference_size (before ++ n ∷ []) n.dir n.target)) (extref_hash (ino_of_key all n.dir) n.name == m) refl refl (far_same (before ++ n ∷ []) ls)
     where
-      cases : (t x h : Bool) → same_key n.target key ≡ t → (extref_hash (inode_of all n.dir) n.name == m) ≡ h → sum_by far_weight (entries_behind (before ++ n ∷ []) ls) ≡ sum_by crowd_weight (extended (before ++ n ∷ []) ls)
+      cases : (t x h : Bool) → same_key n.target key ≡ t → (extref_hash (ino_of_key all n.dir) n.name == m) ≡ h → sum_by far_weight (entries_behind (before ++ n ∷ []) ls) ≡ sum_by crowd_weight (extended (before ++ n ∷ []) ls)
           → cond t (cond x (cond h (18 + length n.name) 0) 0) 0 + sum_by far_weight (entries_behind (before ++ n ∷ []) ls) ≡ sum_by crowd_weight ((if x then n ∷ [] else []) ++ extended (before ++ n ∷ []) ls)
       cases true false h is_t is_h later = omega (arith, later)
       cases false false h is_t is_h later = omega (arith, later)
       cases t true h is_t is_h later =
           let first = sum_by-cons crowd_weight n (extended (before ++ n ∷ []) ls) in
-          let weight : crowd_weight n ≡ cond t (cond h (18 + length n.name) 0) 0 = ap (λ (b : Bool). cond (b && (extref_hash (inode_of all n.dir) n.name == m)) (18 + length n.name) 0) is_t ∙ (ap (λ (b : Bool). cond (t && b) (18 + length n.name) 0) is_h ∙ split t h) in
+          let weight : crowd_weight n ≡ cond t (cond h (18 + length n.name) 0) 0 = ap (λ (b : Bool). cond (b && (extref_hash (ino_of_key all n.dir) n.name == m)) (18 + length n.name) 0) is_t ∙ (ap (λ (b : Bool). cond (t && b) (18 + length n.name) 0) is_h ∙ split t h) in
           omega (arith, later, first, weight)
         where
           split : (t h : Bool) → cond (t && h) (18 + length n.name) 0 ≡ cond t (cond h (18 + length n.name) 0) 0
           split true h = refl
           split false h = refl
 
-  far_sum : (links : List Naming) → extended_crowd_of links all key m ≤ 3900 → sum_by (λ (e : Entry). 18 + length e.link.name) (filter (λ e. far_hash e == m) (ascending (parent_of all) (filter (λ e. e.extended) (names_of links key)))) ≤ 3900
+  far_sum : (links : List Naming) → extended_crowd_of links all key m ≤ 3900 → sum_by (λ (e : IndexedLink). 18 + length e.link.name) (filter (λ e. far_hash e == m) (ascending (parent_of all) (filter (λ e. e.extended) (names_of links key)))) ≤ 3900
   far_sum links few =
-      let one_ = sum_kept (λ (e : Entry). far_hash e == m) (λ (e : Entry). 18 + length e.link.name) (ascending (parent_of all) (filter (λ e. e.extended) (names_of links key))) in
-      let order = ascending_sum (parent_of all) (λ (e : Entry). cond (far_hash e == m) (18 + length e.link.name) 0) (filter (λ e. e.extended) (names_of links key)) in
-      let two = sum_kept (λ (e : Entry). e.extended) (λ (e : Entry). cond (far_hash e == m) (18 + length e.link.name) 0) (names_of links key) in
-      let three = sum_kept (λ (e : Entry). same_key e.link.target key) (λ (e : Entry). cond e.extended (cond (far_hash e == m) (18 + length e.link.name) 0) 0) (entries_behind [] links) in
+      let one_ = sum_kept (λ (e : IndexedLink). far_hash e == m) (λ (e : IndexedLink). 18 + length e.link.name) (ascending (parent_of all) (filter (λ e. e.extended) (names_of links key))) in
+      let order = ascending_sum (parent_of all) (λ (e : IndexedLink). cond (far_hash e == m) (18 + length e.link.name) 0) (filter (λ e. e.extended) (names_of links key)) in
+      let two = sum_kept (λ (e : IndexedLink). e.extended) (λ (e : IndexedLink). cond (far_hash e == m) (18 + length e.link.name) 0) (names_of links key) in
+      let three = sum_kept (λ (e : IndexedLink). same_key e.link.target key) (λ (e : IndexedLink). cond e.extended (cond (far_hash e == m) (18 + length e.link.name) 0) 0) (entries_behind [] links) in
       let same = far_same [] links in
-      let crowd = sum_kept (λ (n : Naming). same_key n.target key && (extref_hash (inode_of all n.dir) n.name == m)) (λ (n : Naming). 18 + length n.name) (extended [] links) in
+      let crowd = sum_kept (λ (n : Naming). same_key n.target key && (extref_hash (ino_of_key all n.dir) n.name == m)) (λ (n : Naming). 18 + length n.name) (extended [] links) in
       omega (arith, few, one_, order, two, three, same, crowd)
 
-pub refs_short : (all : List ObjectKey) (links : List Naming) (key : ObjectKey) → ((a b : ObjectKey) → Contains all a → Contains all b → inode_of all a ≡ inode_of all b → a ≡ b) → ((n : Naming) → Contains links n → Contains all n.dir)
+pub refs_short : (all : List ObjectKey) (links : List Naming) (key : ObjectKey) → ((a b : ObjectKey) → Contains all a → Contains all b → ino_of_key all a ≡ ino_of_key all b → a ≡ b) → ((n : Naming) → Contains links n → Contains all n.dir)
     → ((m : ℕ) → extended_crowd_of links all key m ≤ 3900) → AllByRecursion IsShort (inode_refs all links key ++ extrefs all links key)
 refs_short all links key one known few =
     all_append IsShort (inode_refs all links key) (extrefs all links key)
-    (groups_short (inode_of all key) 12 (parent_of all) (λ (e : Entry). inode_ref_bytes (inode_ref e)) (λ (e : Entry). 10 + length e.link.name) (filter (λ e. not e.extended) (names_of links key)) (λ e. ref_long (inode_ref e)) (λ m. refs_sum all one key m links known))
-    (groups_short (inode_of all key) 13 (λ (e : Entry). extref_hash (parent_of all e) e.link.name) (λ (e : Entry). extref_bytes (extref all e)) (λ (e : Entry). 18 + length e.link.name) (ascending (parent_of all) (filter (λ e. e.extended) (names_of links key))) (λ e. far_long (extref all e))
+    (groups_short (ino_of_key all key) INODE_REF (parent_of all) (λ (e : IndexedLink). inode_ref_bytes (inode_ref e)) (λ (e : IndexedLink). 10 + length e.link.name) (filter (λ e. not e.extended) (names_of links key)) (λ e. ref_long (inode_ref e)) (λ m. refs_sum all one key m links known))
+    (groups_short (ino_of_key all key) INODE_EXTREF (λ (e : IndexedLink). extref_hash (parent_of all e) e.link.name) (λ (e : IndexedLink). extref_bytes (extref all e)) (λ (e : IndexedLink). 18 + length e.link.name) (ascending (parent_of all) (filter (λ e. e.extended) (names_of links key))) (λ e. far_long (extref all e))
     (λ m. far_sum all one key m links (few m)))
 
 -- the items of entries with short names, where those of no hash take too much
 pub entry_items_short : (ino : ℕ) (list : List Indexed) → AllByRecursion (λ (e : Indexed). length e.1.name ≤ 255) list → ((m : ℕ) → sum_by (λ (e : Indexed). 30 + length e.1.name) (filter (λ e. name_hash e.1.name == m) list) ≤ 3900)
     → AllByRecursion IsShort (entry_items ino list)
 entry_items_short ino list low few =
-    all_append IsShort (map (λ g. (make_key ino 84 g.0, flat_map (λ (e : Indexed). dir_entry_bytes e.1) g.1)) (grouped (λ (e : Indexed). name_hash e.1.name) list)) (map (λ (e : Indexed). (make_key ino 96 e.0, dir_entry_bytes e.1)) list)
-    (groups_short ino 84 (λ (e : Indexed). name_hash e.1.name) (λ (e : Indexed). dir_entry_bytes e.1) (λ (e : Indexed). 30 + length e.1.name) list (λ e. entry_long e.1) few)
-    (all_mapped IsShort (λ (e : Indexed). (make_key ino 96 e.0, dir_entry_bytes e.1)) list (all_each (λ (e : Indexed). length e.1.name ≤ 255) (λ (e : Indexed). IsShort (make_key ino 96 e.0, dir_entry_bytes e.1)) list (λ e short. let long = entry_long e.1 in omega (arith, long, short)) low))
+    all_append IsShort (map (λ g. (make_key ino DIR_ITEM g.0, flat_map (λ (e : Indexed). dir_entry_bytes e.1) g.1)) (grouped (λ (e : Indexed). name_hash e.1.name) list)) (map (λ (e : Indexed). (make_key ino DIR_INDEX e.0, dir_entry_bytes e.1)) list)
+    (groups_short ino DIR_ITEM (λ (e : Indexed). name_hash e.1.name) (λ (e : Indexed). dir_entry_bytes e.1) (λ (e : Indexed). 30 + length e.1.name) list (λ e. entry_long e.1) few)
+    (all_mapped IsShort (λ (e : Indexed). (make_key ino DIR_INDEX e.0, dir_entry_bytes e.1)) list (all_each (λ (e : Indexed). length e.1.name ≤ 255) (λ (e : Indexed). IsShort (make_key ino DIR_INDEX e.0, dir_entry_bytes e.1)) list (λ e short. let long = entry_long e.1 in omega (arith, long, short)) low))
 
 -- ---- entries
 
 module _ (kind : ObjectKey → Kind) (all : List ObjectKey) (links : List Naming) (dir : ObjectKey) where
-  abbrev told : Entry → Indexed
-  told e = (e.index, entry_to (inode_of all e.link.target) (kind e.link.target) e.link.name)
+  abbrev told : IndexedLink → Indexed
+  told e = (e.index, entry_to (ino_of_key all e.link.target) (kind e.link.target) e.link.name)
 
   crowd_sum : (m : ℕ) → crowd_of links dir m ≤ 3900 → sum_by (λ (e : Indexed). 30 + length e.1.name) (filter (λ e. name_hash e.1.name == m) (indexed_in kind all links dir)) ≤ 3900
   crowd_sum m few =
       let one = sum_kept (λ (e : Indexed). name_hash e.1.name == m) (λ (e : Indexed). 30 + length e.1.name) (indexed_in kind all links dir) in
       let parts = sum_by-append w (map told (names_in links dir)) (if same_key dir root then (next_index links dir, saved_entry) ∷ [] else []) in
       let mapped = sum_mapped told w (names_in links dir) in
-      let kept = sum_kept (λ (e : Entry). same_key e.link.dir dir) (λ (e : Entry). w (told e)) (entries_behind [] links) in
+      let kept = sum_kept (λ (e : IndexedLink). same_key e.link.dir dir) (λ (e : IndexedLink). w (told e)) (entries_behind [] links) in
       let linked = sum_links (λ (n : Naming). cond (same_key n.dir dir) (cond (name_hash n.name == m) (30 + length n.name) 0) 0) [] links in
       let crowd = sum_kept (λ (n : Naming). same_key n.dir dir && (name_hash n.name == m)) (λ (n : Naming). 30 + length n.name) links in
       let alike = sum_alike (λ (n : Naming). cond (same_key n.dir dir && (name_hash n.name == m)) (30 + length n.name) 0) (λ (n : Naming). cond (same_key n.dir dir) (cond (name_hash n.name == m) (30 + length n.name) 0) 0) links (λ n. split (same_key n.dir dir) (name_hash n.name == m) (30 + length n.name)) in
@@ -298,15 +268,15 @@ module _ (kind : ObjectKey → Kind) (all : List ObjectKey) (links : List Naming
       (all_mapped (λ (e : Indexed). length e.1.name ≤ 255) told (names_in links dir) (kept (entries_behind [] links) (listed [] links short)))
       (last (same_key dir root))
     where
-      listed : (before ls : List Naming) → ((n : Naming) → Contains ls n → length n.name ≤ 255) → AllByRecursion (λ (e : Entry). length e.link.name ≤ 255) (entries_behind before ls)
+      listed : (before ls : List Naming) → ((n : Naming) → Contains ls n → length n.name ≤ 255) → AllByRecursion (λ (e : IndexedLink). length e.link.name ≤ 255) (entries_behind before ls)
       listed before [] low = tt
       listed before (n ∷ ls) low = (low n (contains_head n ls), listed (before ++ n ∷ []) ls (λ x h. low x (contains_tail x n ls h)))
 
-      kept : (es : List Entry) → AllByRecursion (λ (e : Entry). length e.link.name ≤ 255) es → AllByRecursion (λ (e : Entry). length e.link.name ≤ 255) (filter (λ e. same_key e.link.dir dir) es)
+      kept : (es : List IndexedLink) → AllByRecursion (λ (e : IndexedLink). length e.link.name ≤ 255) es → AllByRecursion (λ (e : IndexedLink). length e.link.name ≤ 255) (filter (λ e. same_key e.link.dir dir) es)
       kept [] all = tt
       kept (e ∷ es) all = by (same_key e.link.dir dir) (kept es all.1)
         where
-          by : (b : Bool) → AllByRecursion (λ (f : Entry). length f.link.name ≤ 255) (filter (λ f. same_key f.link.dir dir) es) → AllByRecursion (λ (f : Entry). length f.link.name ≤ 255) (cond b (e ∷ filter (λ f. same_key f.link.dir dir) es) (filter (λ f. same_key f.link.dir dir) es))
+          by : (b : Bool) → AllByRecursion (λ (f : IndexedLink). length f.link.name ≤ 255) (filter (λ f. same_key f.link.dir dir) es) → AllByRecursion (λ (f : IndexedLink). length f.link.name ≤ 255) (cond b (e ∷ filter (λ f. same_key f.link.dir dir) es) (filter (λ f. same_key f.link.dir dir) es))
           by true later = (all.0, later)
           by false later = later
 

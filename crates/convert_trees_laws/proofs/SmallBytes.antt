@@ -1,24 +1,5 @@
 -- The tree of the saved image and the relocation tree take no more than was counted.
-use Rattle.std.proofs.Common.{◌≡◌, ◌≤◌, ℕ, ◌+◌, ◌*◌, Bool, is_some, List, [], ◌∷◌, length, filter, sum_by, arith}
-use Rattle.btr_reader.specs.btr_keys.DirEntry.{dir_entry_head}
-use Rattle.btr_reader.specs.btr_keys.FileExtent.{disk_range_layout, file_extent_bytes, file_extent_head}
-use Rattle.btr_reader.specs.btr_keys.Inode.{inode_bytes, inode_layout}
-use Rattle.btr_reader.specs.btr_keys.InodeRef.{InodeRefValue, inode_ref_bytes, inode_ref_head}
-use Rattle.btr_reader.specs.btr_keys.Key.{key_layout}
-use Rattle.btr_reader.specs.btr_keys.Stamp.{stamp_layout}
-use Rattle.btr_reader.specs.btr_keys.declared.inode.Inode.{Inode}
-use Rattle.btr_reader.specs.btr_node.Leaf.{Item}
-use Rattle.convert_steps.specs.btr_item_list.Extents.{extent_item, regular_extent}
-use Rattle.convert_steps.specs.btr_item_list.Inodes.{inode_item, inode_made, ref_item}
-use Rattle.convert_steps.proofs.btr_item_list.Sorting.{ascending_sum}
-use Rattle.convert_steps.proofs.extent_pieces.Bounding.{filter_few}
-use Rattle.convert_steps.specs.file_items.Extents.{extents_at, piece_bytes, pieces_of_volume, source_block}
-use Rattle.convert_steps.specs.file_items.Names.{Indexed, entry_items, letters}
-use Rattle.convert_steps.specs.file_items.Small.{image_entries, image_flags, image_head, image_items, image_name, relocation_items, root_items}
-use Rattle.convert_steps.specs.unit_plan.Needed.{image_tree_bytes}
-use Rattle.convert_steps.specs.unit_plan.declared.counts.Counts.{Counts}
-use Rattle.convert_steps.specs.unit_plan.declared.piece.Piece.{Piece}
-use Rattle.convert_trees_laws.specs.Bounds.{bytes_in}
+use Rattle.convert_trees_laws.proofs.Imports.{◌≡◌, ◌≤◌, ℕ, ◌+◌, ◌*◌, Bool, is_some, List, [], ◌∷◌, length, filter, sum_by, arith, FIRST_FREE_OBJECTID, FILE_EXTENT_BYTES, IMAGE_ROOM, INODE_BYTES, RELOCATION_ROOM, DIRECTORY_MODE, IMAGE_MODE, dir_entry_head, disk_range_layout, file_extent_bytes, file_extent_head, inode_bytes, inode_layout, InodeRefValue, inode_ref_bytes, inode_ref_head, key_layout, stamp_layout, Inode, Item, extent_item, regular_extent, inode_item, inode_made, ref_item, ascending_sum, filter_few, extents_at, piece_bytes, pieces_of_volume, source_block, Indexed, entry_items, letters, image_entries, image_flags, image_head, image_items, image_name, relocation_items, root_directory_items, image_tree_bytes, Counts, Piece, bytes_in}
 use Rattle.convert_trees_laws.proofs.ItemBytes.{bytes-append, bytes-cons, bytes-map, sum-same}
 
 inode_long : (i : Inode) → length (inode_bytes i) ≤ 160
@@ -41,44 +22,44 @@ reference_bytes ino parent index name items =
     let long = ref_long (record { index = index; name = name }) in
     omega (arith, one, long)
 
-made_bytes : (ino : ℕ) (i : Inode) (items : List Item) → bytes_in (inode_item ino i ∷ items) ≤ 185 + bytes_in items
+made_bytes : (ino : ℕ) (i : Inode) (items : List Item) → bytes_in (inode_item ino i ∷ items) ≤ INODE_BYTES + bytes_in items
 made_bytes ino i items =
     let one = bytes-cons (inode_item ino i) items in
     let long = inode_long i in
     omega (arith, one, long)
 
 -- the root directory of the image's tree has one entry
-entries_bytes : bytes_in (entry_items 256 image_entries) ≤ 200
+entries_bytes : bytes_in (entry_items FIRST_FREE_OBJECTID image_entries) ≤ 200
 unfolding dir_entry_head key_layout
 entries_bytes = omega arith
 
-none_bytes : bytes_in (entry_items 256 []) ≤ 0
+none_bytes : bytes_in (entry_items FIRST_FREE_OBJECTID []) ≤ 0
 none_bytes = omega arith
 
-root_bytes : (now n : ℕ) (list : List Indexed) → bytes_in (entry_items 256 list) ≤ n → bytes_in (root_items now list) ≤ 222 + n
+root_bytes : (now n : ℕ) (list : List Indexed) → bytes_in (entry_items FIRST_FREE_OBJECTID list) ≤ n → bytes_in (root_directory_items now list) ≤ 222 + n
 root_bytes now n list few =
-    let made = made_bytes 256 (inode_made now 0x41ED (2 * letters list) 0 0) (ref_item 256 256 0 (46 ∷ 46 ∷ []) ∷ entry_items 256 list) in
-    let named = reference_bytes 256 256 0 (46 ∷ 46 ∷ []) (entry_items 256 list) in
+    let made = made_bytes FIRST_FREE_OBJECTID (inode_made now DIRECTORY_MODE (2 * letters list) 0 0) (ref_item FIRST_FREE_OBJECTID FIRST_FREE_OBJECTID 0 (46 ∷ 46 ∷ []) ∷ entry_items FIRST_FREE_OBJECTID list) in
+    let named = reference_bytes FIRST_FREE_OBJECTID FIRST_FREE_OBJECTID 0 (46 ∷ 46 ∷ []) (entry_items FIRST_FREE_OBJECTID list) in
     omega (arith, made, named, few)
 
-pub relocation_counted : (now : ℕ) → bytes_in (relocation_items now) ≤ 1000
+pub relocation_counted : (now : ℕ) → bytes_in (relocation_items now) ≤ RELOCATION_ROOM
 unfolding relocation_items
 relocation_counted now = let all = root_bytes now 0 [] none_bytes in omega (arith, all)
 
-head_bytes : (blocks nbytes : ℕ) (datasum : Bool) (now : ℕ) → bytes_in (image_head blocks nbytes datasum now) ≤ 1000
+head_bytes : (blocks nbytes : ℕ) (datasum : Bool) (now : ℕ) → bytes_in (image_head blocks nbytes datasum now) ≤ IMAGE_ROOM
 unfolding image_head
 head_bytes blocks nbytes datasum now =
-    let name : List Item = ref_item 257 256 2 image_name ∷ [] in
-    let made : Inode = inode_made now 0x8100 (4096 * blocks) nbytes (image_flags datasum) in
-    let both = bytes-append (root_items now image_entries) (inode_item 257 made ∷ name) in
+    let name : List Item = ref_item 257 FIRST_FREE_OBJECTID 2 image_name ∷ [] in
+    let made : Inode = inode_made now IMAGE_MODE (4096 * blocks) nbytes (image_flags datasum) in
+    let both = bytes-append (root_directory_items now image_entries) (inode_item 257 made ∷ name) in
     let first = root_bytes now 200 image_entries entries_bytes in
     let second = made_bytes 257 made name in
-    let third : bytes_in name ≡ 40 = reference_bytes 257 256 2 image_name [] in
+    let third : bytes_in name ≡ 40 = reference_bytes 257 FIRST_FREE_OBJECTID 2 image_name [] in
     omega (arith, both, first, second, third)
 
 -- ---- the whole
 
-extents_bytes : (ino : ℕ) (at : Piece → ℕ) (pieces : List Piece) → bytes_in (extents_at ino at pieces) ≤ sum_by (λ p. 78) pieces
+extents_bytes : (ino : ℕ) (at : Piece → ℕ) (pieces : List Piece) → bytes_in (extents_at ino at pieces) ≤ sum_by (λ p. FILE_EXTENT_BYTES) pieces
 extents_bytes ino at pieces = bytes-map (λ (p : Piece). extent_item ino (at p) (regular_extent p.place p.count)) (λ p. 53) (λ p. regular_long p.place p.count) pieces
 
 pub image_counted : (blocks : ℕ) (pieces : List Piece) (datasum : Bool) (now : ℕ) (c : Counts) → length pieces ≤ c.pieces → bytes_in (image_items blocks pieces datasum now) ≤ image_tree_bytes c
@@ -89,7 +70,7 @@ image_counted blocks pieces datasum now c number =
     let both = bytes-append (image_head blocks (piece_bytes (pieces_of_volume pieces)) datasum now) extents in
     let front = head_bytes blocks (piece_bytes (pieces_of_volume pieces)) datasum now in
     let back = extents_bytes 257 source_block (pieces_of_volume pieces) in
-    let sorted : sum_by (λ (p : Piece). 78) (pieces_of_volume pieces) ≡ sum_by (λ (p : Piece). 78) ours = ascending_sum source_block (λ p. 78) ours in
-    let same = sum-same {A = Piece} 78 ours in
+    let sorted : sum_by (λ (p : Piece). FILE_EXTENT_BYTES) (pieces_of_volume pieces) ≡ sum_by (λ (p : Piece). FILE_EXTENT_BYTES) ours = ascending_sum source_block (λ p. FILE_EXTENT_BYTES) ours in
+    let same = sum-same {A = Piece} FILE_EXTENT_BYTES ours in
     let few = filter_few (λ (p : Piece). is_some p.from) pieces in
     omega (arith, both, front, back, sorted, same, few, number)

@@ -1,36 +1,8 @@
 -- The units of a plan have the slots for all nodes.
-use Rattle.std.proofs.Common.{◌≡◌, ◌≤◌, ◌<◌, ℕ, ◌+◌, ◌*◌, ◌^◌, List, [], ◌∷◌, length, length-append, sym, ap, subst, ◌∙◌, ⊎_elim, arith}
-use Rattle.std.specs.Int.{div_ceil}
-use Rattle.std.specs.List.{flat_map, range_with_len}
-use Rattle.std.proofs.lemmas.Grind.{div_ceil_times}
-use Rattle.std.proofs.lemmas.List.{length-map}
-use Rattle.std.proofs.lemmas.List.FromFn.{length-range_with_len}
-use Rattle.btr_reader.specs.outside.History.{Image}
-use Rattle.btr_reader.specs.btr_node.Leaf.{Item}
-use Rattle.btr_reader.specs.btr_node.NodeSize.{IsNodeSize}
-use Rattle.convert_steps.specs.btr_tree.Counting.{node_bound}
-use Rattle.convert_steps.specs.btr_tree.Roots.{lengths_of}
-use Rattle.convert_steps.specs.Making.{IsMaking, Making, chunk_slots, new_ids, slots}
-use Rattle.convert_steps.specs.Standing.{AllFit, chunk_count, file_tree_items, image_tree_items, no_trees, nodes_for, other_count, own_count, root_tree_items, sum_tree_items}
+use Rattle.convert_trees_laws.proofs.Imports.{◌≡◌, ◌≤◌, ◌<◌, ℕ, ◌+◌, ◌*◌, ◌^◌, List, [], ◌∷◌, length, length-append, sym, ap, subst, ◌∙◌, ⊎_elim, arith, div_ceil, flat_map, range_with_len, div_ceil_times, length-map, length-range_with_len, BLOCK_GROUP_BYTES, EXTENT_BYTES, NODE_BYTES, RELOCATION_ROOM, ROOT_TREE_ROOM, Image, Item, IsNodeSize, node_bound, lengths_of, IsMaking, Making, chunk_slots, new_ids, slots, AllFit, chunk_count, file_tree_items, image_tree_items, no_trees, nodes_for, other_count, own_count, root_tree_items, sum_tree_items, relocation_items, FileKeysAscend, ImageKeysAscend, ItemsAreShort, keys, IsOpened, links_in, used_of, chunk_items, device_items, AreIds, bound_up, IsSoundPlan, AreSmall, checksum_tree_bytes, chunk_bound, chunk_nodes, chunk_tree_bytes, device_tree_bytes, extent_nodes, extent_tree_bytes, file_tree_bytes, image_tree_bytes, need, nodes_in_unit, other_nodes, Counts, Options, plans_sound, SumKind, Crc32c, Sha256, AreCounted, FileTreeIsCounted, PlansSuffice, bytes_in}
 use Rattle.convert_steps.proofs.extent_pieces.Small.{counts_small}
-use Rattle.convert_steps.specs.file_items.Small.{relocation_items}
-use Rattle.convert_trees_laws.specs.Keys.{FileKeysAscend, ImageKeysAscend, ItemsAreShort}
-use Rattle.indexmap.specs.IndexMap.{keys}
-use Rattle.convert_steps.specs.reiser_volume.Opened.{IsOpened, links_in}
-use Rattle.convert_steps.specs.reiser_volume.Volume.{used_of}
-use Rattle.convert_steps.specs.space_items.Chunks.{chunk_items, device_items}
-use Rattle.convert_steps.specs.space_items.Laws.{AreIds}
 use Rattle.convert_steps.specs.space_items.Own.{extent_bytes}
-use Rattle.convert_steps.proofs.space_items.OwnBound.{bound_up}
-use Rattle.convert_steps.specs.unit_plan.Laws.{IsSoundPlan}
-use Rattle.convert_steps.specs.unit_plan.Needed.{AreSmall, checksum_tree_bytes, chunk_bound, chunk_nodes, chunk_tree_bytes, device_tree_bytes, extent_nodes, extent_tree_bytes, file_tree_bytes, image_tree_bytes, need, nodes_in_unit, other_nodes}
 use Rattle.convert_steps.specs.unit_plan.Places.{node_places, places_in}
-use Rattle.convert_steps.specs.unit_plan.declared.counts.Counts.{Counts}
-use Rattle.convert_steps.specs.convert_options.declared.options.Options.{Options}
-use Rattle.convert_steps.proofs.unit_plan.Sound.{plans_sound}
-use Rattle.btr_reader.specs.csum_kinds.declared.kind.SumKind.{SumKind}
-use Rattle.btr_reader.specs.csum_kinds.declared.kind.SumKind.TheVariants.{Crc32c}
-use Rattle.convert_trees_laws.specs.Bounds.{AreCounted, FileTreeIsCounted, PlansSuffice, bytes_in}
 use Rattle.convert_trees_laws.proofs.NodeCounts.{nodes_few}
 use Rattle.convert_trees_laws.proofs.Others.{few_chunks, pieces_few, trees_counted}
 
@@ -78,6 +50,7 @@ image_low c small = omega (arith, small.pieces)
 
 sums_low : (sums : SumKind) (c : Counts) → AreSmall c → checksum_tree_bytes sums c < 2 ^ 60
 sums_low Crc32c c small = omega (arith, small.pieces, small.piece_blocks)
+sums_low Sha256 c small = omega (arith, small.pieces, small.piece_blocks)
 
 bound_low : (c : Counts) → AreSmall c → chunk_bound c.runs c.blocks < 2 ^ 52
 bound_low c small = omega (arith, small.runs, small.blocks)
@@ -116,10 +89,10 @@ module _ (counted : FileTreeIsCounted) (files_ascend : FileKeysAscend) (small_as
   other_nodes_few =
       let files = few (file_tree_items image m) (file_tree_bytes c) (counted image m made) (files_low c small) in
       let saved = few (image_tree_items m) (image_tree_bytes c) trees.saved (image_low c small) in
-      let relocation = few (relocation_items m.now) 1000 trees.relocation (omega arith) in
+      let relocation = few (relocation_items m.now) RELOCATION_ROOM trees.relocation (omega arith) in
       let sums = few (sum_tree_items other m) (checksum_tree_bytes o.sums c) trees.sums (sums_low o.sums c small) in
       let device = few (device_items (new_ids m) m.chunks) (device_tree_bytes (chunk_bound c.runs c.blocks)) trees.device (device_low c small) in
-      let root = few (root_tree_items m no_trees) 8192 (trees.root no_trees) (omega arith) in
+      let root = few (root_tree_items m no_trees) ROOT_TREE_ROOM (trees.root no_trees) (omega arith) in
       six _ _ _ _ _ _ _ _ _ _ _ _ files saved relocation sums device root
     where
       six : (a b d e f g a' b' d' e' f' g' : ℕ) → a ≤ a' → b ≤ b' → d ≤ d' → e ≤ e' → f ≤ f' → g ≤ g' → a + b + d + e + f + g ≤ a' + b' + e' + f' + g' + d'
@@ -131,7 +104,7 @@ module _ (counted : FileTreeIsCounted) (files_ascend : FileKeysAscend) (small_as
       (pieces_few image m made) (few_chunks image m made) (both _ _ _ _ other_nodes_few chunk_nodes_few) in
       twice _ _ (bound_up (extent_bytes (length m.pieces) (length m.chunks) (other_count image other m no_trees + chunk_count m)) (extent_tree_bytes o c) o.nodesize size bytes)
     where
-      by_parts : (p p' q q' n n' : ℕ) → p ≤ p' → q ≤ q' → n ≤ n' → 107 * p + 49 * q + 58 * n ≤ 107 * p' + 49 * q' + 58 * n'
+      by_parts : (p p' q q' n n' : ℕ) → p ≤ p' → q ≤ q' → n ≤ n' → EXTENT_BYTES * p + BLOCK_GROUP_BYTES * q + NODE_BYTES * n ≤ EXTENT_BYTES * p' + BLOCK_GROUP_BYTES * q' + NODE_BYTES * n'
       by_parts p p' q q' n n' a b d = omega arith
 
       both : (x x' y y' : ℕ) → x ≤ x' → y ≤ y' → x + y ≤ x' + y'

@@ -1,24 +1,11 @@
 -- The chunks of the chunk tree are few.
-use Rattle.std.proofs.Common.{◌≡◌, ◌⊎◌, ℕ, suc, ◌+◌, ◌-◌, ◌*◌, ◌%◌, ◌<◌, ◌≤◌, Bool, true, false, List, [], ◌∷◌, length, get_or, cond, filter, Some, inl, inr, refl, sym, ◌∙◌, ap, subst, arith, ⊎_elim}
-use Rattle.std.specs.Prelude.{AllPairs, Contains}
-use Rattle.std.proofs.lemmas.Bool.{both_ways, cases_Bool, cases_eq}
-use Rattle.convert_steps.specs.reiser_bitmap.Runs.{free_runs}
-use Rattle.convert_steps.specs.reiser_bitmap.Units.{IsFreeUnit}
-use Rattle.convert_steps.proofs.reiser_bitmap.Ranges.{contains_range, range_contains}
-use Rattle.convert_steps.specs.unit_plan.Choice.{HasEnoughSpace, IsPlan, is_among, lowest_long}
-use Rattle.convert_steps.specs.unit_plan.Chunks.{AreChunks, IsChunk, role_by, role_of, has_role, usable_end, use_of}
-use Rattle.convert_steps.specs.unit_plan.Laws.{IsSoundPlan}
-use Rattle.convert_steps.specs.unit_plan.declared.chunk.Chunk.{Chunk}
-use Rattle.convert_steps.specs.unit_plan.declared.chunk.Role.{Role}
-use Rattle.convert_steps.specs.unit_plan.declared.chunk.Role.TheVariants.{System, Metadata, Data}
-use Rattle.convert_steps.specs.unit_plan.declared.need.Need.{Need}
-use Rattle.convert_steps.specs.unit_plan.declared.plan.Plan.{Plan}
-use Rattle.convert_steps.proofs.unit_plan.Sound.{plans_sound}
+use Rattle.convert_trees_laws.proofs.Imports.{◌≡◌, ◌⊎◌, ℕ, suc, ◌+◌, ◌-◌, ◌*◌, ◌%◌, ◌<◌, ◌≤◌, Bool, true, false, List, [], ◌∷◌, length, get_or, cond, filter, Some, inl, inr, refl, sym, ◌∙◌, ap, subst, arith, ⊎_elim, AllPairs, both_ways, cases_Bool, cases_eq, free_runs, IsFreeUnit, contains_range, range_contains, HasEnoughSpace, IsPlan, is_among, lowest_long, AreChunks, IsChunk, role_by, role_of, has_role, usable_end, use_of, IsSoundPlan, PlannedChunk, Role, System, Metadata, Data, Need, Plan, plans_sound}
+use Rattle.std.specs.Prelude.{Contains}
 use Rattle.convert_steps.proofs.unit_plan.Starts.{among_contains, contains_among}
 use Rattle.convert_steps.proofs.unit_plan.Uses.{free_of, role_is}
 
 -- a chunk that begins at a unit of a range
-record Begins (low high : ℕ) (c : Chunk) : Type 0 where
+record Begins (low high : ℕ) (c : PlannedChunk) : Type 0 where
   first : ℕ
   is : c.start ≡ 256 * first
   some : 1 ≤ c.length
@@ -26,19 +13,19 @@ record Begins (low high : ℕ) (c : Chunk) : Type 0 where
   below : first < high
 
 -- it begins at a multiple of 1024 units
-record IsCut (low high : ℕ) (c : Chunk) : Type 0 where
+record IsCut (low high : ℕ) (c : PlannedChunk) : Type 0 where
   begins : Begins low high c
   cut : begins.first % 1024 ≡ 0
 
 -- or at the first unit of all
-record IsSystem (low high : ℕ) (c : Chunk) : Type 0 where
+record IsSystem (low high : ℕ) (c : PlannedChunk) : Type 0 where
   begins : Begins low high c
   cut : (begins.first % 1024 ≡ 0) ⊎ (begins.first ≡ low)
 
-abbrev Ascend : List Chunk → Type 0
+abbrev Ascend : List PlannedChunk → Type 0
 Ascend cs = AllPairs (λ c d. c.start + c.length ≤ d.start) cs
 
-ascend_tail : (c : Chunk) (cs : List Chunk) → Ascend (c ∷ cs) → Ascend cs
+ascend_tail : (c : PlannedChunk) (cs : List PlannedChunk) → Ascend (c ∷ cs) → Ascend cs
 ascend_tail c cs ascend = λ i j d l h. ascend (suc i) (suc j) d (omega (arith, l)) (omega (arith, h))
 
 -- a later multiple
@@ -46,7 +33,7 @@ next_cut : (low f g : ℕ) → f % 1024 ≡ 0 → g % 1024 ≡ 0 → f < g → f
 next_cut low f g a b less = omega arith
 
 -- those behind a chunk begin behind it
-behind : (low high : ℕ) (c : Chunk) (cs : List Chunk) → Ascend (c ∷ cs) → (s : Begins low high c) → (k : ℕ) (d : Chunk) → k < length cs → (t : Begins low high (get_or cs k d)) → s.first < t.first
+behind : (low high : ℕ) (c : PlannedChunk) (cs : List PlannedChunk) → Ascend (c ∷ cs) → (s : Begins low high c) → (k : ℕ) (d : PlannedChunk) → k < length cs → (t : Begins low high (get_or cs k d)) → s.first < t.first
 behind low high c cs ascend s k d h t =
     let apart : c.start + c.length ≤ (get_or cs k d).start = ascend 0 (suc k) d (omega arith) (omega (arith, h)) in
     omega (arith, apart, s.is, s.some, t.is)
@@ -67,26 +54,26 @@ as_system used plan u t = rw t refl
 
 -- a test that tells the chunk tree's role from the others
 module _ (tells : Role → Bool) (metadata : tells Metadata ≡ false) (data_ : tells Data ≡ false) where
-  abbrev pub of_system : Chunk → Bool
+  abbrev pub of_system : PlannedChunk → Bool
   of_system c = tells c.role
 
-  abbrev pub system_chunks : List Chunk → List Chunk
+  abbrev pub system_chunks : List PlannedChunk → List PlannedChunk
   system_chunks cs = filter of_system cs
 
   -- what holds of those of the chunk tree
-  abbrev Each : (Chunk → Type 0) → List Chunk → Type 0
-  Each P cs = (k : ℕ) (d : Chunk) → k < length cs → of_system (get_or cs k d) ≡ true → P (get_or cs k d)
+  abbrev Each : (PlannedChunk → Type 0) → List PlannedChunk → Type 0
+  Each P cs = (k : ℕ) (d : PlannedChunk) → k < length cs → of_system (get_or cs k d) ≡ true → P (get_or cs k d)
 
-  each_tail : (P : Chunk → Type 0) (c : Chunk) (cs : List Chunk) → Each P (c ∷ cs) → Each P cs
+  each_tail : (P : PlannedChunk → Type 0) (c : PlannedChunk) (cs : List PlannedChunk) → Each P (c ∷ cs) → Each P cs
   each_tail P c cs each = λ k d h t. each (suc k) d (omega (arith, h)) t
 
-  filter_on : (c : Chunk) (cs : List Chunk) → of_system c ≡ true → length (system_chunks (c ∷ cs)) ≡ suc (length (system_chunks cs))
+  filter_on : (c : PlannedChunk) (cs : List PlannedChunk) → of_system c ≡ true → length (system_chunks (c ∷ cs)) ≡ suc (length (system_chunks cs))
   filter_on c cs t = ap (λ (b : Bool). length (cond b (c ∷ system_chunks cs) (system_chunks cs))) t
 
-  filter_off : (c : Chunk) (cs : List Chunk) → of_system c ≡ false → length (system_chunks (c ∷ cs)) ≡ length (system_chunks cs)
+  filter_off : (c : PlannedChunk) (cs : List PlannedChunk) → of_system c ≡ false → length (system_chunks (c ∷ cs)) ≡ length (system_chunks cs)
   filter_off c cs t = ap (λ (b : Bool). length (cond b (c ∷ system_chunks cs) (system_chunks cs))) t
 
-  few_cut : (low high : ℕ) (cs : List Chunk) → Each (IsCut low high) cs → Ascend cs → low ≤ high + 1023 → 1024 * length (system_chunks cs) + low ≤ high + 1023
+  few_cut : (low high : ℕ) (cs : List PlannedChunk) → Each (IsCut low high) cs → Ascend cs → low ≤ high + 1023 → 1024 * length (system_chunks cs) + low ≤ high + 1023
   few_cut low high [] each ascend within = omega (arith, within)
   few_cut low high (c ∷ cs) each ascend within =
       ⊎_elim
@@ -114,7 +101,7 @@ module _ (tells : Role → Bool) (metadata : tells Metadata ≡ false) (data_ : 
       omega (arith, few_cut low high cs (each_tail (IsCut low high) c cs each) (ascend_tail c cs ascend) within, filter_off c cs off))
       (cases_Bool (of_system c))
 
-  few_system : (low high : ℕ) (cs : List Chunk) → Each (IsSystem low high) cs → Ascend cs → low ≤ high → 1024 * length (system_chunks cs) + low ≤ high + 2046
+  few_system : (low high : ℕ) (cs : List PlannedChunk) → Each (IsSystem low high) cs → Ascend cs → low ≤ high → 1024 * length (system_chunks cs) + low ≤ high + 2046
   few_system low high [] each ascend within = omega (arith, within)
   few_system low high (c ∷ cs) each ascend within =
       ⊎_elim
@@ -147,7 +134,7 @@ module _ (tells : Role → Bool) (metadata : tells Metadata ≡ false) (data_ : 
   is_system Metadata t = absurd (both_ways (tells Metadata) metadata t)
   is_system Data t = absurd (both_ways (tells Data) data_ t)
 
-  module _ (used : List Bool) (need : Need) (plan : Plan) (chunks : List Chunk) (enough : HasEnoughSpace used need) (is : IsPlan used need plan) (are : AreChunks plan (length used) chunks) where
+  module _ (used : List Bool) (need : Need) (plan : Plan) (chunks : List PlannedChunk) (enough : HasEnoughSpace used need) (is : IsPlan used need plan) (are : AreChunks plan (length used) chunks) where
     abbrev lowest : ℕ
     lowest = lowest_long need.system (free_runs used)
 
@@ -166,7 +153,7 @@ module _ (tells : Role → Bool) (metadata : tells Metadata ≡ false) (data_ : 
         let free : IsFreeUnit used u = free_of used need.system plan.system u sound.system t in
         ⊎_elim (λ (e : u ≡ 0). absurd (free.unreserved 0 (omega (arith, e)) (inl (omega arith)))) (λ (other : u ≡ 0 → ⊥). omega (arith, other)) (cases_eq u 0)
 
-    begins_there : (c : Chunk) → IsChunk (role_of plan (length used)) (usable_end (length used)) c → of_system c ≡ true → IsSystem lowest (lowest + need.system) c
+    begins_there : (c : PlannedChunk) → IsChunk (role_of plan (length used)) (usable_end (length used)) c → of_system c ≡ true → IsSystem lowest (lowest + need.system) c
     begins_there c chunk t =
         let role : c.role ≡ System = is_system c.role t in
         let role_at : role_of plan (length used) chunk.first ≡ Some System = chunk.one_role chunk.first (omega arith) chunk.some ∙ ap (λ (r : Role). Some r) role in

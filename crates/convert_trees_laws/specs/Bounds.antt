@@ -1,5 +1,6 @@
 -- The space that is counted for a conversion suffices for its trees.
 use Rattle.std.specs.Prelude.{ℕ, ◌≤◌, List}
+use Rattle.unit_plan.specs.declared.item_bytes.TheConstants.{ROOT_TREE_ROOM}
 use Rattle.btr_reader.specs.outside.History.{Image}
 use Rattle.btr_reader.specs.btr_node.Leaf.{Item}
 use Rattle.btr_reader.specs.btr_node.NodeSize.{IsNodeSize}
@@ -29,7 +30,7 @@ pub record AreCounted (other : Image) (m : Making) (c : Counts) : Type 0 where
   pub sums : bytes_in (sum_tree_items other m) ≤ checksum_tree_bytes m.options.sums c
   pub device : bytes_in (device_items (new_ids m) m.chunks) ≤ device_tree_bytes (chunk_bound c.runs c.blocks)
   pub chunk : bytes_in (chunk_items (new_ids m) m.volume.sup.blocks m.chunks) ≤ chunk_tree_bytes (chunk_bound c.runs c.blocks)
-  pub root : (r : VolumeTrees) → bytes_in (root_tree_items m r) ≤ 8192
+  pub root : (r : VolumeTrees) → bytes_in (root_tree_items m r) ≤ ROOT_TREE_ROOM
 
 abbrev pub TreesAreCounted : Type 0
 TreesAreCounted = (image other : Image) (m : Making) (made : IsMaking image m) → AreIds (new_ids m) → AreCounted other m made.has_pieces.found.counts

@@ -3,21 +3,26 @@ ghost use Rattle.std.specs.Int.{w32, to_le_bytes};
 ghost use Rattle.csum_kinds.specs.Kind.{kind_sum, kind_width};
 
 use castagnoli::crc32c;
+use sha2::Digest;
 
 /// A kind of checksum, as a superblock names it.
 #[derive(Clone, Copy, Debug, PartialEq, Eq)]
 pub enum SumKind {
     /// CRC-32C, the superblock's type 0.
     Crc32c,
+    /// SHA-256, the superblock's type 2.
+    Sha256,
 }
 
-/// The checksum of the bytes, as the 32 bytes that a node or a superblock begins with: the sum, and zeros behind it.
+/// The checksum of the bytes, as the 32 bytes that a node or a superblock begins with: the sum, and zeros where it is
+/// shorter.
 #[tactic(auto, unfolding(crate::specs::Kind::kind_sum))]
 pub fn kind_sum(kind: SumKind, bytes: &[u8]) -> [u8; 32]
     ensures { result ≡ kind_sum kind bytes.now }
 {
     match kind {
         SumKind::Crc32c => padded(crc32c(bytes)),
+        SumKind::Sha256 => sha2::Sha256::digest(bytes),
     }
 }
 
@@ -27,6 +32,7 @@ pub fn kind_width(kind: SumKind) -> usize
 {
     match kind {
         SumKind::Crc32c => 4,
+        SumKind::Sha256 => 32,
     }
 }
 

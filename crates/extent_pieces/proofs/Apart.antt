@@ -1,45 +1,9 @@
 -- Pieces that have their places do not overlap.
-use Rattle.std.proofs.Common.{◌≡◌, ℕ, zero, suc, ◌+◌, ◌-◌, ◌*◌, ◌/◌, ◌^◌, ◌<◌, ◌≤◌, ◌==◌, ◌&&◌, ◌||◌, ltb, Bool, true, false, List, [], ◌∷◌, ◌++◌, length, map, get_or, take, drop, Option, Some, None, refl, sym, ◌∙◌, ap, arith, subst, ⊎_elim, length-append, eq-eqb}
-use Rattle.std.specs.Prelude.{Contains, All, AllPairs, MatchOption, filter, nat_lt, if◌then◌else◌, unwrap_or}
-use Rattle.std.specs.Int.{div_ceil}
-use Rattle.std.specs.List.{range_with_len}
-use Rattle.std.specs.List.Sorted.{IsPermutation}
-use Rattle.std.proofs.lemmas.Bool.{and_from, and_parts, both_ways, cases_Bool, cases_lt, lt-ltb, ltb-true}
-use Rattle.std.proofs.lemmas.List.{length-map}
-use Rattle.std.proofs.lemmas.List.Elements.{Contains-append_cases, Contains-get_or}
-use Rattle.std.proofs.lemmas.List.Sorted.{Contains-permutation, IsPermutation-sym}
-use Rattle.std.proofs.lemmas.Map.Keys.{IsDistinct-IsPermutation, IsDistinct-from_apart, apart_from_distinct}
+use Rattle.extent_pieces.proofs.Imports.{◌≡◌, ℕ, zero, suc, ◌+◌, ◌-◌, ◌*◌, ◌/◌, ◌^◌, ◌<◌, ◌≤◌, ◌==◌, ◌&&◌, ◌||◌, ltb, Bool, true, false, List, [], ◌∷◌, ◌++◌, length, map, get_or, take, drop, Option, Some, None, refl, sym, ◌∙◌, ap, arith, subst, ⊎_elim, length-append, eq-eqb, Contains, All, AllPairs, MatchOption, filter, nat_lt, if◌then◌else◌, unwrap_or, div_ceil, range_with_len, IsPermutation, and_from, and_parts, both_ways, cases_Bool, cases_lt, lt-ltb, ltb-true, length-map, Contains-append_cases, Contains-get_or, Contains-permutation, IsPermutation-sym, IsDistinct-IsPermutation, IsDistinct-from_apart, apart_from_distinct, AllPairs-cons, from_filter, from_flat_map, from_map, Image, has, IsFreeUnit, all_from_contains, contains_cases, contains_head, contains_tail, range_contains, disk_or_hole, is_held, named_block, ObjectStat, no_stat, stat_at, used_of, volume_items, accepted_is_small, used_length, is_among, Counts, Piece, IsSoundPlan, plans_sound, need, Pieces, Tail, is_tail, FileAt, file_at, file_blocks, file_tails, has_tail, is_file_inline, owner, tails, files_of, AreKeptPieces, HasPlan, IsKeptPiece, LieWell, LiesInUnit, PlacesAreApart, PlansHaveRoom, Owners, advanced, copied_pieces, kept_pieces, tail_piece, WerePlaced, FitsPlan, at_place, at_places, blocks_of_units}
 use Rattle.std.proofs.Math.Seq.{drop-append_seam, take-append_seam}
-use Rattle.std.proofs.lemmas.List.Kept.{AllPairs-cons}
-use Rattle.reiser_volume.proofs.fs_paths.Lists.{from_filter, from_flat_map, from_map}
-use Rattle.reiser_bitmap.specs.outside.History.{Image}
-use Rattle.reiser_bitmap.specs.Bits.{has}
-use Rattle.reiser_bitmap.specs.Units.{IsFreeUnit}
-use Rattle.reiser_bitmap.proofs.Ranges.{all_from_contains, contains_cases, contains_head, contains_tail, range_contains}
 use Rattle.reiser_volume_files.specs.declared.map.RunFrom.TheVariants.{Tail as InTree}
-use Rattle.reiser_volume_files.specs.Runs.{disk_or_hole, is_held}
-use Rattle.reiser_volume_files.specs.Bytes.{named_block}
-use Rattle.reiser_volume_objects.specs.declared.stat.ObjectStat.{ObjectStat}
-use Rattle.reiser_volume.specs.Made.{no_stat, stat_at}
-use Rattle.reiser_volume.specs.Volume.{used_of, volume_items}
-use Rattle.reiser_volume.proofs.Bounds.{accepted_is_small}
-use Rattle.reiser_volume.proofs.Holding.{used_length}
-use Rattle.unit_plan.specs.Choice.{is_among}
-use Rattle.unit_plan.specs.declared.counts.Counts.{Counts}
 use Rattle.convert_options.specs.declared.options.Options.{Options}
-use Rattle.unit_plan.specs.declared.piece.Piece.{Piece}
 use Rattle.unit_plan.specs.declared.plan.Plan.{Plan}
-use Rattle.unit_plan.specs.Laws.{IsSoundPlan}
-use Rattle.unit_plan.proofs.Sound.{plans_sound}
-use Rattle.unit_plan.specs.Needed.{need}
-use Rattle.extent_pieces.specs.declared.pieces.Pieces.{Pieces}
-use Rattle.extent_pieces.specs.declared.tail.Tail.{Tail}
-use Rattle.reiser_volume.specs.Inline.{is_tail}
-use Rattle.extent_pieces.specs.Files.{FileAt, file_at, file_blocks, file_tails, has_tail, is_inline, owner, tails}
-use Rattle.extent_pieces.specs.Found.{files_of}
-use Rattle.extent_pieces.specs.Laws.{AreKeptPieces, HasPlan, IsKeptPiece, LieWell, LiesInUnit, PlacesAreApart, PlansHaveRoom}
-use Rattle.extent_pieces.specs.Pieces.{Owners, advanced, copied_pieces, kept_pieces, tail_piece}
-use Rattle.extent_pieces.specs.Placed.{ArePlaced, FitsPlan, at_place, at_places, blocks_of_units}
 use Rattle.extent_pieces.proofs.Covering.{IsCopied, is_copied_piece, used_inside}
 use Rattle.extent_pieces.proofs.Ending.{data_used}
 use Rattle.extent_pieces.proofs.Lists.{all_at, all_head, all_tail, pairs_append, pairs_head, pairs_tail}
@@ -301,7 +265,7 @@ module _ (image : Image) (found : Pieces) (o : Options) (plan : Plan) (has_plan 
       omega (arith, short, size, below)
 
   tail_of : (f : FileAt) (t : Tail) → Contains all_files f → Contains (file_tails o.inline f) t → t.at + 1 ≤ 2 ^ 32
-  tail_of f t among = go (is_inline o.inline f)
+  tail_of f t among = go (is_file_inline o.inline f)
     where
       go : (b : Bool) → Contains (if b then [] else map (λ k. record { inode = f.inode; at = k }) (filter (has_tail f) (file_blocks f))) t → t.at + 1 ≤ 2 ^ 32
       go true h = absurd (omega (arith, h.1))
@@ -392,7 +356,7 @@ module _ (image : Image) (found : Pieces) (o : Options) (plan : Plan) (has_plan 
       let data_ = (is_kept p in_p).data_ q.place (omega (arith, low, one), high) in
       both_ways (has used q.place) unused (data_used used q.place data_))))
 
-  pub lie_well : (placed : List Piece) → ArePlaced found.kept plan.data_ old placed → LieWell used plan.data_ placed
+  pub lie_well : (placed : List Piece) → WerePlaced found.kept plan.data_ old placed → LieWell used plan.data_ placed
   lie_well placed are =
       let same : IsPermutation (kept ++ moved) placed =
       subst (λ (xs : List Piece). IsPermutation (xs ++ moved) placed) front (subst (λ (xs : List Piece). IsPermutation (take found.kept old ++ at_places xs places) placed) back are.same) in

@@ -1,8 +1,6 @@
 -- How many numbers pass a test, and how long intervals are together that lie apart.
-use Rattle.std.proofs.Common.{◌≡◌, ℕ, zero, suc, ◌+◌, ◌-◌, ◌<◌, ◌≤◌, ◌||◌, max, Bool, true, false, cond, List, [], ◌∷◌, length, filter, refl, arith}
-use Rattle.std.specs.Prelude.{All, AllPairs, sum_by}
-use Rattle.std.specs.List.{list_any, range_with_len}
-use Rattle.std.proofs.lemmas.List.Sums.{sum_by-cons}
+use Rattle.extent_pieces.proofs.Imports.{◌≡◌, ℕ, zero, suc, ◌+◌, ◌-◌, ◌<◌, ◌≤◌, ◌||◌, max, Bool, true, false, cond, List, [], ◌∷◌, length, refl, arith, All, AllPairs, sum_by, list_any, range_with_len, sum_by-cons}
+use Rattle.std.proofs.Common.{filter}
 use Rattle.extent_pieces.proofs.Lists.{all_head, all_tail, pairs_head, pairs_tail}
 
 -- intervals of numbers from one on to before n that lie one behind the other

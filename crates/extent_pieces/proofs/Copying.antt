@@ -1,14 +1,5 @@
 -- The copied pieces, from the lowest on.
-use Rattle.std.proofs.Common.{◌≡◌, ℕ, ◌+◌, Bool, true, false, not, List, [], ◌∷◌, ◌++◌, length, map, Option, Some, sym, ◌∙◌, ap, arith, ⊎_elim}
-use Rattle.std.specs.Prelude.{filter}
-use Rattle.std.specs.List.{range_with_len}
-use Rattle.std.proofs.lemmas.Bool.{and_left, and_right, and_from, not-true, cases_eq}
-use Rattle.std.proofs.lemmas.List.{append-nil}
-use Rattle.reiser_bitmap.specs.vol_block.Volume.{is_reserved}
-use Rattle.reiser_bitmap.specs.Bits.{has}
-use Rattle.reiser_bitmap.proofs.Ends.{IsEnd}
-use Rattle.unit_plan.specs.declared.piece.Piece.{Piece}
-use Rattle.extent_pieces.specs.Pieces.{Owners, is_copied, copied_piece, copied_pieces}
+use Rattle.extent_pieces.proofs.Imports.{◌≡◌, ℕ, ◌+◌, Bool, true, false, not, List, [], ◌∷◌, ◌++◌, length, map, Option, Some, sym, ◌∙◌, ap, arith, ⊎_elim, filter, range_with_len, and_left, and_right, and_from, not-true, cases_eq, append-nil, is_reserved, has, IsEnd, Piece, Owners, is_copied, copied_piece, copied_pieces}
 use Rattle.extent_pieces.proofs.Filtering.{more_none, more_one}
 
 -- after a look at the blocks below b

@@ -1,19 +1,5 @@
 -- Pieces hold each used block once.
-use Rattle.std.proofs.Common.{◌≡◌, ℕ, ◌-◌, ◌<◌, ◌≤◌, Bool, true, false, not, List, ◌++◌, length, map, Option, Some, None, refl, sym, ◌∙◌, ap, arith, subst, ⊎_elim}
-use Rattle.std.specs.Prelude.{Contains, AllPairs, filter}
-use Rattle.std.specs.List.{range_with_len}
-use Rattle.std.proofs.lemmas.Bool.{and_from, and_parts, both_ways, cases_Bool, cases_lt, not_from_false}
-use Rattle.std.proofs.lemmas.List.{get_or_past}
-use Rattle.std.proofs.lemmas.List.Elements.{All-append, Contains-append_left, Contains-append_right}
-use Rattle.reiser_volume.proofs.fs_paths.Lists.{from_filter, from_map, in_filter, in_map}
-use Rattle.reiser_bitmap.specs.vol_block.Volume.{is_reserved}
-use Rattle.reiser_bitmap.specs.Bits.{has}
-use Rattle.reiser_bitmap.proofs.MaximalRuns.{starts_ascend}
-use Rattle.reiser_bitmap.proofs.Ranges.{all_from_contains, contains_range}
-use Rattle.unit_plan.specs.declared.piece.Piece.{Piece}
-use Rattle.extent_pieces.specs.declared.tail.Tail.{Tail}
-use Rattle.extent_pieces.specs.Laws.{AreKeptPieces, CoverUsed, HoldsBlock, HoldsUsed, IsInPiece, IsKeptPiece, PiecesCoverUsed}
-use Rattle.extent_pieces.specs.Pieces.{Owners, advanced, copied_piece, copied_pieces, is_copied, kept_pieces, pieces, tail_piece}
+use Rattle.extent_pieces.proofs.Imports.{◌≡◌, ℕ, ◌-◌, ◌<◌, ◌≤◌, Bool, true, false, not, List, ◌++◌, length, map, Option, Some, None, refl, sym, ◌∙◌, ap, arith, subst, ⊎_elim, Contains, AllPairs, filter, range_with_len, and_from, and_parts, both_ways, cases_Bool, cases_lt, not_from_false, get_or_past, All-append, Contains-append_left, Contains-append_right, from_filter, from_map, in_filter, in_map, is_reserved, has, starts_ascend, all_from_contains, contains_range, Piece, Tail, AreKeptPieces, CoverUsed, HoldsBlock, HoldsUsed, IsInPiece, IsKeptPiece, PiecesCoverUsed, Owners, advanced, copied_piece, copied_pieces, is_copied, kept_pieces, pieces, tail_piece}
 use Rattle.extent_pieces.proofs.Ending.{data_unreserved, data_used}
 use Rattle.extent_pieces.proofs.Joining.{advanced_zero}
 use Rattle.extent_pieces.proofs.Lists.{all_at, any_from, pairs_append, pairs_map}

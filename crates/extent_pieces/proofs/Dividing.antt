@@ -1,15 +1,5 @@
 -- The kept pieces, from the lowest on.
-use Rattle.std.proofs.Common.{◌≡◌, ℕ, ◌+◌, ◌-◌, ◌<◌, ◌≤◌, Bool, true, false, not, List, [], ◌∷◌, ◌++◌, length, map, refl, sym, ◌∙◌, ap, arith, ⊎_elim}
-use Rattle.std.specs.Prelude.{filter}
-use Rattle.std.specs.List.{range_with_len}
-use Rattle.std.proofs.lemmas.Bool.{and_from, and_left, and_right, not_from_false, not_from_true, and_parts, both_ways, cases_lt, cases_eq, cases_Bool, not-true}
-use Rattle.std.proofs.lemmas.List.{append-nil, get_or_past}
-use Rattle.reiser_bitmap.specs.vol_block.Volume.{is_reserved}
-use Rattle.reiser_bitmap.specs.Bits.{has}
-use Rattle.reiser_bitmap.proofs.Ends.{IsEnd}
-use Rattle.unit_plan.specs.Choice.{is_data}
-use Rattle.unit_plan.specs.declared.piece.Piece.{Piece}
-use Rattle.extent_pieces.specs.Pieces.{Owners, is_joined, begins_piece, kept_piece, kept_pieces}
+use Rattle.extent_pieces.proofs.Imports.{◌≡◌, ℕ, ◌+◌, ◌-◌, ◌<◌, ◌≤◌, Bool, true, false, not, List, [], ◌∷◌, ◌++◌, length, map, refl, sym, ◌∙◌, ap, arith, ⊎_elim, filter, range_with_len, and_from, and_left, and_right, not_from_false, not_from_true, and_parts, both_ways, cases_lt, cases_eq, cases_Bool, not-true, append-nil, get_or_past, is_reserved, has, IsEnd, is_data, Piece, Owners, is_joined, begins_piece, kept_piece, kept_pieces}
 use Rattle.extent_pieces.proofs.Filtering.{more_none, more_one}
 use Rattle.extent_pieces.proofs.Joining.{joins, joined_through, joined_between, begins_from, none_begins_off, none_begins_joined}
 

@@ -1,12 +1,5 @@
 -- Where a kept piece ends.
-use Rattle.std.proofs.Common.{◌≡◌, ◌⊎◌, inl, inr, ℕ, ◌+◌, ◌-◌, ◌*◌, ◌/◌, ◌^◌, ◌<◌, ◌≤◌, ◌==◌, min, Bool, true, false, not, List, length, sym, arith, subst, ⊎_elim}
-use Rattle.std.proofs.lemmas.Bool.{and_from, and_left, and_right, and_parts, both_ways, cases_Bool, cases_lt, not-true}
-use Rattle.reiser_bitmap.specs.vol_block.Volume.{is_reserved}
-use Rattle.reiser_bitmap.specs.Bits.{has}
-use Rattle.reiser_bitmap.specs.Next.{end_of_run}
-use Rattle.reiser_bitmap.proofs.Ends.{IsEnd, end_facts}
-use Rattle.unit_plan.specs.Choice.{is_data}
-use Rattle.extent_pieces.specs.Pieces.{Owners, advanced, is_owner, is_joined}
+use Rattle.extent_pieces.proofs.Imports.{◌≡◌, ◌⊎◌, inl, inr, ℕ, ◌+◌, ◌-◌, ◌*◌, ◌/◌, ◌^◌, ◌<◌, ◌≤◌, ◌==◌, min, Bool, true, false, not, List, length, sym, arith, subst, ⊎_elim, and_from, and_left, and_right, and_parts, both_ways, cases_Bool, cases_lt, not-true, is_reserved, has, end_of_run, IsEnd, end_facts, is_data, Owners, advanced, is_owner, is_joined}
 use Rattle.extent_pieces.proofs.Joining.{is_joined_from, joins, same_owner}
 
 pub data_used : (used : List Bool) (b : ℕ) → is_data used b ≡ true → has used b ≡ true

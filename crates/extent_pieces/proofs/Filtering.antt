@@ -1,11 +1,5 @@
 -- Pieces for the numbers that pass a test, one after the other.
-use Rattle.std.proofs.Common.{◌≡◌, ℕ, ◌+◌, ◌-◌, ◌<◌, ◌≤◌, Bool, true, false, List, [], ◌∷◌, ◌++◌, map, refl, sym, ◌∙◌, ap, arith, append_assoc}
-use Rattle.std.specs.Prelude.{filter}
-use Rattle.std.specs.List.{range_with_len}
-use Rattle.std.proofs.lemmas.List.{append-nil, map-append}
-use Rattle.std.proofs.lemmas.List.Elements.{filter-append}
-use Rattle.reiser_bitmap.proofs.Ranges.{range_cut, filter_range_none}
-use Rattle.unit_plan.specs.declared.piece.Piece.{Piece}
+use Rattle.extent_pieces.proofs.Imports.{◌≡◌, ℕ, ◌+◌, ◌-◌, ◌<◌, ◌≤◌, Bool, true, false, List, [], ◌∷◌, ◌++◌, map, refl, sym, ◌∙◌, ap, arith, append_assoc, filter, range_with_len, append-nil, map-append, filter-append, range_cut, filter_range_none, Piece}
 
 -- no number passes from a on to before c
 pub more_none : (p : ℕ → Bool) (f : ℕ → Piece) (old new : List Piece) (a c : ℕ) → a ≤ c → ((k : ℕ) → a ≤ k → k < c → p k ≡ false)

@@ -1,13 +1,6 @@
 -- A plan for what was counted has room for the pieces that are not kept.
-use Rattle.std.proofs.Common.{◌≡◌, ◌<◌, ◌+◌, ◌^◌, length, arith}
-use Rattle.std.specs.Int.{div_ceil}
-use Rattle.extent_pieces.specs.Laws.{CountedPiecesFit}
+use Rattle.extent_pieces.proofs.Imports.{◌≡◌, ◌<◌, ◌+◌, ◌^◌, length, arith, div_ceil, CountedPiecesFit, IsFreeUnit, all_from_contains, IsSoundPlan, need, plans_sound}
 use Rattle.extent_pieces.proofs.Lists.{all_at}
-use Rattle.reiser_bitmap.specs.Units.{IsFreeUnit}
-use Rattle.reiser_bitmap.proofs.Ranges.{all_from_contains}
-use Rattle.unit_plan.specs.Laws.{IsSoundPlan}
-use Rattle.unit_plan.specs.Needed.{need}
-use Rattle.unit_plan.proofs.Sound.{plans_sound}
 
 pub counted_pieces_fit : CountedPiecesFit
 counted_pieces_fit used found o plan counted small enough is =

@@ -1,46 +1,30 @@
 -- What is gathered of the files, one after the other.
-use Rattle.std.proofs.Common.{append_assoc, take, Some, None, ◌≡◌, ℕ, ◌+◌, ◌<◌, ◌&&◌, Bool, true, false, List, [], ◌∷◌, ◌++◌, length, map, refl, sym, ◌∙◌, ap, arith, subst, ⊎_elim}
-use Rattle.std.specs.Prelude.{filter, nat_le, slice_get, sum_by}
-use Rattle.std.specs.List.{flat_map}
-use Rattle.std.proofs.lemmas.List.{append-nil, length_push, map-append, take_more}
-use Rattle.std.proofs.lemmas.Option.{get_or_from_slice_get}
+use Rattle.extent_pieces.proofs.Imports.{append_assoc, take, Some, None, ◌≡◌, ℕ, ◌+◌, ◌<◌, ◌&&◌, Bool, true, false, List, [], ◌∷◌, ◌++◌, length, map, refl, sym, ◌∙◌, ap, arith, subst, ⊎_elim, filter, nat_le, slice_get, sum_by, flat_map, append-nil, length_push, map-append, take_more, get_or_from_slice_get, filter-append, sum_by_push, and_parts, cases_Bool, ReiserItem, FileRun, file_runs, ObjectKey, FileParts, OwnedRun, Tail, FileAt, file_at, is_file_at, is_symlink_at, files_among, symlinks_among, inline_files, is_file_inline, file_tails, tails, Gain, Gains, bytes_with, count_with, Gathers, adds_inline, adds_file, capped, file_owned, owned_in, tails_in, is_tail_alone}
 use Rattle.std.proofs.lemmas.Grind.{flat_map-append}
-use Rattle.std.proofs.lemmas.List.Elements.{filter-append}
-use Rattle.std.proofs.lemmas.List.Sums.{sum_by_push}
-use Rattle.std.proofs.lemmas.Bool.{and_parts, cases_Bool}
-use Rattle.reiser_volume.specs.reiser_walk.Items.{Item}
-use Rattle.reiser_volume_files.specs.declared.map.FileRun.{FileRun}
-use Rattle.reiser_volume_files.specs.Runs.{file_runs}
-use Rattle.reiser_volume_objects.specs.declared.key.ObjectKey.{ObjectKey}
 use Rattle.extent_pieces.proofs.Tailing.{one_tail, one_tail_owns, tails_of_runs}
-use Rattle.extent_pieces.specs.declared.parts.FileParts.{FileParts}
-use Rattle.extent_pieces.specs.declared.run.OwnedRun.{OwnedRun}
-use Rattle.extent_pieces.specs.declared.tail.Tail.{Tail}
-use Rattle.extent_pieces.specs.Files.{FileAt, file_at, is_file_at, is_symlink_at, files_among, symlinks_among, inline_files, is_inline, file_tails, tails}
-use Rattle.extent_pieces.specs.Parts.{Gain, Gains, bytes_with, count_with, Gathers, adds_inline, adds_file, capped, file_owned, owned_in, tails_in, is_tail_alone}
 
 -- one object more
-files_yes : (items : List Item) (keys some : List ObjectKey) (key : ObjectKey) → is_file_at items key ≡ true → files_among items keys (some ++ key ∷ []) ≡ files_among items keys some ++ file_at items keys key ∷ []
+files_yes : (items : List ReiserItem) (keys some : List ObjectKey) (key : ObjectKey) → is_file_at items key ≡ true → files_among items keys (some ++ key ∷ []) ≡ files_among items keys some ++ file_at items keys key ∷ []
 unfolding files_among
 files_yes items keys some key t =
     let kept : filter (is_file_at items) (key ∷ []) ≡ key ∷ [] = rw t refl in
     ap (map (file_at items keys)) (filter-append (is_file_at items) some (key ∷ []) ∙ ap (λ (xs : List ObjectKey). filter (is_file_at items) some ++ xs) kept)
     ∙ map-append (file_at items keys) (filter (is_file_at items) some) (key ∷ [])
 
-files_no : (items : List Item) (keys some : List ObjectKey) (key : ObjectKey) → is_file_at items key ≡ false → files_among items keys (some ++ key ∷ []) ≡ files_among items keys some
+files_no : (items : List ReiserItem) (keys some : List ObjectKey) (key : ObjectKey) → is_file_at items key ≡ false → files_among items keys (some ++ key ∷ []) ≡ files_among items keys some
 unfolding files_among
 files_no items keys some key t =
     let kept : filter (is_file_at items) (key ∷ []) ≡ [] = rw t refl in
     ap (map (file_at items keys)) (filter-append (is_file_at items) some (key ∷ []) ∙ (ap (λ (xs : List ObjectKey). filter (is_file_at items) some ++ xs) kept ∙ append-nil (filter (is_file_at items) some)))
 
-links_yes : (items : List Item) (keys some : List ObjectKey) (key : ObjectKey) → is_symlink_at items key ≡ true → symlinks_among items keys (some ++ key ∷ []) ≡ symlinks_among items keys some ++ file_at items keys key ∷ []
+links_yes : (items : List ReiserItem) (keys some : List ObjectKey) (key : ObjectKey) → is_symlink_at items key ≡ true → symlinks_among items keys (some ++ key ∷ []) ≡ symlinks_among items keys some ++ file_at items keys key ∷ []
 unfolding symlinks_among
 links_yes items keys some key t =
     let kept : filter (is_symlink_at items) (key ∷ []) ≡ key ∷ [] = rw t refl in
     ap (map (file_at items keys)) (filter-append (is_symlink_at items) some (key ∷ []) ∙ ap (λ (xs : List ObjectKey). filter (is_symlink_at items) some ++ xs) kept)
     ∙ map-append (file_at items keys) (filter (is_symlink_at items) some) (key ∷ [])
 
-links_no : (items : List Item) (keys some : List ObjectKey) (key : ObjectKey) → is_symlink_at items key ≡ false → symlinks_among items keys (some ++ key ∷ []) ≡ symlinks_among items keys some
+links_no : (items : List ReiserItem) (keys some : List ObjectKey) (key : ObjectKey) → is_symlink_at items key ≡ false → symlinks_among items keys (some ++ key ∷ []) ≡ symlinks_among items keys some
 unfolding symlinks_among
 links_no items keys some key t =
     let kept : filter (is_symlink_at items) (key ∷ []) ≡ [] = rw t refl in
@@ -76,15 +60,15 @@ collects_link inline fs ls f old new has gains =
     }
 
 -- a file more
-inline_yes : (inline : Bool) (fs : List FileAt) (f : FileAt) → is_inline inline f ≡ true → inline_files inline (fs ++ f ∷ []) ≡ inline_files inline fs ++ f ∷ []
+inline_yes : (inline : Bool) (fs : List FileAt) (f : FileAt) → is_file_inline inline f ≡ true → inline_files inline (fs ++ f ∷ []) ≡ inline_files inline fs ++ f ∷ []
 inline_yes inline fs f t =
-    let kept : filter (is_inline inline) (f ∷ []) ≡ f ∷ [] = rw t refl in
-    filter-append (is_inline inline) fs (f ∷ []) ∙ ap (λ (xs : List FileAt). filter (is_inline inline) fs ++ xs) kept
+    let kept : filter (is_file_inline inline) (f ∷ []) ≡ f ∷ [] = rw t refl in
+    filter-append (is_file_inline inline) fs (f ∷ []) ∙ ap (λ (xs : List FileAt). filter (is_file_inline inline) fs ++ xs) kept
 
-inline_no : (inline : Bool) (fs : List FileAt) (f : FileAt) → is_inline inline f ≡ false → inline_files inline (fs ++ f ∷ []) ≡ inline_files inline fs
+inline_no : (inline : Bool) (fs : List FileAt) (f : FileAt) → is_file_inline inline f ≡ false → inline_files inline (fs ++ f ∷ []) ≡ inline_files inline fs
 inline_no inline fs f t =
-    let kept : filter (is_inline inline) (f ∷ []) ≡ [] = rw t refl in
-    filter-append (is_inline inline) fs (f ∷ []) ∙ (ap (λ (xs : List FileAt). filter (is_inline inline) fs ++ xs) kept ∙ append-nil (filter (is_inline inline) fs))
+    let kept : filter (is_file_inline inline) (f ∷ []) ≡ [] = rw t refl in
+    filter-append (is_file_inline inline) fs (f ∷ []) ∙ (ap (λ (xs : List FileAt). filter (is_file_inline inline) fs ++ xs) kept ∙ append-nil (filter (is_file_inline inline) fs))
 
 -- what a file adds to the tails
 tails_more : (inline : Bool) (fs : List FileAt) (f : FileAt) → tails inline (fs ++ f ∷ []) ≡ tails inline fs ++ file_tails inline f
@@ -94,7 +78,7 @@ owned_more : (fs : List FileAt) (f : FileAt) → flat_map file_owned (fs ++ f �
 owned_more fs f = flat_map-append file_owned fs (f ∷ []) ∙ ap (λ (xs : List OwnedRun). flat_map file_owned fs ++ xs) (append-nil (file_owned f))
 
 -- a file that stays in the tree
-collects_inline : (inline : Bool) (fs ls : List FileAt) (f : FileAt) (old new : FileParts) → is_inline inline f ≡ true → file_owned f ≡ [] → Collects inline fs ls old → Gains (adds_inline f.size) old new
+collects_inline : (inline : Bool) (fs ls : List FileAt) (f : FileAt) (old new : FileParts) → is_file_inline inline f ≡ true → file_owned f ≡ [] → Collects inline fs ls old → Gains (adds_inline f.size) old new
     → Collects inline (fs ++ f ∷ []) ls new
 collects_inline inline fs ls f old new t none has gains =
     let files : inline_files inline (fs ++ f ∷ []) ≡ inline_files inline fs ++ f ∷ [] = inline_yes inline fs f t in
@@ -115,7 +99,7 @@ collects_inline inline fs ls f old new t none has gains =
     }
 
 -- a file with runs and tails
-collects_runs : (inline : Bool) (fs ls : List FileAt) (f : FileAt) (old new : FileParts) (gain : Gain) → is_inline inline f ≡ false → gain.owned ≡ file_owned f → gain.tails ≡ file_tails inline f
+collects_runs : (inline : Bool) (fs ls : List FileAt) (f : FileAt) (old new : FileParts) (gain : Gain) → is_file_inline inline f ≡ false → gain.owned ≡ file_owned f → gain.tails ≡ file_tails inline f
     → gain.inline ≡ None → Collects inline fs ls old → Gains gain old new → Collects inline (fs ++ f ∷ []) ls new
 collects_runs inline fs ls f old new gain t owned tails_are none has gains =
     let files : inline_files inline (fs ++ f ∷ []) ≡ inline_files inline fs = inline_no inline fs f t in
@@ -143,26 +127,26 @@ pub collects_file : (inline : Bool) (fs ls : List FileAt) (f : FileAt) (old new 
     → Gains (adds_file inline f.inode (file_runs f.items f.size) f.size) old new → Collects inline (fs ++ f ∷ []) ls new
 collects_file inline fs ls f old new has gains =
     let runs : List FileRun = file_runs f.items f.size in
-    let same : (inline && is_tail_alone runs f.size) ≡ is_inline inline f = one_tail inline f in
+    let same : (inline && is_tail_alone runs f.size) ≡ is_file_inline inline f = one_tail inline f in
     ⊎_elim
-    (λ (t : is_inline inline f ≡ true).
+    (λ (t : is_file_inline inline f ≡ true).
     let alone : (inline && is_tail_alone runs f.size) ≡ true = same ∙ t in
     collects_inline inline fs ls f old new t (none_owned inline f alone) has (subst (λ (g : Gain). Gains g old new) (inline_gain inline f.inode runs f.size alone) gains))
-    (λ (off : is_inline inline f ≡ false).
+    (λ (off : is_file_inline inline f ≡ false).
     let apart : (inline && is_tail_alone runs f.size) ≡ false = same ∙ off in
     let gain : Gain = record { owned = flat_map (owned_in f.inode) runs; tails = flat_map (tails_in f.inode) runs; inline = None } in
     let no_inline : file_tails inline f ≡ flat_map (tails_in f.inode) runs = rw off (sym (tails_of_runs f)) in
     collects_runs inline fs ls f old new gain off refl (sym no_inline) refl has (subst (λ (g : Gain). Gains g old new) (runs_gain inline f.inode runs f.size apart) gains))
-    (cases_Bool (is_inline inline f))
+    (cases_Bool (is_file_inline inline f))
 
 -- Some of the named objects, and one more.
-pub gathers : (inline : Bool) (items : List Item) (keys some : List ObjectKey) (parts : FileParts) → Collects inline (files_among items keys some) (symlinks_among items keys some) parts → Gathers inline items keys some parts
+pub gathers : (inline : Bool) (items : List ReiserItem) (keys some : List ObjectKey) (parts : FileParts) → Collects inline (files_among items keys some) (symlinks_among items keys some) parts → Gathers inline items keys some parts
 gathers inline items keys some parts has = record { owned_are = has.owned_are; counted = record { tails_are = has.tails_are; inlines_are = has.inlines_are; bytes_are = has.bytes_are } }
 
-collected : (inline : Bool) (items : List Item) (keys some : List ObjectKey) (parts : FileParts) → Gathers inline items keys some parts → Collects inline (files_among items keys some) (symlinks_among items keys some) parts
+collected : (inline : Bool) (items : List ReiserItem) (keys some : List ObjectKey) (parts : FileParts) → Gathers inline items keys some parts → Collects inline (files_among items keys some) (symlinks_among items keys some) parts
 collected inline items keys some parts has = record { owned_are = has.owned_are; tails_are = has.counted.tails_are; inlines_are = has.counted.inlines_are; bytes_are = has.counted.bytes_are }
 
-pub gathers_link : (inline : Bool) (items : List Item) (keys some : List ObjectKey) (key : ObjectKey) (size : ℕ) (old new : FileParts) → Gathers inline items keys some old → is_file_at items key ≡ false
+pub gathers_link : (inline : Bool) (items : List ReiserItem) (keys some : List ObjectKey) (key : ObjectKey) (size : ℕ) (old new : FileParts) → Gathers inline items keys some old → is_file_at items key ≡ false
     → is_symlink_at items key ≡ true → size ≡ (file_at items keys key).size → Gains (adds_inline size) old new → Gathers inline items keys (some ++ key ∷ []) new
 gathers_link inline items keys some key size old new has off t is gains =
     gathers inline items keys (some ++ key ∷ []) new
@@ -171,7 +155,7 @@ gathers_link inline items keys some key size old new has off t is gains =
     (collects_link inline (files_among items keys some) (symlinks_among items keys some) (file_at items keys key) old new (collected inline items keys some old has)
     (subst (λ (n : ℕ). Gains (adds_inline n) old new) is gains))))
 
-pub gathers_file : (inline : Bool) (items : List Item) (keys some : List ObjectKey) (key : ObjectKey) (old new : FileParts) → Gathers inline items keys some old → is_file_at items key ≡ true
+pub gathers_file : (inline : Bool) (items : List ReiserItem) (keys some : List ObjectKey) (key : ObjectKey) (old new : FileParts) → Gathers inline items keys some old → is_file_at items key ≡ true
     → is_symlink_at items key ≡ false → Gains (adds_file inline (file_at items keys key).inode (file_runs (file_at items keys key).items (file_at items keys key).size) (file_at items keys key).size) old new
     → Gathers inline items keys (some ++ key ∷ []) new
 gathers_file inline items keys some key old new has t off gains =
@@ -180,7 +164,7 @@ gathers_file inline items keys some key old new has t off gains =
     (subst (λ (ls : List FileAt). Collects inline (files_among items keys some ++ file_at items keys key ∷ []) ls new) (sym (links_no items keys some key off))
     (collects_file inline (files_among items keys some) (symlinks_among items keys some) (file_at items keys key) old new (collected inline items keys some old has) gains)))
 
-pub gathers_other : (inline : Bool) (items : List Item) (keys some : List ObjectKey) (key : ObjectKey) (parts : FileParts) → Gathers inline items keys some parts → is_file_at items key ≡ false
+pub gathers_other : (inline : Bool) (items : List ReiserItem) (keys some : List ObjectKey) (key : ObjectKey) (parts : FileParts) → Gathers inline items keys some parts → is_file_at items key ≡ false
     → is_symlink_at items key ≡ false → Gathers inline items keys (some ++ key ∷ []) parts
 gathers_other inline items keys some key parts has off none =
     gathers inline items keys (some ++ key ∷ []) parts
@@ -189,7 +173,7 @@ gathers_other inline items keys some key parts has off none =
     (collected inline items keys some parts has)))
 
 -- of no objects
-pub gathers_none : (inline : Bool) (items : List Item) (keys : List ObjectKey) (parts : FileParts) → parts.owned.items ≡ [] → parts.tails.items ≡ [] → parts.inlines ≡ 0 → parts.inline_bytes ≡ 0
+pub gathers_none : (inline : Bool) (items : List ReiserItem) (keys : List ObjectKey) (parts : FileParts) → parts.owned.items ≡ [] → parts.tails.items ≡ [] → parts.inlines ≡ 0 → parts.inline_bytes ≡ 0
     → Gathers inline items keys [] parts
 unfolding files_among symlinks_among
 gathers_none inline items keys parts owned tails_are none empty = record { owned_are = owned; counted = record { tails_are = tails_are; inlines_are = none; bytes_are = empty } }

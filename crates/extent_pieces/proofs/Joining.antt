@@ -1,8 +1,5 @@
 -- When two blocks lie in one piece.
-use Rattle.std.proofs.Common.{◌≡◌, ℕ, ◌+◌, ◌-◌, ◌/◌, ◌<◌, ◌≤◌, ◌==◌, ◌&&◌, ltb, Bool, true, false, List, Option, Some, None, refl, sym, ◌∙◌, ap, arith, ⊎_elim, eq-eqb}
-use Rattle.std.proofs.lemmas.Bool.{and_from, and_parts, and_left, and_right, cases_Bool, eqb-true, false≢true, lt-ltb, not_from_true, not_from_false}
-use Rattle.unit_plan.specs.Choice.{is_data}
-use Rattle.extent_pieces.specs.Pieces.{Owners, advanced, is_owner, is_joined, begins_piece}
+use Rattle.extent_pieces.proofs.Imports.{◌≡◌, ℕ, ◌+◌, ◌-◌, ◌/◌, ◌<◌, ◌≤◌, ◌==◌, ◌&&◌, ltb, Bool, true, false, List, Option, Some, None, refl, sym, ◌∙◌, ap, arith, ⊎_elim, eq-eqb, and_from, and_parts, and_left, and_right, cases_Bool, eqb-true, false≢true, lt-ltb, not_from_true, not_from_false, is_data, Owners, advanced, is_owner, is_joined, begins_piece}
 
 pub is_owner_refl : (a : Option (ℕ × ℕ)) → is_owner a a ≡ true
 is_owner_refl None = refl

@@ -7,6 +7,7 @@ pub mod Ending
 pub mod Filtering
 pub mod Fitting
 pub mod Gathering
+pub mod Imports
 pub mod Joining
 pub mod Lists
 pub mod Making

@@ -1,9 +1,5 @@
 -- What holds of each element of a list, and of each two.
-use Rattle.std.proofs.Common.{◌≡◌, zero, suc, List, [], ◌∷◌, ◌++◌, map, arith, subst, ⊎_elim}
-use Rattle.std.specs.Prelude.{Contains, All, AllPairs, Any}
-use Rattle.std.proofs.lemmas.List.Elements.{All-append}
-use Rattle.std.proofs.lemmas.List.Kept.{AllPairs-cons}
-use Rattle.reiser_bitmap.proofs.Ranges.{all_from_contains, contains_cases, contains_head, contains_tail}
+use Rattle.extent_pieces.proofs.Imports.{◌≡◌, zero, suc, List, [], ◌∷◌, ◌++◌, map, arith, subst, ⊎_elim, Contains, All, AllPairs, Any, All-append, AllPairs-cons, all_from_contains, contains_cases, contains_head, contains_tail}
 
 pub pairs_tail : {X : Type 0} (R : X → X → Type 0) (x : X) (xs : List X) → AllPairs R (x ∷ xs) → AllPairs R xs
 pairs_tail R x xs pairs = λ i j d order inside. pairs (suc i) (suc j) d (omega arith) (omega arith)

@@ -1,28 +1,6 @@
 -- The pieces of a volume and its counts, made of what was gathered of its files.
-use Rattle.std.proofs.Common.{◌≡◌, ℕ, ◌^◌, ◌<◌, Bool, List, [], ◌++◌, length, map, refl, sym, ◌∙◌, ap, arith, subst, append_assoc, length-append}
-use Rattle.std.specs.Prelude.{sum_by}
-use Rattle.std.proofs.lemmas.List.{length-map}
-use Rattle.indexmap.specs.IndexMap.{keys}
-use Rattle.reiser_bitmap.specs.outside.History.{Image}
-use Rattle.reiser_bitmap.specs.Runs.{free_runs}
-use Rattle.reiser_volume_objects.specs.declared.key.ObjectKey.{ObjectKey}
-use Rattle.reiser_volume_objects.specs.declared.naming.Naming.{Naming}
-use Rattle.reiser_volume.specs.declared.volume.Volume.{Volume}
-use Rattle.reiser_volume.specs.Opened.{IsOpened, links_in}
-use Rattle.reiser_volume.specs.Volume.{used_of, volume_items, IsAccepted}
-use Rattle.unit_plan.specs.declared.counts.Counts.{Counts}
-use Rattle.unit_plan.specs.declared.piece.Piece.{Piece}
-use Rattle.unit_plan.specs.Needed.{AreSmall}
-use Rattle.extent_pieces.specs.declared.parts.FileParts.{FileParts}
-use Rattle.extent_pieces.specs.declared.pieces.Pieces.{Pieces}
-use Rattle.extent_pieces.specs.declared.tail.Tail.{Tail}
-use Rattle.extent_pieces.specs.Files.{owner, tails}
-use Rattle.extent_pieces.specs.Found.{IsFound, counts_of, files_of}
-use Rattle.extent_pieces.specs.Laws.{AreSortedKeys}
-use Rattle.extent_pieces.specs.Owned.{TellOwners}
-use Rattle.extent_pieces.specs.Parts.{AreParts, capped}
-use Rattle.extent_pieces.specs.Pieces.{Owners, copied_pieces, kept_pieces, pieces, tail_piece}
-use Rattle.extent_pieces.specs.Tallies.{Tells}
+use Rattle.extent_pieces.proofs.Imports.{◌≡◌, ℕ, ◌^◌, ◌<◌, Bool, List, [], ◌++◌, length, map, refl, sym, ◌∙◌, ap, arith, subst, append_assoc, length-append, sum_by, length-map, keys, Image, free_runs, ObjectKey, Naming, Volume, IsOpened, links_in, used_of, volume_items, IsAccepted, Counts, Piece, AreSmall, FileParts, Pieces, Tail, owner, tails, IsFound, counts_of, files_of, AreSortedKeys, TellOwners, AreParts, capped, Owners, copied_pieces, kept_pieces, pieces, tail_piece}
+use Rattle.extent_pieces.specs.Tallies.{TellsCounts}
 use Rattle.extent_pieces.proofs.Named.{numbered}
 use Rattle.extent_pieces.proofs.Once.{owned_once}
 use Rattle.extent_pieces.proofs.Owners.{tells_owners}
@@ -68,7 +46,7 @@ module _ (inline : Bool) (image : Image) (volume : Volume) (accepted : IsAccepte
   small = counts_small image accepted all opened.are_keys inline opened.visible links opened.are_links
 
   pub found : (pieces_ : Pieces) → pieces_.items.items ≡ (kept_pieces volume.bitmap by ++ copied_pieces volume.bitmap by) ++ map tail_piece parts.tails.items → pieces_.kept ≡ length (kept_pieces volume.bitmap by)
-      → Tells volume parts pieces_.items.items pieces_.kept pieces_.counts → IsFound inline image all links pieces_
+      → TellsCounts volume parts pieces_.items.items pieces_.kept pieces_.counts → IsFound inline image all links pieces_
   found pieces_ items kept told =
       let ts : List Tail = tails inline (files_of image all) in
       let bits : volume.bitmap ≡ used = opened.bitmap in
@@ -110,7 +88,7 @@ module _ (inline : Bool) (image : Image) (volume : Volume) (accepted : IsAccepte
   -- the same of the lists as they grew
   pub found_of : (pieces_ : Pieces) (empty kept both shown : List Piece) (map_first map_second : List Bool) (ts : List Tail) → empty ≡ [] → map_first ≡ volume.bitmap → kept ≡ empty ++ kept_pieces map_first by
       → map_second ≡ volume.bitmap → both ≡ kept ++ copied_pieces map_second by → ts ≡ parts.tails.items → pieces_.items.items ≡ both ++ map tail_piece ts → pieces_.kept ≡ length kept
-      → shown ≡ pieces_.items.items → Tells volume parts shown pieces_.kept pieces_.counts → IsFound inline image all links pieces_
+      → shown ≡ pieces_.items.items → TellsCounts volume parts shown pieces_.kept pieces_.counts → IsFound inline image all links pieces_
   found_of pieces_ empty kept both shown map_first map_second ts none first kept_is second both_is tails_are items_are long seen told =
       let kept_all : kept ≡ kept_pieces volume.bitmap by = kept_is ∙ (ap (λ (xs : List Piece). xs ++ kept_pieces map_first by) none ∙ ap (λ (u : List Bool). kept_pieces u by) first) in
       let both_all : both ≡ kept_pieces volume.bitmap by ++ copied_pieces volume.bitmap by =
@@ -118,4 +96,4 @@ module _ (inline : Bool) (image : Image) (volume : Volume) (accepted : IsAccepte
       found pieces_
       (items_are ∙ (ap (λ (xs : List Piece). xs ++ map tail_piece ts) both_all ∙ ap (λ (t : List Tail). (kept_pieces volume.bitmap by ++ copied_pieces volume.bitmap by) ++ map tail_piece t) tails_are))
       (long ∙ ap length kept_all)
-      (subst (λ (xs : List Piece). Tells volume parts xs pieces_.kept pieces_.counts) seen told)
+      (subst (λ (xs : List Piece). TellsCounts volume parts xs pieces_.kept pieces_.counts) seen told)

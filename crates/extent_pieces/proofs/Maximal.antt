@@ -1,18 +1,5 @@
 -- Kept pieces are as long as may be, and hold each block of data once.
-use Rattle.std.proofs.Common.{◌≡◌, ℕ, zero, suc, ◌+◌, ◌-◌, ◌<◌, ◌≤◌, Bool, true, false, List, length, map, get_or, refl, sym, ◌∙◌, ap, arith, subst, ⊎_elim}
-use Rattle.std.specs.Prelude.{filter}
-use Rattle.std.specs.List.{range_with_len}
-use Rattle.std.proofs.lemmas.Bool.{and_parts, and_left, both_ways, cases_Bool, cases_lt, cases_eq}
-use Rattle.std.proofs.lemmas.List.{get_or-map, length-map}
-use Rattle.std.proofs.lemmas.List.Elements.{Contains-get_or}
-use Rattle.reiser_bitmap.specs.Next.{end_of_run}
-use Rattle.reiser_bitmap.proofs.Ends.{IsEnd, end_facts}
-use Rattle.reiser_bitmap.proofs.MaximalRuns.{mapped, starts_ascend}
-use Rattle.reiser_bitmap.proofs.Ranges.{contains_range, contains_filter, filter_contains}
-use Rattle.unit_plan.specs.Choice.{is_data}
-use Rattle.unit_plan.specs.declared.piece.Piece.{Piece}
-use Rattle.extent_pieces.specs.Laws.{IsInPiece, IsKeptPiece, AreKeptPieces}
-use Rattle.extent_pieces.specs.Pieces.{Owners, is_joined, begins_piece, kept_piece, kept_pieces}
+use Rattle.extent_pieces.proofs.Imports.{◌≡◌, ℕ, zero, suc, ◌+◌, ◌-◌, ◌<◌, ◌≤◌, Bool, true, false, List, length, map, get_or, refl, sym, ◌∙◌, ap, arith, subst, ⊎_elim, filter, range_with_len, and_parts, and_left, both_ways, cases_Bool, cases_lt, cases_eq, get_or-map, length-map, Contains-get_or, end_of_run, IsEnd, end_facts, mapped, starts_ascend, contains_range, contains_filter, filter_contains, is_data, Piece, IsInPiece, IsKeptPiece, AreKeptPieces, Owners, is_joined, begins_piece, kept_piece, kept_pieces}
 use Rattle.extent_pieces.proofs.Dividing.{data_inside}
 use Rattle.extent_pieces.proofs.Joining.{joins, joined_with_itself, joined_through, joined_between, begins_from, none_begins_joined}
 

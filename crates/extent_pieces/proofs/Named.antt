@@ -1,26 +1,5 @@
 -- The owners of blocks are those that the volume says.
-use Rattle.std.proofs.Common.{◌≡◌, ℕ, ◌+◌, ◌-◌, ◌≤◌, true, List, Option, Some, refl, sym, ◌∙◌, ap, arith, subst}
-use Rattle.std.specs.Prelude.{Contains, filter, unwrap_or}
-use Rattle.std.proofs.lemmas.Option.{slice_get-get_or}
-use Rattle.reiser_bitmap.specs.outside.History.{Image}
-use Rattle.fs_rows.specs.declared.row.Kind.{Kind}
-use Rattle.fs_rows.specs.declared.row.Kind.TheVariants.{File}
-use Rattle.reiser_volume.proofs.fs_paths.Lists.{in_filter, in_map}
-use Rattle.reiser_volume.specs.reiser_walk.Items.{Item}
-use Rattle.reiser_volume_files.specs.declared.map.FileRun.{FileRun}
-use Rattle.reiser_volume_files.specs.Runs.{file_runs}
-use Rattle.reiser_volume_objects.specs.declared.key.ObjectKey.{ObjectKey}
-use Rattle.reiser_volume_objects.specs.declared.stat.ObjectStat.{ObjectStat}
-use Rattle.reiser_volume_objects.specs.Keys.{items_of, root}
-use Rattle.reiser_volume_objects.specs.Kinds.{is_file}
-use Rattle.reiser_volume.specs.Made.{kind_by, no_stat, stat_at}
-use Rattle.reiser_volume.specs.Numbers.{AreNumbered}
-use Rattle.reiser_volume.specs.Owners.{Owns, TellsOwned}
-use Rattle.reiser_volume.specs.Volume.{volume_items}
-use Rattle.reiser_volume.proofs.Bounds.{accepted_is_small}
-use Rattle.reiser_volume.proofs.Mapping.{maps_tell_owned}
-use Rattle.extent_pieces.specs.Files.{FileAt, file_at, files, files_among, is_file_at}
-use Rattle.extent_pieces.specs.Laws.{AreSortedKeys, OwnersAreNamed, OwnersOf}
+use Rattle.extent_pieces.proofs.Imports.{◌≡◌, ℕ, ◌+◌, ◌-◌, ◌≤◌, true, List, Option, Some, refl, sym, ◌∙◌, ap, arith, subst, Contains, filter, unwrap_or, slice_get-get_or, Image, Kind, File, in_filter, in_map, ReiserItem, FileRun, file_runs, ObjectKey, ObjectStat, items_of, root, is_file, kind_by, no_stat, stat_at, AreNumbered, Owns, TellsOwned, volume_items, accepted_is_small, maps_tell_owned, FileAt, file_at, files, files_among, is_file_at, AreSortedKeys, OwnersAreNamed, OwnersOf}
 use Rattle.extent_pieces.proofs.Lists.{all_at}
 use Rattle.extent_pieces.proofs.Once.{IsFileOf, file_of, file_owns, owned_once}
 use Rattle.extent_pieces.proofs.Owners.{owner_from, owner_is}
@@ -31,12 +10,12 @@ pub owns_file : (image : Image) (key : ObjectKey) (k b : ℕ) → Owns image key
 owns_file image key k b owns =
     ap is_file (ap kind_by (ap (λ (o : Option ObjectStat). unwrap_or o no_stat) owns.has_stat) ∙ ap (λ (o : Option Kind). unwrap_or o File) owns.file)
 
-file_among : (items : List Item) (keys some : List ObjectKey) (key : ObjectKey) → Contains some key → is_file_at items key ≡ true → Contains (files_among items keys some) (file_at items keys key)
+file_among : (items : List ReiserItem) (keys some : List ObjectKey) (key : ObjectKey) → Contains some key → is_file_at items key ≡ true → Contains (files_among items keys some) (file_at items keys key)
 unfolding files_among
 file_among items keys some key among file = in_map (file_at items keys) (filter (is_file_at items) some) key (in_filter (is_file_at items) some key among file)
 
 module _ (image : Image) (keys : List ObjectKey) (sorted : AreSortedKeys image keys) where
-  abbrev items : List Item
+  abbrev items : List ReiserItem
   items = volume_items image
 
   -- the root's place

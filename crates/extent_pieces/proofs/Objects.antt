@@ -1,27 +1,5 @@
 -- What a named object adds to what is gathered of files.
-use Rattle.std.proofs.Common.{◌≡◌, ◌⊎◌, ℕ, ◌+◌, ◌^◌, ◌<◌, Bool, false, List, [], ◌∷◌, ◌++◌, take, Option, Some, sym, ◌∙◌, ap, subst, ⊎_elim}
-use Rattle.std.specs.Prelude.{All, Contains, slice_get, unwrap_or}
-use Rattle.std.proofs.lemmas.List.{take_more}
-use Rattle.std.proofs.lemmas.Option.{slice_get_within, get_or_from_slice_get}
-use Rattle.indexmap.specs.IndexMap.{keys, get}
-use Rattle.reiser_bitmap.specs.outside.History.{Image}
-use Rattle.fs_rows.specs.declared.row.Kind.{Kind}
-use Rattle.fs_rows.specs.declared.row.Kind.TheVariants.{Directory, File, Symlink, Character, Block, Fifo, Socket, Subvolume}
-use Rattle.reiser_volume.specs.reiser_walk.Items.{Item}
-use Rattle.reiser_volume_files.specs.declared.map.FileRun.{FileRun}
-use Rattle.reiser_volume_files.specs.Runs.{file_runs}
-use Rattle.reiser_volume_objects.specs.declared.key.ObjectKey.{ObjectKey}
-use Rattle.reiser_volume_objects.specs.declared.stat.ObjectStat.{ObjectStat}
-use Rattle.reiser_volume_objects.specs.Keys.{items_of, same_key}
-use Rattle.reiser_volume_objects.specs.Kinds.{is_file, is_symlink, kind_of_mode}
-use Rattle.reiser_volume.specs.reiser_volume_names.Names.{inode_of}
-use Rattle.reiser_volume.specs.declared.volume.Volume.{Volume}
-use Rattle.reiser_volume.specs.Made.{kind_by, no_stat, stat_at}
-use Rattle.reiser_volume.specs.Opened.{IsOpened}
-use Rattle.reiser_volume.specs.Volume.{IsAccepted, volume_items}
-use Rattle.extent_pieces.specs.declared.parts.FileParts.{FileParts}
-use Rattle.extent_pieces.specs.Files.{file_at}
-use Rattle.extent_pieces.specs.Parts.{Gains, Gathers, adds_file, adds_inline}
+use Rattle.extent_pieces.proofs.Imports.{◌≡◌, ◌⊎◌, ℕ, ◌+◌, ◌^◌, ◌<◌, Bool, false, List, [], ◌∷◌, ◌++◌, take, Option, Some, sym, ◌∙◌, ap, subst, ⊎_elim, All, Contains, slice_get, unwrap_or, take_more, slice_get_within, get_or_from_slice_get, keys, get, Image, Kind, Directory, File, Symlink, Character, Block, Fifo, Socket, Subvolume, ReiserItem, FileRun, file_runs, ObjectKey, ObjectStat, items_of, same_key, is_file, is_symlink, kind_of_mode, ino_of_key, Volume, kind_by, no_stat, stat_at, IsOpened, IsAccepted, volume_items, FileParts, file_at, Gains, Gathers, adds_file, adds_inline}
 use Rattle.extent_pieces.proofs.Gathering.{gathers_file, gathers_link, gathers_other}
 use Rattle.extent_pieces.proofs.Once.{size_short}
 use Rattle.extent_pieces.proofs.Telling.{runs_low}
@@ -36,7 +14,7 @@ other_kind kind is =
     ⊎_elim (λ (e : kind ≡ Socket). (ap is_file e, ap is_symlink e)) (λ (e : kind ≡ Subvolume). (ap is_file e, ap is_symlink e)) r4) r3) r2) r1) is
 
 module _ (image : Image) (volume : Volume) (opened : IsOpened volume image) (i : ℕ) (key : ObjectKey) (at : slice_get (keys volume.named) i ≡ Some key) where
-  abbrev items : List Item
+  abbrev items : List ReiserItem
   items = volume_items image
 
   abbrev all : List ObjectKey
@@ -70,7 +48,7 @@ module _ (image : Image) (volume : Volume) (opened : IsOpened volume image) (i :
         subst (λ (some : List ObjectKey). Gathers inline items all some new) taken
         (gathers_link inline items all (take i all) key size old new before (sym (ap is_file is)) (sym (ap is_symlink is)) same gains)
 
-    pub file_adds : (accepted : IsAccepted image) (inode size : ℕ) (map : List FileRun) → File ≡ kind_by (stat_at items key) → size ≡ (stat_at items key).fields.size → inode ≡ inode_of all key
+    pub file_adds : (accepted : IsAccepted image) (inode size : ℕ) (map : List FileRun) → File ≡ kind_by (stat_at items key) → size ≡ (stat_at items key).fields.size → inode ≡ ino_of_key all key
         → map ≡ file_runs (items_of key items) (stat_at items key).fields.size → (All (λ r. r.at + r.count < 2 ^ 64) map → Gains (adds_file inline inode map size) old new)
         → Gathers inline items all (take (i + 1) all) new
     file_adds accepted inode size map is same number runs gains =

@@ -1,42 +1,14 @@
 -- In an accepted volume no block has two owners.
-use Rattle.std.proofs.Common.{◌≡◌, ℕ, ◌+◌, ◌-◌, ◌^◌, ◌<◌, ◌≤◌, true, List, get_or, Option, Some, refl, sym, ◌∙◌, ap, arith, subst, ⊎_elim}
-use Rattle.std.specs.Prelude.{Contains, AllPairs, filter, slice_get, unwrap_or, ◌≢◌}
-use Rattle.std.proofs.lemmas.Bool.{cases_lt, leb-true}
-use Rattle.std.proofs.lemmas.List.Kept.{AllPairs-filter}
-use Rattle.std.proofs.lemmas.Option.{slice_get-get_or}
-use Rattle.reiser_bitmap.specs.outside.History.{Image}
-use Rattle.fs_rows.specs.declared.row.Kind.{Kind}
-use Rattle.fs_rows.specs.declared.row.Kind.TheVariants.{Directory, File, Symlink, Character, Block, Fifo, Socket, Subvolume}
-use Rattle.reiser_volume.proofs.fs_paths.Lists.{from_filter, from_map}
-use Rattle.reiser_volume.specs.reiser_walk.Items.{Item}
-use Rattle.reiser_volume_files.proofs.Ascending.{file_runs_are}
-use Rattle.reiser_volume_files.specs.declared.map.FileRun.{FileRun}
-use Rattle.reiser_volume_files.specs.declared.map.RunFrom.{RunFrom}
-use Rattle.reiser_volume_files.specs.declared.map.RunFrom.TheVariants.{Disk, Tail as InTree}
-use Rattle.reiser_volume_files.specs.Runs.{file_runs, next_from}
-use Rattle.reiser_volume_objects.specs.declared.key.ObjectKey.{ObjectKey}
-use Rattle.reiser_volume_objects.specs.declared.stat.ObjectStat.{ObjectStat}
-use Rattle.reiser_volume_objects.specs.Keys.{items_of}
-use Rattle.reiser_volume_objects.specs.Kinds.{fits_size, is_file}
+use Rattle.extent_pieces.proofs.Imports.{◌≡◌, ℕ, ◌+◌, ◌-◌, ◌^◌, ◌<◌, ◌≤◌, true, List, get_or, Option, Some, refl, sym, ◌∙◌, ap, arith, subst, ⊎_elim, Contains, AllPairs, filter, slice_get, unwrap_or, ◌≢◌, cases_lt, leb-true, AllPairs-filter, slice_get-get_or, Image, Kind, Directory, File, Symlink, Character, Block, Fifo, Socket, Subvolume, from_filter, from_map, ReiserItem, file_runs_are, FileRun, RunFrom, Disk, file_runs, next_from, ObjectKey, ObjectStat, items_of, fits_size, is_file, IsObject, AreNamedKeys, ino_of_key, IsSmallVolume, kind_by, no_stat, stat_at, AreNumbered, HoldsData, Owns, TellsOwned, volume_items, IsAccepted, accepted_is_small, maps_tell_owned, FileAt, file_at, files, files_among, is_file_at}
+use Rattle.reiser_volume_files.specs.declared.map.RunFrom.TheVariants.{Tail as InTree}
 use Rattle.reiser_volume_objects.specs.Names.{IsNamed}
-use Rattle.reiser_volume_objects.specs.Rules.{IsObject}
-use Rattle.reiser_volume.specs.reiser_volume_names.Links.{AreNamedKeys}
-use Rattle.reiser_volume.specs.reiser_volume_names.Names.{inode_of}
-use Rattle.reiser_volume.specs.Bounds.{IsSmall}
-use Rattle.reiser_volume.specs.Made.{kind_by, no_stat, stat_at}
-use Rattle.reiser_volume.specs.Numbers.{AreNumbered}
-use Rattle.reiser_volume.specs.Owners.{HoldsData, Owns, TellsOwned}
-use Rattle.reiser_volume.specs.Volume.{volume_items, IsAccepted}
-use Rattle.reiser_volume.proofs.Bounds.{accepted_is_small}
-use Rattle.reiser_volume.proofs.Mapping.{maps_tell_owned}
 use Rattle.reiser_volume.proofs.Numbered.{inode_before, inode_behind, inode_of_root}
 use Rattle.reiser_volume.proofs.Owners.{owners_are_one}
-use Rattle.extent_pieces.specs.Files.{FileAt, file_at, files, files_among, is_file_at}
 use Rattle.extent_pieces.proofs.Lists.{pairs_map}
 use Rattle.extent_pieces.proofs.Telling.{LiesIn, OwnedOnce, in_some_run}
 
 -- two objects have two inodes
-two_inodes : (keys : List ObjectKey) (at i j : ℕ) (a b : ObjectKey) → AreNumbered at keys → i < j → slice_get keys i ≡ Some a → slice_get keys j ≡ Some b → inode_of keys a ≢ inode_of keys b
+two_inodes : (keys : List ObjectKey) (at i j : ℕ) (a b : ObjectKey) → AreNumbered at keys → i < j → slice_get keys i ≡ Some a → slice_get keys j ≡ Some b → ino_of_key keys a ≢ ino_of_key keys b
 two_inodes keys at i j a b numbered order first second same =
     ⊎_elim
     (λ (before : j < at).
@@ -63,29 +35,29 @@ two_inodes keys at i j a b numbered order first second same =
     (cases_lt at i))
     (cases_lt j at)
 
-pub inodes_apart : (keys : List ObjectKey) (at : ℕ) → AreNumbered at keys → AllPairs (λ a b. inode_of keys a ≢ inode_of keys b) keys
+pub inodes_apart : (keys : List ObjectKey) (at : ℕ) → AreNumbered at keys → AllPairs (λ a b. ino_of_key keys a ≢ ino_of_key keys b) keys
 inodes_apart keys at numbered = λ i j d order inside.
     two_inodes keys at i j (get_or keys i d) (get_or keys j d) numbered order (slice_get-get_or keys i d (omega arith)) (slice_get-get_or keys j d inside)
 
 -- a file of a list is that of a key
-pub record IsFileOf (items : List Item) (keys some : List ObjectKey) (f : FileAt) : Type 0 where
+pub record IsFileOf (items : List ReiserItem) (keys some : List ObjectKey) (f : FileAt) : Type 0 where
   pub key : ObjectKey
   pub among : Contains some key
   pub file : is_file_at items key ≡ true
   pub is : file_at items keys key ≡ f
 
-pub file_of : (items : List Item) (keys some : List ObjectKey) (f : FileAt) → Contains (files_among items keys some) f → IsFileOf items keys some f
+pub file_of : (items : List ReiserItem) (keys some : List ObjectKey) (f : FileAt) → Contains (files_among items keys some) f → IsFileOf items keys some f
 unfolding files_among
 file_of items keys some f h =
     let mapped = from_map (file_at items keys) (filter (is_file_at items) some) f h in
     let kept = from_filter (is_file_at items) some mapped.0 mapped.1 in
     record { key = mapped.0; among = kept.0; file = kept.1; is = mapped.2 }
 
-files_inodes : (items : List Item) (keys : List ObjectKey) (at : ℕ) → AreNumbered at keys → AllPairs (λ f g. f.inode ≢ g.inode) (files items keys)
+files_inodes : (items : List ReiserItem) (keys : List ObjectKey) (at : ℕ) → AreNumbered at keys → AllPairs (λ f g. f.inode ≢ g.inode) (files items keys)
 unfolding files_among
 files_inodes items keys at numbered =
     pairs_map (λ f g. f.inode ≢ g.inode) (file_at items keys) (filter (is_file_at items) keys)
-    (AllPairs-filter (λ a b. inode_of keys a ≢ inode_of keys b) (is_file_at items) keys (inodes_apart keys at numbered))
+    (AllPairs-filter (λ a b. ino_of_key keys a ≢ ino_of_key keys b) (is_file_at items) keys (inodes_apart keys at numbered))
 
 same_disk : (a b : ℕ) → Disk a ≡ Disk b → a ≡ b
 same_disk a b is = cc
@@ -105,14 +77,14 @@ file_short Socket size t fits = absurd (cc)
 file_short Subvolume size t fits = absurd (cc)
 
 -- what the stat data of an object in order says
-pub stat_there : (items : List Item) (key : ObjectKey) (object : IsObject items key) → stat_at items key ≡ object.stat
+pub stat_there : (items : List ReiserItem) (key : ObjectKey) (object : IsObject items key) → stat_at items key ≡ object.stat
 stat_there items key object = ap (λ (o : Option ObjectStat). unwrap_or o no_stat) object.has_stat
 
-pub kind_there : (items : List Item) (key : ObjectKey) (object : IsObject items key) → kind_by (stat_at items key) ≡ object.kind
+pub kind_there : (items : List ReiserItem) (key : ObjectKey) (object : IsObject items key) → kind_by (stat_at items key) ≡ object.kind
 kind_there items key object = ap kind_by (stat_there items key object) ∙ ap (λ (o : Option Kind). unwrap_or o File) object.known
 
 module _ (image : Image) (accepted : IsAccepted image) (keys : List ObjectKey) (are : AreNamedKeys (volume_items image) keys) where
-  abbrev items : List Item
+  abbrev items : List ReiserItem
   items = volume_items image
 
   pub named : (key : ObjectKey) → Contains keys key → IsNamed items key
@@ -140,7 +112,7 @@ module _ (image : Image) (accepted : IsAccepted image) (keys : List ObjectKey) (
   pub owned_low : (key : ObjectKey) (k b : ℕ) → Owns image key k b → b < 2 ^ 29
   owned_low key k b owns =
       let holds : HoldsData image b = owners_are_one.holds image accepted key k b owns in
-      let small : IsSmall image = accepted_is_small image accepted in
+      let small : IsSmallVolume image = accepted_is_small image accepted in
       omega (arith, holds.within, small.blocks)
 
   pub size_short : (key : ObjectKey) → Contains keys key → is_file_at items key ≡ true → (stat_at items key).fields.size ≤ 2 ^ 44
@@ -156,7 +128,7 @@ module _ (image : Image) (accepted : IsAccepted image) (keys : List ObjectKey) (
         let of_f = file_of items keys keys f in_f in
         let of_g = file_of items keys keys g in_g in
         let one = owners_are_one.one image accepted of_f.key of_g.key k l b (file_owns f k b of_f here) (file_owns g l b of_g there) in
-        (sym (ap (λ (h : FileAt). h.inode) of_f.is) ∙ (ap (inode_of keys) one.0 ∙ ap (λ (h : FileAt). h.inode) of_g.is), one.1);
+        (sym (ap (λ (h : FileAt). h.inode) of_f.is) ∙ (ap (ino_of_key keys) one.0 ∙ ap (λ (h : FileAt). h.inode) of_g.is), one.1);
     low = λ f k b in_f lies. let of = file_of items keys keys f in_f in let low = owned_low of.key k b (file_owns f k b of lies) in omega (arith, low);
     short = λ f in_f. let of = file_of items keys keys f in_f in subst (λ (h : FileAt). h.size ≤ 2 ^ 44) of.is (size_short of.key of.among of.file);
   }

@@ -1,24 +1,6 @@
 -- The runs of all files, sorted by their first blocks, tell the owners of the blocks.
-use Rattle.std.proofs.Common.{◌≡◌, ◌⊎◌, ℕ, ◌+◌, ◌-◌, ◌*◌, ◌^◌, ◌<◌, ◌≤◌, ltb, Bool, true, false, List, [], ◌∷◌, get_or, Option, Some, None, refl, sym, ◌∙◌, ap, arith, subst, ⊎_elim, inl, inr, eq-eqb}
-use Rattle.std.specs.Prelude.{Contains, AllPairs, ◌≢◌, unwrap_or}
-use Rattle.std.specs.Int.{div_ceil}
-use Rattle.std.specs.List.{find, flat_map, range_with_len}
-use Rattle.std.specs.List.Sorted.{IsNonDecreasingBy, IsPermutation}
-use Rattle.std.specs.Option.{option_map}
-use Rattle.std.proofs.lemmas.Bool.{both_ways, cases_Bool, ltb-true, eqb-true, false≢true}
-use Rattle.std.proofs.lemmas.List.Elements.{Contains-append_cases, Contains-append_left, Contains-append_right, Contains-get_or}
-use Rattle.std.proofs.lemmas.List.Sorted.{Contains-permutation, IsPermutation-sym}
-use Rattle.std.proofs.lemmas.Map.Keys.{IsDistinct-IsPermutation, IsDistinct-from_apart, apart_from_distinct}
-use Rattle.reiser_bitmap.proofs.Ranges.{all_from_contains, contains_cases, contains_head, contains_range, contains_tail, range_contains}
-use Rattle.reiser_volume_files.proofs.Ascending.{file_runs_are}
-use Rattle.reiser_volume_files.specs.declared.map.FileRun.{FileRun}
-use Rattle.reiser_volume_files.specs.declared.map.RunFrom.{RunFrom}
-use Rattle.reiser_volume_files.specs.declared.map.RunFrom.TheVariants.{Disk, Tail as InTree}
-use Rattle.reiser_volume_files.specs.Runs.{block_from, file_runs, next_from}
-use Rattle.extent_pieces.specs.declared.run.OwnedRun.{OwnedRun}
-use Rattle.extent_pieces.specs.Files.{FileAt, file_blocks, is_in_block, owner, owns}
-use Rattle.extent_pieces.specs.Owned.{IsBefore, IsRun, TellOwners, holds_block, owner_in}
-use Rattle.extent_pieces.specs.Parts.{file_owned, owned_by_run, owned_in}
+use Rattle.extent_pieces.proofs.Imports.{◌≡◌, ◌⊎◌, ℕ, ◌+◌, ◌-◌, ◌*◌, ◌^◌, ◌<◌, ◌≤◌, ltb, Bool, true, false, List, [], ◌∷◌, get_or, Option, Some, None, refl, sym, ◌∙◌, ap, arith, subst, ⊎_elim, inl, inr, eq-eqb, Contains, AllPairs, ◌≢◌, unwrap_or, div_ceil, find, flat_map, range_with_len, IsNonDecreasingBy, IsPermutation, option_map, both_ways, cases_Bool, ltb-true, eqb-true, false≢true, Contains-append_cases, Contains-append_left, Contains-append_right, Contains-get_or, Contains-permutation, IsPermutation-sym, IsDistinct-IsPermutation, IsDistinct-from_apart, apart_from_distinct, all_from_contains, contains_cases, contains_head, contains_range, contains_tail, range_contains, file_runs_are, FileRun, RunFrom, Disk, block_from, file_runs, next_from, OwnedRun, FileAt, file_blocks, is_in_block, owner, owns, IsRunBefore, IsRun, TellOwners, holds_block, owner_in, file_owned, owned_by_run, owned_in}
+use Rattle.reiser_volume_files.specs.declared.map.RunFrom.TheVariants.{Tail as InTree}
 use Rattle.extent_pieces.proofs.Owning.{Holds, find_none, holds, holds_from}
 use Rattle.extent_pieces.proofs.Lists.{all_at, pairs_append, pairs_head, pairs_tail}
 use Rattle.extent_pieces.proofs.Telling.{IsOwned, LiesIn, OwnedOnce, all_owned, clash, clash_flips, clash_tells, file_pairs, held_lies, in_some_run, runs_lie, two_files}
@@ -206,7 +188,7 @@ run_is fs f o once among is =
 pub tells_owners : (fs : List FileAt) (runs : List OwnedRun) → OwnedOnce fs → IsPermutation (flat_map file_owned fs) runs → IsNonDecreasingBy (λ r. r.first) runs → TellOwners runs (owner fs)
 tells_owners fs runs once permuted order =
     let each : (o : OwnedRun) → Contains runs o → IsRun o = λ o h. let from = all_runs fs runs permuted o h in run_is fs from.0 o once from.1 from.2 in
-    let ascending : AllPairs IsBefore runs = λ i j d before inside.
+    let ascending : AllPairs IsRunBefore runs = λ i j d before inside.
     let r : OwnedRun = get_or runs i d in
     let s : OwnedRun = get_or runs j d in
     clash_tells r s (no_two fs runs once permuted i j d before inside) (order i j d (omega arith) inside) (each r (Contains-get_or runs i d (omega arith))).some (each s (Contains-get_or runs j d inside)).some in

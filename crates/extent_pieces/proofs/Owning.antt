@@ -1,17 +1,5 @@
 -- Who owns a block, by a list of runs.
-use Rattle.std.proofs.Common.{◌≡◌, ◌⊎◌, ℕ, ◌+◌, ◌-◌, ◌^◌, ◌<◌, ◌≤◌, ltb, leb, Bool, true, false, List, [], ◌∷◌, length, get_or, cond, min, Option, Some, None, refl, sym, ◌∙◌, ap, arith, subst, ⊎_elim, inl, inr}
-use Rattle.std.specs.Prelude.{Contains, AllPairs, ◌≢◌}
-use Rattle.std.specs.List.{find}
-use Rattle.std.specs.Option.{option_map}
-use Rattle.std.specs.List.Sorted.{IsNonDecreasingBy, IsPartitionPoint}
-use Rattle.std.proofs.lemmas.Bool.{and_from, and_parts, both_ways, cases_Bool, cases_lt, ltb-true, leb-true, lt-ltb, le-leb}
-use Rattle.std.proofs.lemmas.List.{get_or_default}
-use Rattle.std.proofs.lemmas.List.Elements.{Contains-get_or}
-use Rattle.reiser_bitmap.proofs.Ranges.{contains_head, contains_tail, contains_cases}
-use Rattle.reiser_bitmap.proofs.Ends.{IsEnd}
-use Rattle.extent_pieces.specs.declared.run.OwnedRun.{OwnedRun}
-use Rattle.extent_pieces.specs.Owned.{TellOwners, IsBefore, IsRun, holds_block, owner_in}
-use Rattle.extent_pieces.specs.Pieces.{Owners, advanced, is_owner}
+use Rattle.extent_pieces.proofs.Imports.{◌≡◌, ◌⊎◌, ℕ, ◌+◌, ◌-◌, ◌^◌, ◌<◌, ◌≤◌, ltb, leb, Bool, true, false, List, [], ◌∷◌, length, get_or, cond, min, Option, Some, None, refl, sym, ◌∙◌, ap, arith, subst, ⊎_elim, inl, inr, Contains, AllPairs, ◌≢◌, find, option_map, IsNonDecreasingBy, IsPartitionPoint, and_from, and_parts, both_ways, cases_Bool, cases_lt, ltb-true, leb-true, lt-ltb, le-leb, get_or_default, Contains-get_or, contains_head, contains_tail, contains_cases, IsEnd, OwnedRun, TellOwners, IsRunBefore, IsRun, holds_block, owner_in, Owners, advanced, is_owner}
 use Rattle.extent_pieces.proofs.Joining.{is_owner_refl, same_owner}
 
 pub find_none : {X : Type 0} (p : X → Bool) (xs : List X) → ((x : X) → Contains xs x → p x ≡ false) → find p xs ≡ None
@@ -57,13 +45,13 @@ two_cases {X} R xs x y pairs hx hy =
     (cases_lt hx.0 hy.0)
 
 -- a block lies in one run at most
-pub held_once : (runs : List OwnedRun) (b : ℕ) (r s : OwnedRun) → AllPairs IsBefore runs → Contains runs r → Contains runs s → Holds b r → Holds b s → s ≡ r
+pub held_once : (runs : List OwnedRun) (b : ℕ) (r s : OwnedRun) → AllPairs IsRunBefore runs → Contains runs r → Contains runs s → Holds b r → Holds b s → s ≡ r
 held_once runs b r s pairs hr hs in_r in_s =
     ⊎_elim (λ (same : r ≡ s). sym same)
-    (λ (apart : IsBefore r s ⊎ IsBefore s r). ⊎_elim
-    (λ (first : IsBefore r s). absurd (omega (arith, first.apart, in_r.high, in_s.low)))
-    (λ (second : IsBefore s r). absurd (omega (arith, second.apart, in_s.high, in_r.low))) apart)
-    (two_cases IsBefore runs r s pairs hr hs)
+    (λ (apart : IsRunBefore r s ⊎ IsRunBefore s r). ⊎_elim
+    (λ (first : IsRunBefore r s). absurd (omega (arith, first.apart, in_r.high, in_s.low)))
+    (λ (second : IsRunBefore s r). absurd (omega (arith, second.apart, in_s.high, in_r.low))) apart)
+    (two_cases IsRunBefore runs r s pairs hr hs)
 
 pub owner_held : (runs : List OwnedRun) (owner : Owners) (b : ℕ) (r : OwnedRun) → TellOwners runs owner → Contains runs r → Holds b r → owner b ≡ Some (owner_in r b)
 owner_held runs owner b r tells among is =
@@ -123,11 +111,11 @@ stops_behind runs owner b e r tells among is end t =
     let same : (s.inode ≡ r.inode) × (s.at + (e - s.first) ≡ r.at + r.count) = parts_same s.inode (s.at + (e - s.first)) r.inode (r.at + r.count) found.3 in
     ⊎_elim
     (λ (one : r ≡ s). absurd (omega (arith, (subst (Holds e) (sym one) inside).high)))
-    (λ (two : IsBefore r s ⊎ IsBefore s r). ⊎_elim
-    (λ (first : IsBefore r s). first.maximal (record { next = omega (arith, first.apart, inside.low); inode = same.0; at = omega (arith, first.apart, inside.low, same.1) }))
-    (λ (second : IsBefore s r). absurd (omega (arith, second.apart, inside.high)))
+    (λ (two : IsRunBefore r s ⊎ IsRunBefore s r). ⊎_elim
+    (λ (first : IsRunBefore r s). first.maximal (record { next = omega (arith, first.apart, inside.low); inode = same.0; at = omega (arith, first.apart, inside.low, same.1) }))
+    (λ (second : IsRunBefore s r). absurd (omega (arith, second.apart, inside.high)))
     two)
-    (two_cases IsBefore runs r s tells.ascending among found.1)
+    (two_cases IsRunBefore runs r s tells.ascending among found.1)
 
 not_from_absurd : (b : Bool) → (b ≡ true → ⊥) → b ≡ false
 not_from_absurd b never = ⊎_elim (λ (t : b ≡ true). absurd (never t)) (λ (f : b ≡ false). f) (cases_Bool b)
@@ -162,7 +150,7 @@ none_between runs owner b k j tells parts none low later =
     (cases_lt among.0 j))
 
 -- runs from one on begin at that one or behind it
-pub begin_behind : (runs : List OwnedRun) (i j : ℕ) (d : OwnedRun) → AllPairs IsBefore runs → j ≤ i → i < length runs → (get_or runs j d).first ≤ (get_or runs i d).first
+pub begin_behind : (runs : List OwnedRun) (i j : ℕ) (d : OwnedRun) → AllPairs IsRunBefore runs → j ≤ i → i < length runs → (get_or runs j d).first ≤ (get_or runs i d).first
 begin_behind runs i j d pairs order inside =
     ⊎_elim
     (λ (less : j < i). omega (arith, (pairs j i d less inside).apart))
@@ -206,8 +194,8 @@ none_holds runs owner b j bound tells parts last =
     ⊎_elim
     (λ (before : among.0 < j - 1).
     let run : OwnedRun = get_or runs (j - 1) r in
-    let apart : IsBefore (get_or runs among.0 r) run = tells.ascending among.0 (j - 1) r before (omega arith) in
-    let own : IsBefore r run = subst (λ (s : OwnedRun). IsBefore s run) among.2 apart in
+    let apart : IsRunBefore (get_or runs among.0 r) run = tells.ascending among.0 (j - 1) r before (omega arith) in
+    let own : IsRunBefore r run = subst (λ (s : OwnedRun). IsRunBefore s run) among.2 apart in
     let begun : run.first ≤ b = parts.0 (j - 1) r (omega arith) (omega arith) in
     absurd (omega (arith, own.apart, is.high)))
     (λ (here : j - 1 ≤ among.0).
@@ -221,7 +209,7 @@ none_holds runs owner b j bound tells parts last =
     (cases_lt among.0 j))
 
 -- runs that ascend begin in order
-pub first_rises : (runs : List OwnedRun) → AllPairs IsBefore runs → IsNonDecreasingBy (λ r. r.first) runs
+pub first_rises : (runs : List OwnedRun) → AllPairs IsRunBefore runs → IsNonDecreasingBy (λ r. r.first) runs
 first_rises runs pairs = λ i j d order inside. begin_behind runs j i d pairs order inside
 
 pub run_small : (runs : List OwnedRun) (owner : Owners) (r : OwnedRun) → TellOwners runs owner → Contains runs r → r.first + r.count < 2 ^ 64

@@ -1,11 +1,5 @@
 -- The places of copies and tails.
-use Rattle.std.proofs.Common.{◌≡◌, ℕ, zero, suc, ◌+◌, ◌-◌, ◌*◌, ◌/◌, ◌%◌, ◌<◌, ◌≤◌, List, [], ◌∷◌, ◌++◌, None, length, get_or, take, drop, refl, sym, ◌∙◌, ap, arith, ⊎_elim, length-append, length-take, length-drop}
-use Rattle.std.specs.List.{range_with_len}
-use Rattle.std.proofs.lemmas.Bool.{cases_lt}
-use Rattle.std.proofs.lemmas.List.{ext_get_or, get_or_append_left, get_or-append_right, get_or-take, get_or-drop}
-use Rattle.std.proofs.lemmas.List.FromFn.{length-range_with_len, get_or-range_with_len}
-use Rattle.unit_plan.specs.declared.piece.Piece.{Piece}
-use Rattle.extent_pieces.specs.Placed.{at_place, at_places, blocks_of_units}
+use Rattle.extent_pieces.proofs.Imports.{◌≡◌, ℕ, zero, suc, ◌+◌, ◌-◌, ◌*◌, ◌/◌, ◌%◌, ◌<◌, ◌≤◌, List, [], ◌∷◌, ◌++◌, None, length, get_or, take, drop, refl, sym, ◌∙◌, ap, arith, ⊎_elim, length-append, length-take, length-drop, range_with_len, cases_lt, ext_get_or, get_or_append_left, get_or-append_right, get_or-take, get_or-drop, length-range_with_len, get_or-range_with_len, Piece, at_place, at_places, blocks_of_units}
 
 pub length-at_places : (ps : List Piece) (bs : List ℕ) → length ps ≤ length bs → length (at_places ps bs) ≡ length ps
 length-at_places [] bs few = refl

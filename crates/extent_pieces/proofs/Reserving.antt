@@ -1,9 +1,6 @@
 -- The next reserved block.
-use Rattle.std.proofs.Common.{◌≡◌, ◌⊎◌, ℕ, ◌-◌, ◌*◌, ◌/◌, ◌%◌, ◌<◌, ◌≤◌, true, false, not, arith, ⊎_elim, inl, inr}
-use Rattle.std.proofs.lemmas.Bool.{cases_Bool, cases_lt, not_from_false, not_from_true}
-use Rattle.reiser_bitmap.specs.vol_block.Volume.{IsReserved, is_reserved}
+use Rattle.extent_pieces.proofs.Imports.{◌≡◌, ◌⊎◌, ℕ, ◌-◌, ◌*◌, ◌/◌, ◌%◌, ◌<◌, ◌≤◌, true, false, not, arith, ⊎_elim, inl, inr, cases_Bool, cases_lt, not_from_false, not_from_true, FIRST_MIRROR, FIRST_MIRROR_END, SECOND_MIRROR, SECOND_MIRROR_END, IsReserved, is_reserved, IsEnd}
 use Rattle.reiser_bitmap.proofs.vol_block.Reserved.{decides_reserved}
-use Rattle.reiser_bitmap.proofs.Ends.{IsEnd}
 
 pub reserved_yes : (b n : ℕ) → IsReserved b n → is_reserved b n ≡ true
 reserved_yes b n r = (decides_reserved b n).1 r
@@ -14,8 +11,8 @@ reserved_no b n never = ⊎_elim (λ (t : is_reserved b n ≡ true). absurd (nev
 -- a block that lies in no reserved range
 record IsFree (b n : ℕ) : Type 0 where
   low : 256 ≤ b
-  second : (b < 16384) ⊎ (16400 ≤ b)
-  third : (b < 67108864) ⊎ (67108880 ≤ b)
+  second : (b < FIRST_MIRROR) ⊎ (FIRST_MIRROR_END ≤ b)
+  third : (b < SECOND_MIRROR) ⊎ (SECOND_MIRROR_END ≤ b)
   last : b < 16 * (n / 16)
 
 free_not_reserved : (b n : ℕ) → IsFree b n → IsReserved b n → ⊥
@@ -23,9 +20,9 @@ free_not_reserved b n free r =
     ⊎_elim
     (λ (a : b < 256). absurd (omega (arith, free.low)))
     (λ r2. ⊎_elim
-    (λ (a : (16384 ≤ b) × (b < 16400)). ⊎_elim (λ (l : b < 16384). absurd (omega (arith, a.0))) (λ (h : 16400 ≤ b). absurd (omega (arith, a.1))) free.second)
+    (λ (a : (FIRST_MIRROR ≤ b) × (b < FIRST_MIRROR_END)). ⊎_elim (λ (l : b < FIRST_MIRROR). absurd (omega (arith, a.0))) (λ (h : FIRST_MIRROR_END ≤ b). absurd (omega (arith, a.1))) free.second)
     (λ r3. ⊎_elim
-    (λ (a : (67108864 ≤ b) × (b < 67108880)). ⊎_elim (λ (l : b < 67108864). absurd (omega (arith, a.0))) (λ (h : 67108880 ≤ b). absurd (omega (arith, a.1))) free.third)
+    (λ (a : (SECOND_MIRROR ≤ b) × (b < SECOND_MIRROR_END)). ⊎_elim (λ (l : b < SECOND_MIRROR). absurd (omega (arith, a.0))) (λ (h : SECOND_MIRROR_END ≤ b). absurd (omega (arith, a.1))) free.third)
     (λ (a : (16 * (n / 16) ≤ b) × (b < n)). absurd (omega (arith, a.0, free.last)))
     r3)
     r2)
@@ -35,13 +32,13 @@ free_from : (b n : ℕ) → (IsReserved b n → ⊥) → b < n → IsFree b n
 free_from b n never inside = record {
   low = ⊎_elim (λ (a : b < 256). absurd (never (inl a))) (λ (c : 256 ≤ b). c) (cases_lt b 256);
   second =
-      ⊎_elim (λ (a : b < 16384). inl a)
-      (λ (c : 16384 ≤ b). ⊎_elim (λ (d : b < 16400). absurd (never (inr (inl (c, d))))) (λ (d : 16400 ≤ b). inr d) (cases_lt b 16400))
-      (cases_lt b 16384);
+      ⊎_elim (λ (a : b < FIRST_MIRROR). inl a)
+      (λ (c : FIRST_MIRROR ≤ b). ⊎_elim (λ (d : b < FIRST_MIRROR_END). absurd (never (inr (inl (c, d))))) (λ (d : FIRST_MIRROR_END ≤ b). inr d) (cases_lt b FIRST_MIRROR_END))
+      (cases_lt b FIRST_MIRROR);
   third =
-      ⊎_elim (λ (a : b < 67108864). inl a)
-      (λ (c : 67108864 ≤ b). ⊎_elim (λ (d : b < 67108880). absurd (never (inr (inr (inl (c, d)))))) (λ (d : 67108880 ≤ b). inr d) (cases_lt b 67108880))
-      (cases_lt b 67108864);
+      ⊎_elim (λ (a : b < SECOND_MIRROR). inl a)
+      (λ (c : SECOND_MIRROR ≤ b). ⊎_elim (λ (d : b < SECOND_MIRROR_END). absurd (never (inr (inr (inl (c, d)))))) (λ (d : SECOND_MIRROR_END ≤ b). inr d) (cases_lt b SECOND_MIRROR_END))
+      (cases_lt b SECOND_MIRROR);
   last = ⊎_elim (λ (a : b < 16 * (n / 16)). a) (λ (c : 16 * (n / 16) ≤ b). absurd (never (inr (inr (inr (c, inside)))))) (cases_lt b (16 * (n / 16)));
 }
 
@@ -50,7 +47,7 @@ sided : (b k e low high : ℕ) → b ≤ k → k < e → (b < low) ⊎ (high ≤
 sided b k e low high order inside side below =
     ⊎_elim (λ (l : b < low). let few : e ≤ low = below l in inl (let h : k < low = omega arith in h)) (λ (h : high ≤ b). inr (let g : high ≤ k = omega arith in g)) side
 
-pub next_is : (b e n : ℕ) → (IsReserved b n → ⊥) → b < n → b ≤ e → e ≤ 16 * (n / 16) → (b < 16384 → e ≤ 16384) → (b < 67108864 → e ≤ 67108864) → (e < n → IsReserved e n)
+pub next_is : (b e n : ℕ) → (IsReserved b n → ⊥) → b < n → b ≤ e → e ≤ 16 * (n / 16) → (b < FIRST_MIRROR → e ≤ FIRST_MIRROR) → (b < SECOND_MIRROR → e ≤ SECOND_MIRROR) → (e < n → IsReserved e n)
     → IsEnd (λ c. not (is_reserved c n)) b n e
 next_is b e n never inside order last second third stops =
     let free : IsFree b n = free_from b n never inside in
@@ -59,8 +56,8 @@ next_is b e n never inside order last second third stops =
       high = omega arith;
       all = λ k low high. not_from_false (is_reserved k n) (reserved_no k n (free_not_reserved k n (record {
         low = omega (arith, free.low);
-        second = sided b k e 16384 16400 low high free.second second;
-        third = sided b k e 67108864 67108880 low high free.third third;
+        second = sided b k e FIRST_MIRROR FIRST_MIRROR_END low high free.second second;
+        third = sided b k e SECOND_MIRROR SECOND_MIRROR_END low high free.third third;
         last = omega arith;
       })));
       stop = λ h. not_from_true (is_reserved e n) (reserved_yes e n (stops h));
@@ -74,11 +71,11 @@ last_order b n never inside = let free : IsFree b n = free_from b n never inside
 pub at_last : (e n : ℕ) → e ≡ n - n % 16 → e < n → IsReserved e n
 at_last e n is inside = inr (inr (inr ((let low : 16 * (n / 16) ≤ e = omega arith in low), inside)))
 
-pub at_second : (e n : ℕ) → e ≡ 16384 → IsReserved e n
-at_second e n is = inr (inl ((let low : 16384 ≤ e = omega arith in low), (let high : e < 16400 = omega arith in high)))
+pub at_second : (e n : ℕ) → e ≡ FIRST_MIRROR → IsReserved e n
+at_second e n is = inr (inl ((let low : FIRST_MIRROR ≤ e = omega arith in low), (let high : e < FIRST_MIRROR_END = omega arith in high)))
 
-pub at_third : (e n : ℕ) → e ≡ 67108864 → IsReserved e n
-at_third e n is = inr (inr (inl ((let low : 67108864 ≤ e = omega arith in low), (let high : e < 67108880 = omega arith in high))))
+pub at_third : (e n : ℕ) → e ≡ SECOND_MIRROR → IsReserved e n
+at_third e n is = inr (inr (inl ((let low : SECOND_MIRROR ≤ e = omega arith in low), (let high : e < SECOND_MIRROR_END = omega arith in high))))
 
 -- the block itself
 pub next_here : (b n : ℕ) → b ≤ n → (b < n → IsReserved b n) → IsEnd (λ c. not (is_reserved c n)) b n b

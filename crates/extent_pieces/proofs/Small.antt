@@ -1,47 +1,12 @@
 -- What is counted of an accepted volume is small.
-use Rattle.std.proofs.Common.{◌≡◌, ℕ, ◌+◌, ◌-◌, ◌*◌, ◌/◌, ◌^◌, ◌<◌, ◌≤◌, ◌==◌, max, min, Bool, true, false, cond, List, [], ◌∷◌, ◌++◌, length, map, Some, None, refl, sym, ◌∙◌, ap, arith, subst, ⊎_elim, length-append}
-use Rattle.std.proofs.lemmas.List.{length-map}
-use Rattle.std.specs.Prelude.{Contains, All, filter, sum_by, nat_le, nat_lt, if◌then◌else◌, ◌&&◌}
-use Rattle.std.specs.Int.{div_ceil}
-use Rattle.std.specs.List.{range_with_len}
-use Rattle.std.proofs.lemmas.Bool.{and_parts, cases_eq, leb-true, ltb-true}
+use Rattle.extent_pieces.proofs.Imports.{◌≡◌, ℕ, ◌+◌, ◌-◌, ◌*◌, ◌/◌, ◌^◌, ◌<◌, ◌≤◌, ◌==◌, max, min, Bool, true, false, cond, List, [], ◌∷◌, ◌++◌, length, map, Some, None, refl, sym, ◌∙◌, ap, arith, subst, ⊎_elim, length-append, length-map, Contains, All, filter, sum_by, nat_le, nat_lt, if◌then◌else◌, div_ceil, range_with_len, and_parts, cases_eq, leb-true, ltb-true, length-range_with_len, sum_by-append, sum_by-cons, sum_by-le, Image, Kind, Directory, File, Symlink, Character, Block, Fifo, Socket, Subvolume, from_filter, from_map, begins_run, free_runs, maximal_runs, run_from, is_free_unit, unit_count, all_from_contains, ReiserItem, first_byte, named_block, Disk, disk_or_hole, holds_by_kind, is_held, ObjectKey, Naming, ObjectStat, kind_of_mode, is_symlink, IsObject, AreLinks, AreNamedKeys, IsSmallVolume, direct_bytes, direct_length, stat_at, used_of, volume_items, IsAccepted, accepted_is_small, used_length, Piece, AreSmall, Tail, is_tail, FileAt, file_at, file_blocks, file_tails, files_among, has_tail, inline_files, is_file_inline, is_file_at, is_symlink_at, owner, symlinks_among, tails, counts_of, files_of, Owners, begins_piece, copied_piece, copied_pieces, is_copied, kept_piece, kept_pieces, tail_piece, AreKeptPieces, IsKeptPiece}
+use Rattle.std.specs.Prelude.{◌&&◌}
+use Rattle.reiser_volume_files.specs.declared.map.RunFrom.TheVariants.{Tail as InTree}
 use Rattle.std.proofs.lemmas.List.Concat.{length-flat_map}
-use Rattle.std.proofs.lemmas.List.FromFn.{length-range_with_len}
-use Rattle.std.proofs.lemmas.List.Sums.{sum_by-append, sum_by-cons, sum_by-le}
-use Rattle.reiser_bitmap.specs.outside.History.{Image}
-use Rattle.fs_rows.specs.declared.row.Kind.{Kind}
-use Rattle.fs_rows.specs.declared.row.Kind.TheVariants.{Directory, File, Symlink, Character, Block, Fifo, Socket, Subvolume}
-use Rattle.reiser_volume.proofs.fs_paths.Lists.{from_filter, from_map}
-use Rattle.reiser_bitmap.specs.Runs.{begins_run, free_runs, maximal_runs, run_from}
-use Rattle.reiser_bitmap.specs.Units.{is_free_unit, unit_count}
-use Rattle.reiser_bitmap.proofs.Ranges.{all_from_contains}
 use Rattle.reiser_volume.specs.reiser_node.declared.head.ItemKind.{ItemKind}
 use Rattle.reiser_volume.specs.reiser_node.declared.head.ItemKind.TheVariants.{Stat, Indirect, Direct, Directory as Entries}
-use Rattle.reiser_volume.specs.reiser_walk.Items.{Item}
-use Rattle.reiser_volume_files.specs.Bytes.{first_byte, named_block}
-use Rattle.reiser_volume_files.specs.declared.map.RunFrom.TheVariants.{Disk, Tail as InTree}
-use Rattle.reiser_volume_files.specs.Runs.{disk_or_hole, holds_by_kind, is_held}
-use Rattle.reiser_volume_objects.specs.declared.key.ObjectKey.{ObjectKey}
-use Rattle.reiser_volume_objects.specs.declared.naming.Naming.{Naming}
-use Rattle.reiser_volume_objects.specs.declared.stat.ObjectStat.{ObjectStat}
-use Rattle.reiser_volume_objects.specs.Kinds.{kind_of_mode, is_symlink}
-use Rattle.reiser_volume_objects.specs.Rules.{IsObject}
-use Rattle.reiser_volume.specs.reiser_volume_names.Links.{AreLinks, AreNamedKeys}
-use Rattle.reiser_volume.specs.Bounds.{IsSmall, direct_bytes, direct_length}
-use Rattle.reiser_volume.specs.Made.{stat_at}
-use Rattle.reiser_volume.specs.Volume.{used_of, volume_items, IsAccepted}
-use Rattle.reiser_volume.proofs.Bounds.{accepted_is_small}
-use Rattle.reiser_volume.proofs.Holding.{used_length}
-use Rattle.unit_plan.specs.declared.piece.Piece.{Piece}
-use Rattle.unit_plan.specs.Needed.{AreSmall}
-use Rattle.extent_pieces.specs.declared.tail.Tail.{Tail}
-use Rattle.reiser_volume.specs.Inline.{is_tail}
-use Rattle.extent_pieces.specs.Files.{FileAt, file_at, file_blocks, file_tails, files_among, has_tail, inline_files, is_inline, is_file_at, is_symlink_at, owner, symlinks_among, tails}
-use Rattle.extent_pieces.specs.Found.{counts_of, files_of}
-use Rattle.extent_pieces.specs.Pieces.{Owners, begins_piece, copied_piece, copied_pieces, is_copied, kept_piece, kept_pieces, tail_piece}
 use Rattle.extent_pieces.proofs.Bounding.{apart_fit, few_between, filter_any, filter_few, filter_fewer, filter_none, sum_fewer}
 use Rattle.extent_pieces.proofs.Dividing.{data_inside}
-use Rattle.extent_pieces.specs.Laws.{AreKeptPieces, IsKeptPiece}
 use Rattle.extent_pieces.proofs.Lists.{all_at}
 use Rattle.extent_pieces.proofs.Maximal.{kept_are_maximal}
 use Rattle.extent_pieces.proofs.Once.{kind_there, stat_there}
@@ -128,7 +93,7 @@ tail_held f k = by (nat_lt (4096 * k) f.size) (is_held f.items f.size k)
     by false held t = absurd (cc)
 
 -- an item of so many bytes has bytes of no more blocks
-direct_few : (i : Item) (size n : ℕ) → length (filter (λ k. holds_by_kind Direct i size k) (range_with_len 0 n)) ≤ length i.body
+direct_few : (i : ReiserItem) (size n : ℕ) → length (filter (λ k. holds_by_kind Direct i size k) (range_with_len 0 n)) ≤ length i.body
 direct_few i size n =
     let first : ℕ = first_byte i in
     let long : ℕ = length i.body in
@@ -144,7 +109,7 @@ direct_few i size n =
     omega (arith, few, some))
     (cases_eq long 0)
 
-item_few : (i : Item) (size n : ℕ) → length (filter (λ k. holds_by_kind i.head.kind i size k) (range_with_len 0 n)) ≤ direct_bytes i
+item_few : (i : ReiserItem) (size n : ℕ) → length (filter (λ k. holds_by_kind i.head.kind i size k) (range_with_len 0 n)) ≤ direct_bytes i
 item_few i size n = by i.head.kind
   where
     by : (kind : ItemKind) → length (filter (λ k. holds_by_kind kind i size k) (range_with_len 0 n)) ≤ direct_length kind i.body
@@ -157,7 +122,7 @@ abbrev bytes_of : FileAt → ℕ
 bytes_of f = sum_by direct_bytes f.items
 
 file_few : (inline : Bool) (f : FileAt) → length (file_tails inline f) ≤ bytes_of f
-file_few inline f = by (is_inline inline f)
+file_few inline f = by (is_file_inline inline f)
   where
     by : (b : Bool) → length {A = Tail} (if b then [] else map (λ k. record { inode = f.inode; at = k }) (filter (has_tail f) (file_blocks f))) ≤ bytes_of f
     by true = omega arith
@@ -165,7 +130,7 @@ file_few inline f = by (is_inline inline f)
         let blocks : List ℕ = filter (has_tail f) (file_blocks f) in
         let many = length-map blocks (λ (k : ℕ). let t : Tail = record { inode = f.inode; at = k } in t) in
         let held = filter_fewer (has_tail f) (is_held f.items f.size) (file_blocks f) (tail_held f) in
-        let few = filter_any (λ (i : Item) (k : ℕ). holds_by_kind i.head.kind i f.size k) direct_bytes f.items (file_blocks f) (λ i. item_few i f.size (div_ceil f.size 4096)) in
+        let few = filter_any (λ (i : ReiserItem) (k : ℕ). holds_by_kind i.head.kind i f.size k) direct_bytes f.items (file_blocks f) (λ i. item_few i f.size (div_ceil f.size 4096)) in
         omega (arith, many, held, few)
 
 tails_sum : (inline : Bool) (fs : List FileAt) → length (tails inline fs) ≤ sum_by bytes_of fs
@@ -175,7 +140,7 @@ tails_sum inline fs =
     omega (arith, many, few)
 
 -- what is summed over the files is no more than over all objects
-files_sum : (g : FileAt → ℕ) (items : List Item) (keys some : List ObjectKey) → sum_by g (files_among items keys some) ≤ sum_by (λ key. g (file_at items keys key)) some
+files_sum : (g : FileAt → ℕ) (items : List ReiserItem) (keys some : List ObjectKey) → sum_by g (files_among items keys some) ≤ sum_by (λ key. g (file_at items keys key)) some
 unfolding files_among
 files_sum g items keys [] = omega arith
 files_sum g items keys (key ∷ some) = by (is_file_at items key) (files_sum g items keys some)
@@ -191,14 +156,14 @@ files_sum g items keys (key ∷ some) = by (is_file_at items key) (files_sum g i
         let other : sum_by (λ k. g (file_at items keys k)) (key ∷ some) ≡ g (file_at items keys key) + sum_by (λ k. g (file_at items keys k)) some = sum_by-cons (λ k. g (file_at items keys k)) key some in
         omega (arith, other, less)
 
-few_files : (items : List Item) (keys some : List ObjectKey) → length (files_among items keys some) ≤ length some
+few_files : (items : List ReiserItem) (keys some : List ObjectKey) → length (files_among items keys some) ≤ length some
 unfolding files_among
 few_files items keys some =
     let many = length-map (filter (is_file_at items) some) (file_at items keys) in
     let kept = filter_few (is_file_at items) some in
     omega (arith, many, kept)
 
-few_symlinks : (items : List Item) (keys some : List ObjectKey) → length (symlinks_among items keys some) ≤ length some
+few_symlinks : (items : List ReiserItem) (keys some : List ObjectKey) → length (symlinks_among items keys some) ≤ length some
 unfolding symlinks_among
 few_symlinks items keys some =
     let many = length-map (filter (is_symlink_at items) some) (file_at items keys) in
@@ -207,13 +172,13 @@ few_symlinks items keys some =
 
 -- ---- what stays in the tree
 
-inline_short : (inline : Bool) (f : FileAt) → is_inline inline f ≡ true → f.size ≤ 2048
+inline_short : (inline : Bool) (f : FileAt) → is_file_inline inline f ≡ true → f.size ≤ 2048
 inline_short inline f t = leb-true f.size 2048 (and_parts (nat_le f.size 2048) (has_tail f 0) (and_parts inline (nat_le f.size 2048 && has_tail f 0) t).1).0
 
 inline_sum : (inline : Bool) (fs : List FileAt) → sum_by (λ f. f.size) (inline_files inline fs) ≤ 2048 * length fs
 inline_sum inline fs =
-    let short = sum_by-le (λ f. f.size) 2048 (inline_files inline fs) (all_from_contains (λ f. f.size ≤ 2048) (inline_files inline fs) (λ f h. inline_short inline f (from_filter (is_inline inline) fs f h).1)) in
-    let few = filter_few (is_inline inline) fs in
+    let short = sum_by-le (λ f. f.size) 2048 (inline_files inline fs) (all_from_contains (λ f. f.size ≤ 2048) (inline_files inline fs) (λ f h. inline_short inline f (from_filter (is_file_inline inline) fs f h).1)) in
+    let few = filter_few (is_file_inline inline) fs in
     omega (arith, short, few)
 
 is_link : (kind : Kind) → is_symlink kind ≡ true → kind ≡ Symlink
@@ -227,7 +192,7 @@ is_link Socket t = absurd (cc)
 is_link Subvolume t = absurd (cc)
 
 module _ (image : Image) (accepted : IsAccepted image) (keys : List ObjectKey) (are : AreNamedKeys (volume_items image) keys) where
-  abbrev items : List Item
+  abbrev items : List ReiserItem
   items = volume_items image
 
   target_short : (key : ObjectKey) → Contains keys key → is_symlink_at items key ≡ true → (stat_at items key).fields.size ≤ 3900
@@ -246,7 +211,7 @@ module _ (image : Image) (accepted : IsAccepted image) (keys : List ObjectKey) (
 
   few_tails : (inline : Bool) → length (tails inline (files_of image keys)) ≤ 2 ^ 41
   few_tails inline =
-      let small : IsSmall image = accepted_is_small image accepted in
+      let small : IsSmallVolume image = accepted_is_small image accepted in
       let direct = small.direct keys are.once in
       let sum = tails_sum inline (files_of image keys) in
       let over = files_sum bytes_of items keys keys in
@@ -257,7 +222,7 @@ module _ (image : Image) (accepted : IsAccepted image) (keys : List ObjectKey) (
       let used : List Bool = used_of image in
       let by : Owners = owner (files_of image keys) in
       let ts : List Tail = tails inline (files_of image keys) in
-      let small : IsSmall image = accepted_is_small image accepted in
+      let small : IsSmallVolume image = accepted_is_small image accepted in
       let long = used_length image in
       let most = small.blocks in
       let runs = few_runs used in
@@ -277,7 +242,7 @@ module _ (image : Image) (accepted : IsAccepted image) (keys : List ObjectKey) (
       let letters = small.names visible links are_links in
       let symlinks = few_symlinks items keys keys in
       let files = few_files items keys keys in
-      let inlines = filter_few (is_inline inline) (files_of image keys) in
+      let inlines = filter_few (is_file_inline inline) (files_of image keys) in
       let link_bytes = sum_by-le (λ (f : FileAt). f.size) 3900 (symlinks_among items keys keys) links_short in
       let inline_bytes = inline_sum inline (files_of image keys) in
       record {

@@ -1,19 +1,6 @@
 -- The tails of a file, by the runs of its map.
-use Rattle.std.proofs.Common.{◌≡◌, ℕ, zero, suc, ◌+◌, ◌≤◌, ◌==◌, ◌&&◌, Bool, true, false, List, [], ◌∷◌, ◌++◌, map, Option, Some, None, refl, sym, ◌∙◌, ap, arith, ⊎_elim, append_assoc}
-use Rattle.std.specs.Prelude.{filter, nat_le}
-use Rattle.std.specs.Int.{div_ceil}
-use Rattle.std.specs.List.{flat_map, range_with_len}
-use Rattle.std.proofs.lemmas.List.{append-nil, map-append}
-use Rattle.std.proofs.lemmas.Bool.{and_left, and_parts, cases_Bool, cases_eq, eqb-true, leb-true, false≢true}
-use Rattle.reiser_bitmap.proofs.Ranges.{range_cut, filter_more_yes, filter_more_no}
-use Rattle.reiser_volume_files.specs.declared.map.FileRun.{FileRun}
-use Rattle.reiser_volume_files.specs.declared.map.RunFrom.{RunFrom}
-use Rattle.reiser_volume_files.specs.declared.map.RunFrom.TheVariants.{Disk, Tail as InTree}
-use Rattle.reiser_volume_files.specs.Runs.{runs_of, file_runs, extended, with_block, goes_on, is_next, longer, block_from}
-use Rattle.extent_pieces.specs.declared.tail.Tail.{Tail}
-use Rattle.reiser_volume.specs.Inline.{is_tail}
-use Rattle.extent_pieces.specs.Files.{FileAt, file_blocks, has_tail, is_inline}
-use Rattle.extent_pieces.specs.Parts.{owned_in, owned_by_run, tails_in, tails_by_run, tails_from, is_one_tail, is_tail_alone}
+use Rattle.extent_pieces.proofs.Imports.{◌≡◌, ℕ, zero, suc, ◌+◌, ◌≤◌, ◌==◌, ◌&&◌, Bool, true, false, List, [], ◌∷◌, ◌++◌, map, Option, Some, None, refl, sym, ◌∙◌, ap, arith, ⊎_elim, append_assoc, filter, nat_le, div_ceil, flat_map, range_with_len, append-nil, map-append, and_left, and_parts, cases_Bool, cases_eq, eqb-true, leb-true, false≢true, range_cut, filter_more_yes, filter_more_no, FileRun, RunFrom, Disk, runs_of, file_runs, extended, with_block, goes_on, is_next, longer, block_from, Tail, is_tail, FileAt, file_blocks, has_tail, is_file_inline, owned_in, owned_by_run, tails_in, tails_by_run, tails_from, is_one_tail, is_tail_alone}
+use Rattle.reiser_volume_files.specs.declared.map.RunFrom.TheVariants.{Tail as InTree}
 
 -- a run with one block more
 pub longer_tails : (inode at count k : ℕ) → at + count ≡ k → tails_from inode at (count + 1) ≡ tails_from inode at count ++ record { inode = inode; at = k } ∷ []
@@ -130,5 +117,5 @@ short f =
     (λ (off : nat_le f.size 2048 ≡ false). and_left (nat_le f.size 2048) _ off ∙ sym (and_left (nat_le f.size 2048) _ off))
     (cases_Bool (nat_le f.size 2048))
 
-pub one_tail : (inline : Bool) (f : FileAt) → (inline && is_tail_alone (file_runs f.items f.size) f.size) ≡ is_inline inline f
+pub one_tail : (inline : Bool) (f : FileAt) → (inline && is_tail_alone (file_runs f.items f.size) f.size) ≡ is_file_inline inline f
 one_tail inline f = ap (λ (b : Bool). inline && b) (short f)

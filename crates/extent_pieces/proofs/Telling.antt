@@ -1,20 +1,6 @@
 -- The runs of all files, by their first blocks, tell the owners.
-use Rattle.std.proofs.Common.{◌≡◌, ℕ, ◌+◌, ◌-◌, ◌*◌, ◌^◌, ◌<◌, ◌≤◌, ◌==◌, ◌&&◌, ◌||◌, ltb, leb, Bool, true, false, List, [], ◌∷◌, cond, Option, Some, None, refl, sym, ◌∙◌, ap, arith, subst, ⊎_elim, eq-eqb}
-use Rattle.std.specs.Prelude.{Contains, All, AllPairs, ◌≢◌}
-use Rattle.std.specs.List.{flat_map}
-use Rattle.std.proofs.lemmas.Bool.{and_from, and_parts, and_right, both_ways, cases_Bool, cases_lt, ltb-true, leb-true, lt-ltb, le-ltb, le-leb, eqb-true}
-use Rattle.std.proofs.lemmas.List.Elements.{All-append}
-use Rattle.reiser_bitmap.proofs.Ranges.{all_from_contains, contains_cases, contains_head, contains_tail}
-use Rattle.reiser_volume_files.proofs.Ascending.{file_runs_are}
-use Rattle.reiser_volume_files.specs.declared.map.FileRun.{FileRun}
-use Rattle.reiser_volume_files.specs.declared.map.RunFrom.{RunFrom}
-use Rattle.reiser_volume_files.specs.declared.map.RunFrom.TheVariants.{Disk, Tail as InTree}
-use Rattle.reiser_volume_files.specs.Runs.{AreRunsOf, IsBefore as IsBeforeRun, block_from, disk_or_hole, file_runs, goes_on, is_held, is_in_run, lies_at, next_from}
-use Rattle.reiser_volume_files.specs.Bytes.{named_block}
-use Rattle.extent_pieces.specs.declared.run.OwnedRun.{OwnedRun}
-use Rattle.extent_pieces.specs.Files.{FileAt}
-use Rattle.extent_pieces.specs.Owned.{GoesOn, IsBefore}
-use Rattle.extent_pieces.specs.Parts.{owned_by_run, owned_in}
+use Rattle.extent_pieces.proofs.Imports.{◌≡◌, ℕ, ◌+◌, ◌-◌, ◌*◌, ◌^◌, ◌<◌, ◌≤◌, ◌==◌, ◌&&◌, ◌||◌, ltb, leb, Bool, true, false, List, [], ◌∷◌, cond, Option, Some, None, refl, sym, ◌∙◌, ap, arith, subst, ⊎_elim, eq-eqb, Contains, All, AllPairs, ◌≢◌, flat_map, and_from, and_parts, and_right, both_ways, cases_Bool, cases_lt, ltb-true, leb-true, lt-ltb, le-ltb, le-leb, eqb-true, All-append, all_from_contains, contains_cases, contains_head, contains_tail, file_runs_are, FileRun, RunFrom, Disk, AreRunsOf, IsFileRunBefore as IsBeforeRun, block_from, disk_or_hole, file_runs, goes_on, is_held, is_in_run, lies_at, next_from, named_block, OwnedRun, FileAt, GoesOn, IsRunBefore, owned_by_run, owned_in}
+use Rattle.reiser_volume_files.specs.declared.map.RunFrom.TheVariants.{Tail as InTree}
 use Rattle.extent_pieces.proofs.Lists.{all_at, all_head, all_none, all_one, all_tail, pairs_append, pairs_head, pairs_tail}
 use Rattle.extent_pieces.proofs.Owning.{Holds}
 
@@ -267,7 +253,7 @@ or_second true b c t = refl
 or_second false b c t = rw t refl
 
 -- of two runs that do not clash, the one that begins first lies before the other
-pub clash_tells : (r s : OwnedRun) → clash r s ≡ false → r.first ≤ s.first → 0 < r.count → 0 < s.count → IsBefore r s
+pub clash_tells : (r s : OwnedRun) → clash r s ≡ false → r.first ≤ s.first → 0 < r.count → 0 < s.count → IsRunBefore r s
 clash_tells r s off order some_r some_s = record {
   apart =
       ⊎_elim

@@ -6,7 +6,7 @@ use Rattle.reiser_bitmap.specs.Bits.{has}
 use Rattle.reiser_volume_objects.specs.declared.key.ObjectKey.{ObjectKey}
 use Rattle.reiser_volume_objects.specs.declared.naming.Naming.{Naming}
 use Rattle.reiser_volume.specs.reiser_volume_names.Links.{AreLinks, AreNamedKeys, object_cmp}
-use Rattle.reiser_volume.specs.reiser_volume_names.Names.{inode_of}
+use Rattle.reiser_volume.specs.reiser_volume_names.Names.{ino_of_key}
 use Rattle.reiser_volume.specs.Owners.{Owns}
 use Rattle.reiser_volume.specs.Volume.{used_of, volume_items, IsAccepted}
 use Rattle.convert_options.specs.declared.options.Options.{Options}
@@ -14,13 +14,13 @@ use Rattle.unit_plan.specs.declared.piece.Piece.{Piece}
 use Rattle.unit_plan.specs.declared.plan.Plan.{Plan}
 use Rattle.unit_plan.specs.Choice.{HasEnoughSpace, IsPlan, is_among, is_data}
 use Rattle.unit_plan.specs.Needed.{AreSmall, need}
-use Rattle.unit_plan.specs.Pieces.{ArePlaced as LieApart}
+use Rattle.unit_plan.specs.Pieces.{ArePlaced}
 use Rattle.extent_pieces.specs.declared.pieces.Pieces.{Pieces}
 use Rattle.extent_pieces.specs.declared.tail.Tail.{Tail}
 use Rattle.extent_pieces.specs.Files.{owner}
 use Rattle.extent_pieces.specs.Found.{IsFound, counts_of, files_of}
 use Rattle.extent_pieces.specs.Pieces.{Owners, advanced, is_joined, kept_pieces, pieces}
-use Rattle.extent_pieces.specs.Placed.{ArePlaced, FitsPlan, IsCounted}
+use Rattle.extent_pieces.specs.Placed.{WerePlaced, FitsPlan, IsCounted}
 
 -- ---- kept pieces, whatever the owners are
 
@@ -79,8 +79,8 @@ pub record AreSortedKeys (image : Image) (keys : List ObjectKey) : Type 0 where
 
 -- The owner of a block is the inode of the one named file whose items name the block, with the file block.
 pub record OwnersOf (image : Image) (keys : List ObjectKey) : Type 0 where
-  pub owned : (key : ObjectKey) (k block : ℕ) → Owns image key k block → owner (files_of image keys) block ≡ Some (inode_of keys key, k)
-  pub owns : (block ino k : ℕ) → owner (files_of image keys) block ≡ Some (ino, k) → (key : ObjectKey) × (ino ≡ inode_of keys key) × Owns image key k block
+  pub owned : (key : ObjectKey) (k block : ℕ) → Owns image key k block → owner (files_of image keys) block ≡ Some (ino_of_key keys key, k)
+  pub owns : (block ino k : ℕ) → owner (files_of image keys) block ≡ Some (ino, k) → (key : ObjectKey) × (ino ≡ ino_of_key keys key) × Owns image key k block
 
 abbrev pub OwnersAreNamed : Type 0
 OwnersAreNamed = (image : Image) (keys : List ObjectKey) → AreSortedKeys image keys → OwnersOf image keys
@@ -116,10 +116,10 @@ LiesInUnit units p = p.from ≢ Some p.place → (p.count ≡ 1) × (is_among un
 
 -- Once they have their places, no two pieces overlap, all lie on the volume, and copies and tails lie in the data units.
 pub record LieWell (used : List Bool) (units : List ℕ) (placed : List Piece) : Type 0 where
-  pub apart : LieApart (length used) placed
+  pub apart : ArePlaced (length used) placed
   pub moved : All (LiesInUnit units) placed
 
 abbrev pub PlacesAreApart : Type 0
 PlacesAreApart =
     (image : Image) (found : Pieces) (o : Options) (plan : Plan) (placed : List Piece) → HasPlan image found o plan
-    → ArePlaced found.kept plan.data_ found.items.items placed → LieWell (used_of image) plan.data_ placed
+    → WerePlaced found.kept plan.data_ found.items.items placed → LieWell (used_of image) plan.data_ placed

@@ -23,7 +23,7 @@ pub record GoesOn (r s : OwnedRun) : Type 0 where
   pub at : s.at ≡ r.at + r.count
 
 -- the one run lies before the other, which does not go on with it
-pub record IsBefore (r s : OwnedRun) : Type 0 where
+pub record IsRunBefore (r s : OwnedRun) : Type 0 where
   pub apart : r.first + r.count ≤ s.first
   pub maximal : ¬ GoesOn r s
 
@@ -35,5 +35,5 @@ pub record IsRun (r : OwnedRun) : Type 0 where
 -- the runs ascend and are as long as may be, and they tell the owner of each block
 pub record TellOwners (runs : List OwnedRun) (owner : Owners) : Type 0 where
   pub each : All IsRun runs
-  pub ascending : AllPairs IsBefore runs
+  pub ascending : AllPairs IsRunBefore runs
   pub tell : (b : ℕ) → owner b ≡ owner_by runs b

@@ -2,7 +2,7 @@
 use Rattle.std.specs.Prelude.{◌≡◌, ℕ, ◌+◌, ◌-◌, ◌^◌, nat_le, min, Bool, false, ◌&&◌, List, [], ◌∷◌, ◌++◌, length, map, sum_by, if◌then◌else◌}
 use Rattle.std.specs.List.{flat_map, range_with_len}
 use Rattle.std.specs.List.Sorted.{IsNonDecreasingBy, IsPermutation}
-use Rattle.reiser_volume.specs.reiser_walk.Items.{Item}
+use Rattle.reiser_volume.specs.reiser_walk.Items.{ReiserItem}
 use Rattle.reiser_volume_files.specs.declared.map.FileRun.{FileRun}
 use Rattle.reiser_volume_files.specs.declared.map.RunFrom.{RunFrom}
 use Rattle.reiser_volume_files.specs.declared.map.RunFrom.TheVariants as from
@@ -87,18 +87,18 @@ abbrev pub file_owned : FileAt → List OwnedRun
 file_owned f = flat_map (owned_in f.inode) (file_runs f.items f.size)
 
 -- what some of the named objects have, beside the order of the runs
-pub record Counted (inline : Bool) (items : List Item) (keys some : List ObjectKey) (parts : FileParts) : Type 0 where
+pub record CountedParts (inline : Bool) (items : List ReiserItem) (keys some : List ObjectKey) (parts : FileParts) : Type 0 where
   pub tails_are : parts.tails.items ≡ tails inline (files_among items keys some)
   pub inlines_are : parts.inlines ≡ capped (length (symlinks_among items keys some) + length (inline_files inline (files_among items keys some)))
   pub bytes_are : parts.inline_bytes ≡ capped (sum_by (λ f. f.size) (symlinks_among items keys some) + sum_by (λ f. f.size) (inline_files inline (files_among items keys some)))
 
 -- the parts of some of the named objects, the runs in the order of the files
-pub record Gathers (inline : Bool) (items : List Item) (keys some : List ObjectKey) (parts : FileParts) : Type 0 where
+pub record Gathers (inline : Bool) (items : List ReiserItem) (keys some : List ObjectKey) (parts : FileParts) : Type 0 where
   pub owned_are : parts.owned.items ≡ flat_map file_owned (files_among items keys some)
-  pub counted : Counted inline items keys some parts
+  pub counted : CountedParts inline items keys some parts
 
 -- the parts of all of them, the runs by their first blocks
-pub record AreParts (inline : Bool) (items : List Item) (keys : List ObjectKey) (parts : FileParts) : Type 0 where
+pub record AreParts (inline : Bool) (items : List ReiserItem) (keys : List ObjectKey) (parts : FileParts) : Type 0 where
   pub owned_are : IsPermutation (flat_map file_owned (files_among items keys keys)) parts.owned.items
   pub ascending : IsNonDecreasingBy (λ r. r.first) parts.owned.items
-  pub counted : Counted inline items keys keys parts
+  pub counted : CountedParts inline items keys keys parts

@@ -35,6 +35,6 @@ pub record IsCounted (used : List Bool) (found : Pieces) : Type 0 where
   pub others : length found.items.items - found.kept ≤ found.counts.copies + found.counts.tails
 
 -- Kept pieces lie where they lay. The others lie, in their order, in the blocks of the units. The list ascends by place.
-pub record ArePlaced (kept : ℕ) (units : List ℕ) (old new : List Piece) : Type 0 where
+pub record WerePlaced (kept : ℕ) (units : List ℕ) (old new : List Piece) : Type 0 where
   pub same : IsPermutation (take kept old ++ at_places (drop kept old) (blocks_of_units units)) new
   pub ascending : IsNonDecreasingBy (λ p. p.place) new

@@ -10,7 +10,7 @@ use Rattle.extent_pieces.specs.declared.parts.FileParts.{FileParts}
 use Rattle.extent_pieces.specs.Parts.{capped}
 
 -- the counts of a volume of which these are the pieces, so many of them kept
-pub record Tells (volume : Volume) (parts : FileParts) (items : List Piece) (kept : ℕ) (c : Counts) : Type 0 where
+pub record TellsCounts (volume : Volume) (parts : FileParts) (items : List Piece) (kept : ℕ) (c : Counts) : Type 0 where
   pub blocks : c.blocks ≡ length volume.bitmap
   pub runs : c.runs ≡ length (free_runs volume.bitmap)
   pub pieces : c.pieces ≡ length items

@@ -7,14 +7,9 @@ ghost use Rattle.extent_pieces.specs.Pieces.{Owners, copied_pieces};
 
 use crate::owned::owner_of;
 use crate::run::OwnedRun;
+use btrfs_format::block::{FIRST_MIRROR, SECOND_MIRROR};
 use reiser_bitmap::{Bitmap, BlockNo, Memory, is_reserved};
 use unit_plan::Piece;
-
-/// Where the second superblock of Btrfs lies.
-const SECOND: BlockNo = 16384;
-
-/// Where the third superblock of Btrfs lies.
-const THIRD: BlockNo = 67_108_864;
 
 /// Appends a piece for each used block that is reserved, ascending. It has no place yet.
 pub fn add_copies(items: &mut Vec<Piece>, map: &Bitmap, owned: &[OwnedRun]) -> Result<(), Memory>
@@ -46,10 +41,10 @@ pub fn next_reserved(b: BlockNo, blocks: u64) -> BlockNo
         return b;
     }
     let end = blocks - blocks % 16;
-    if b < SECOND {
-        end.min(SECOND)
-    } else if b < THIRD {
-        end.min(THIRD)
+    if b < FIRST_MIRROR {
+        end.min(FIRST_MIRROR)
+    } else if b < SECOND_MIRROR {
+        end.min(SECOND_MIRROR)
     } else {
         end
     }

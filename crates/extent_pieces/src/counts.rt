@@ -2,7 +2,7 @@ ghost use Rattle.std.specs.Prelude.{◌≡◌, ◌↔◌, length, sum_by, IfOk, 
 ghost use Rattle.reiser_volume.specs.Opened.{links_in};
 ghost use Rattle.unit_plan.specs.Needed.{AreSmall};
 ghost use Rattle.extent_pieces.specs.Parts.{capped};
-ghost use Rattle.extent_pieces.specs.Tallies.{Tells};
+ghost use Rattle.extent_pieces.specs.Tallies.{TellsCounts};
 
 use crate::parts::FileParts;
 use reiser_bitmap::Memory;
@@ -19,7 +19,7 @@ pub fn counts_of(
     items: &[Piece],
     kept: usize,
 ) -> Result<Counts, Memory>
-    ensures { IfOk result (Tells volume.now parts.now items.now kept) }
+    ensures { IfOk result (TellsCounts volume.now parts.now items.now kept) }
 {
     let map = volume.bitmap();
     let tails = parts.tails.len();

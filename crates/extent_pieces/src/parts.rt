@@ -1,6 +1,6 @@
 ghost use Rattle.extent_pieces.specs.Parts.{Gathers};
 ghost use Rattle.std.specs.Prelude.{[], List, Bool};
-ghost use Rattle.reiser_volume.specs.reiser_walk.Items.{Item};
+ghost use Rattle.reiser_volume.specs.reiser_walk.Items.{ReiserItem};
 ghost use Rattle.reiser_volume_objects.specs.declared.key.ObjectKey.{ObjectKey as KeyOf};
 
 use crate::run::OwnedRun;
@@ -23,7 +23,7 @@ pub struct FileParts {
 impl FileParts {
     /// Of no files.
     pub fn new(alloc: Global) -> FileParts
-        ensures { (inline : Bool) (items : List Item) (keys : List KeyOf) → Gathers inline items keys [] result }
+        ensures { (inline : Bool) (items : List ReiserItem) (keys : List KeyOf) → Gathers inline items keys [] result }
     {
         FileParts {
             owned: Vec::new(alloc),

@@ -1,5 +1,5 @@
 ghost use Rattle.std.specs.Prelude.{◌≡◌, ◌≤◌, ◌<◌, ◌*◌, ◌^◌, length, slice_get, All, Some};
-ghost use Rattle.extent_pieces.specs.Placed.{ArePlaced, FitsPlan, blocks_of_units};
+ghost use Rattle.extent_pieces.specs.Placed.{WerePlaced, FitsPlan, blocks_of_units};
 
 use crate::Pieces;
 use reiser_bitmap::BlockNo;
@@ -13,7 +13,7 @@ impl Pieces {
     /// places. It takes no memory. It is called once.
     pub fn place(&mut self, plan: &Plan)
         requires { FitsPlan self.old plan.now.data_ }
-        ensures placed { ArePlaced self.old.kept plan.now.data_ self.old.items.items self.new.items.items }
+        ensures placed { WerePlaced self.old.kept plan.now.data_ self.old.items.items self.new.items.items }
         ensures counts { self.new.counts ≡ self.old.counts }
     {
         for i in self.kept..self.items.len() {

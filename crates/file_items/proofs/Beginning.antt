@@ -1,50 +1,17 @@
 -- How an object begins: its inode, its names and what it holds.
-use Rattle.std.proofs.Common.{◌≡◌, ◌≤◌, ◌<◌, ℕ, ◌+◌, ◌^◌, Bool, true, false, cond, List, [], ◌∷◌, ◌++◌, length, filter, map, count_by, sum_by, Option, Some, None, sym, ap, subst, ◌∙◌, if◌then◌else◌, arith, true≢false}
-use Rattle.std.specs.Prelude.{unwrap_or}
-use Rattle.std.specs.Option.{option_map_or}
-use Rattle.std.proofs.lemmas.List.{append_assoc, length-map}
-use Rattle.std.proofs.lemmas.List.Sums.{length-filter, sum_by-cons, sum_by-append}
-use Rattle.fs_rows.specs.declared.row.Kind.{Kind}
-use Rattle.fs_rows.specs.declared.row.Kind.TheVariants.{Directory}
-use Rattle.fs_rows.specs.Kinds.{is_directory}
-use Rattle.reiser_volume.specs.outside.History.{Image}
+use Rattle.file_items.proofs.Imports.{◌≡◌, ◌≤◌, ◌<◌, ℕ, ◌+◌, ◌^◌, Bool, true, false, cond, List, [], ◌∷◌, ◌++◌, length, filter, map, count_by, sum_by, Option, Some, None, sym, ap, subst, ◌∙◌, if◌then◌else◌, arith, true≢false, unwrap_or, option_map_or, length-map, length-filter, sum_by-cons, sum_by-append, INODE_ITEM, Kind, Directory, is_directory, Image, make_key, Item, is_under, Spot, places_count, links_one, same_key, root, items_of, ObjectKey, Naming, ObjectStat, accepted_is_small, stat_at, kind_by, no_stat, links_in, volume_items, InodeNumbers, Volume, HoldsBy, pieces_of, piece_bytes, inode_from, IsKnown, IndexedLink, Indexed, entries_behind, entry_behind, indexed, indexed_in, letters, next_index, saved_entry, IsObjectAt, HasContent, Begins, file_ahead, Source, ino_of, stat_in, kind_in, size_in, inline_in, size_by, nbytes_by, inode_in, name_items, content_items, object_items, FileInHand, LinkIndex}
+use Rattle.std.proofs.lemmas.List.{append_assoc}
 use Rattle.unit_plan.specs.btr_keys.Inode.{inode_bytes}
-use Rattle.unit_plan.specs.btr_keys.Key.{make_key}
 use Rattle.unit_plan.specs.btr_keys.declared.inode.Inode.{Inode}
-use Rattle.unit_plan.specs.btr_node.Leaf.{Item}
-use Rattle.btr_item_list.specs.Spots.{is_under}
-use Rattle.btr_item_list.specs.declared.spot.Spot.{Spot}
-use Rattle.btr_item_list.proofs.Placing.{places_count}
-use Rattle.reiser_volume.proofs.reiser_volume_names.Uniqueness.{links_one}
-use Rattle.reiser_volume_objects.specs.Keys.{same_key, root, items_of}
 use Rattle.reiser_volume_objects.specs.Rules.{IsDirectory}
-use Rattle.reiser_volume_objects.specs.declared.key.ObjectKey.{ObjectKey}
-use Rattle.reiser_volume_objects.specs.declared.naming.Naming.{Naming}
-use Rattle.reiser_volume_objects.specs.declared.stat.ObjectStat.{ObjectStat}
-use Rattle.reiser_volume.proofs.Bounds.{accepted_is_small}
-use Rattle.reiser_volume.specs.Made.{stat_at, kind_by, no_stat}
-use Rattle.reiser_volume.specs.Opened.{links_in}
-use Rattle.reiser_volume.specs.Volume.{volume_items}
-use Rattle.reiser_volume.specs.declared.numbers.Numbers.{Numbers}
-use Rattle.reiser_volume.specs.declared.volume.Volume.{Volume}
-use Rattle.file_items.specs.Contents.{HoldsBy}
-use Rattle.file_items.specs.Extents.{pieces_of, piece_bytes}
-use Rattle.file_items.specs.Inodes.{inode_from}
-use Rattle.file_items.specs.Known.{IsKnown}
-use Rattle.file_items.specs.Names.{Entry, Indexed, entries_behind, entry_behind, indexed, indexed_in, letters, next_index, saved_entry}
-use Rattle.file_items.specs.Spots.{IsAt}
-use Rattle.file_items.specs.Stream.{HasContent, Begins, file_ahead}
-use Rattle.file_items.specs.Tree.{Source, number_of, stat_in, kind_in, size_in, inline_in, size_by, bytes_by, inode_in, name_items, content_items, object_items}
-use Rattle.file_items.specs.declared.files.FileInHand.{FileInHand}
-use Rattle.file_items.specs.declared.link_index.LinkIndex.{LinkIndex}
 use Rattle.file_items.proofs.Held.{contains_at}
 
 -- the names of some entries are names of links
-some_letters : (kind : ObjectKey → Kind) (all : List ObjectKey) (p : Entry → Bool) (before links : List Naming) → letters (map (indexed kind all) (filter p (entries_behind before links))) ≤ sum_by (λ n. length n.name) links
+some_letters : (kind : ObjectKey → Kind) (all : List ObjectKey) (p : IndexedLink → Bool) (before links : List Naming) → letters (map (indexed kind all) (filter p (entries_behind before links))) ≤ sum_by (λ n. length n.name) links
 some_letters kind all p before [] = omega arith
 some_letters kind all p before (n ∷ links) = by (p (entry_behind before n)) (some_letters kind all p (before ++ n ∷ []) links) (sum_by-cons (λ (m : Naming). length m.name) n links)
   where
-    rest : List Entry
+    rest : List IndexedLink
     rest = filter p (entries_behind (before ++ n ∷ []) links)
 
     by : (b : Bool) → letters (map (indexed kind all) rest) ≤ sum_by (λ m. length m.name) links → sum_by (λ m. length m.name) (n ∷ links) ≡ length n.name + sum_by (λ m. length m.name) links
@@ -71,7 +38,7 @@ letters_few kind all links dir = by (same_key dir root)
         let both : letters (own ++ []) ≡ letters own + 0 = sum_by-append (λ (e : Indexed). length e.1.name) own [] in
         omega (arith, less, both)
 
-module _ (volume : Volume) (index : LinkIndex) (numbers : Numbers) (image : Image) (known : IsKnown volume index numbers image) (place : ℕ) (key : ObjectKey) (at : IsAt volume place key) where
+module _ (volume : Volume) (index : LinkIndex) (numbers : InodeNumbers) (image : Image) (known : IsKnown volume index numbers image) (place : ℕ) (key : ObjectKey) (at : IsObjectAt volume place key) where
   -- the names of a directory of an accepted volume are short
   pub letters_small : (kind : ObjectKey → Kind) (all : List ObjectKey) (dir : ObjectKey) → letters (indexed_in kind all (links_in volume) dir) < 2 ^ 62
   letters_small kind all dir =
@@ -105,17 +72,17 @@ module _ (volume : Volume) (index : LinkIndex) (numbers : Numbers) (image : Imag
 
 -- the bytes of the extents of an object, by what stays in the tree
 pub bytes_held : (s : Source) (key : ObjectKey) (held : Option ℕ) (block : List ℕ) → HoldsBy (inline_in s key) (items_of key s.items) (size_in s key) held block
-    → option_map_or (λ n. n) held (piece_bytes (pieces_of s.pieces (number_of s key))) ≡ bytes_by s key
+    → option_map_or (λ n. n) held (piece_bytes (pieces_of s.pieces (ino_of s key))) ≡ nbytes_by s key
 bytes_held s key held block holds = by (inline_in s key) held holds
   where
     by : (b : Bool) (o : Option ℕ) → HoldsBy b (items_of key s.items) (size_in s key) o block
-        → option_map_or (λ n. n) o (piece_bytes (pieces_of s.pieces (number_of s key))) ≡ (if b then size_in s key else piece_bytes (pieces_of s.pieces (number_of s key)))
+        → option_map_or (λ n. n) o (piece_bytes (pieces_of s.pieces (ino_of s key))) ≡ (if b then size_in s key else piece_bytes (pieces_of s.pieces (ino_of s key)))
     by true None never = absurd never
     by true (Some n) has = has.count
-    by false o none = ap (λ (p : Option ℕ). option_map_or (λ n. n) p (piece_bytes (pieces_of s.pieces (number_of s key)))) none
+    by false o none = ap (λ (p : Option ℕ). option_map_or (λ n. n) p (piece_bytes (pieces_of s.pieces (ino_of s key)))) none
 
 -- the inode of an object
-pub inode_of_object : (s : Source) (key : ObjectKey) (flags : ℕ) (stat : ObjectStat) (kind : Kind) (size nbytes nlink : ℕ) → flags ≡ s.flags → stat_in s key ≡ stat → kind ≡ kind_in s key → size ≡ size_by s key kind → nbytes ≡ bytes_by s key → nlink ≡ (if is_directory kind then 1 else count_by (λ n. same_key n.target key) s.links)
+pub inode_of_object : (s : Source) (key : ObjectKey) (flags : ℕ) (stat : ObjectStat) (kind : Kind) (size nbytes nlink : ℕ) → flags ≡ s.flags → stat_in s key ≡ stat → kind ≡ kind_in s key → size ≡ size_by s key kind → nbytes ≡ nbytes_by s key → nlink ≡ (if is_directory kind then 1 else count_by (λ n. same_key n.target key) s.links)
     → inode_from s.datasum flags stat kind size nbytes nlink ≡ inode_in s key
 unfolding inode_in
 inode_of_object s key flags stat kind size nbytes nlink flags_are stat_is kind_is size_is nbytes_is nlink_is =
@@ -123,23 +90,23 @@ inode_of_object s key flags stat kind size nbytes nlink flags_are stat_is kind_i
     ∙ (ap (λ (t : ObjectStat). inode_from s.datasum s.flags t kind size nbytes nlink) (sym stat_is)
     ∙ (ap (λ (n : ℕ). inode_from s.datasum s.flags (stat_in s key) kind n nbytes nlink) size_is
     ∙ (ap (λ (n : ℕ). inode_from s.datasum s.flags (stat_in s key) kind (size_by s key kind) n nlink) nbytes_is
-    ∙ (ap (λ (n : ℕ). inode_from s.datasum s.flags (stat_in s key) kind (size_by s key kind) (bytes_by s key) n) nlink_is
-    ∙ ap (λ (k : Kind). inode_from s.datasum s.flags (stat_in s key) k (size_by s key k) (bytes_by s key) (if is_directory k then 1 else count_by (λ n. same_key n.target key) s.links)) kind_is))))
+    ∙ (ap (λ (n : ℕ). inode_from s.datasum s.flags (stat_in s key) kind (size_by s key kind) (nbytes_by s key) n) nlink_is
+    ∙ ap (λ (k : Kind). inode_from s.datasum s.flags (stat_in s key) k (size_by s key k) (nbytes_by s key) (if is_directory k then 1 else count_by (λ n. same_key n.target key) s.links)) kind_is))))
 
 -- an object begins by its inode, its names and its content
-pub begins : (s : Source) (key : ObjectKey) (file : FileInHand) (ino : ℕ) (inode : Inode) (items₀ items₁ items₂ items₃ : List Item) → ino ≡ number_of s key → inode ≡ inode_in s key → items₁ ≡ items₀ ++ (make_key ino 1 0, inode_bytes inode) ∷ [] → items₂ ≡ items₁ ++ name_items s key
+pub begins : (s : Source) (key : ObjectKey) (file : FileInHand) (ino : ℕ) (inode : Inode) (items₀ items₁ items₂ items₃ : List Item) → ino ≡ ino_of s key → inode ≡ inode_in s key → items₁ ≡ items₀ ++ (make_key ino INODE_ITEM 0, inode_bytes inode) ∷ [] → items₂ ≡ items₁ ++ name_items s key
     → HasContent s key file items₂ items₃ → Begins s key file items₀ items₃
 unfolding object_items
 begins s key file ino inode items₀ items₁ items₂ items₃ ino_is inode_is one two content = record {
-  item = (make_key ino 1 0, inode_bytes inode);
+  item = (make_key ino INODE_ITEM 0, inode_bytes inode);
   items = name_items s key ++ content.items;
   added =
       content.added
       ∙ (ap (λ (l : List Item). l ++ content.items) (two ∙ ap (λ (l : List Item). l ++ name_items s key) one)
-      ∙ (ap (λ (l : List Item). l ++ content.items) (append_assoc items₀ ((make_key ino 1 0, inode_bytes inode) ∷ []) (name_items s key))
-      ∙ append_assoc items₀ ((make_key ino 1 0, inode_bytes inode) ∷ name_items s key) content.items));
+      ∙ (ap (λ (l : List Item). l ++ content.items) (append_assoc items₀ ((make_key ino INODE_ITEM 0, inode_bytes inode) ∷ []) (name_items s key))
+      ∙ append_assoc items₀ ((make_key ino INODE_ITEM 0, inode_bytes inode) ∷ name_items s key) content.items));
   are =
-      ap (λ (i : ℕ). (make_key i 1 0, inode_bytes (inode_in s key)) ∷ (name_items s key ++ content_items s key (kind_in s key))) (sym ino_is)
-      ∙ (ap (λ (i : Inode). (make_key ino 1 0, inode_bytes i) ∷ (name_items s key ++ content_items s key (kind_in s key))) (sym inode_is)
-      ∙ ap (λ (l : List Item). (make_key ino 1 0, inode_bytes inode) ∷ l) (ap (λ (l : List Item). name_items s key ++ l) content.are ∙ sym (append_assoc (name_items s key) content.items (file_ahead file s.pieces))));
+      ap (λ (i : ℕ). (make_key i INODE_ITEM 0, inode_bytes (inode_in s key)) ∷ (name_items s key ++ content_items s key (kind_in s key))) (sym ino_is)
+      ∙ (ap (λ (i : Inode). (make_key ino INODE_ITEM 0, inode_bytes i) ∷ (name_items s key ++ content_items s key (kind_in s key))) (sym inode_is)
+      ∙ ap (λ (l : List Item). (make_key ino INODE_ITEM 0, inode_bytes inode) ∷ l) (ap (λ (l : List Item). name_items s key ++ l) content.are ∙ sym (append_assoc (name_items s key) content.items (file_ahead file s.pieces))));
 }

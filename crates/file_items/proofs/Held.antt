@@ -1,38 +1,19 @@
 -- What of an object is held in the tree itself.
-use Rattle.std.proofs.Common.{◌≡◌, ◌<◌, ◌≤◌, ℕ, zero, suc, Bool, true, false, List, [], nat_le, ◌&&◌, Contains, Option, Some, None, refl, sym, ap, subst, ◌∙◌, true≢false, arith}
-use Rattle.std.specs.Prelude.{unwrap_or}
+use Rattle.file_items.proofs.Imports.{◌≡◌, ◌<◌, ◌≤◌, ℕ, zero, suc, Bool, true, false, List, [], nat_le, ◌&&◌, Contains, Option, Some, None, refl, sym, ap, subst, ◌∙◌, true≢false, arith, unwrap_or, nat_tests, slice_get_within, get_or_from_slice_get, Kind, Directory, File, Symlink, Character, Block, Fifo, Socket, Subvolume, keys, get, Image, block_from, file_runs, runs_of, extended, ObjectKey, ObjectStat, same_key, items_of, stays_in_tree, is_tail, stat_at, kind_by, no_stat, IsOpened, IsAccepted, volume_items, Volume, ReiserItem, begins_in_tail, HoldsBy, HoldsDirectBytes, HoldsInline, IsObjectAt}
 use Rattle.std.specs.Int.{div_ceil}
-use Rattle.std.proofs.lemmas.Bool.Decides.{nat_tests}
-use Rattle.std.proofs.lemmas.Option.{slice_get_within, get_or_from_slice_get}
-use Rattle.fs_rows.specs.declared.row.Kind.{Kind}
-use Rattle.fs_rows.specs.declared.row.Kind.TheVariants.{Directory, File, Symlink, Character, Block, Fifo, Socket, Subvolume}
-use Rattle.indexmap.specs.IndexMap.{keys, get}
-use Rattle.reiser_volume.specs.outside.History.{Image}
 use Rattle.reiser_volume_files.specs.declared.map.RunFrom.{RunFrom}
-use Rattle.reiser_volume_files.specs.Runs.{block_from, file_runs, runs_of, extended}
-use Rattle.reiser_volume_objects.specs.declared.key.ObjectKey.{ObjectKey}
-use Rattle.reiser_volume_objects.specs.declared.stat.ObjectStat.{ObjectStat}
 use Rattle.reiser_volume_objects.specs.Items.{stat_of_object}
-use Rattle.reiser_volume_objects.specs.Keys.{same_key, items_of}
 use Rattle.reiser_volume_objects.specs.Kinds.{kind_of_mode}
-use Rattle.reiser_volume.specs.Inline.{is_inline, is_tail}
-use Rattle.reiser_volume.specs.Made.{stat_at, kind_by, no_stat}
-use Rattle.reiser_volume.specs.Opened.{IsOpened}
-use Rattle.reiser_volume.specs.Volume.{IsAccepted, volume_items}
-use Rattle.reiser_volume.specs.declared.volume.Volume.{Volume}
-use Rattle.reiser_volume.specs.reiser_walk.Items.{Item}
-use Rattle.file_items.specs.Contents.{begins_in_tail, HoldsBy, HoldsBytes, HoldsInline}
-use Rattle.file_items.specs.Spots.{IsAt}
 
-pub contains_at : (volume : Volume) (place : ℕ) (key : ObjectKey) → IsAt volume place key → Contains (keys volume.named) key
+pub contains_at : (volume : Volume) (place : ℕ) (key : ObjectKey) → IsObjectAt volume place key → Contains (keys volume.named) key
 contains_at volume place key at = (place, slice_get_within (keys volume.named) place key at, get_or_from_slice_get (keys volume.named) place key key at)
 
-pub stat_is : (volume : Volume) (image : Image) (place : ℕ) (key : ObjectKey) (stat : ObjectStat) → IsOpened volume image → IsAt volume place key → get same_key volume.named key ≡ Some stat → stat_at (volume_items image) key ≡ stat
+pub stat_is : (volume : Volume) (image : Image) (place : ℕ) (key : ObjectKey) (stat : ObjectStat) → IsOpened volume image → IsObjectAt volume place key → get same_key volume.named key ≡ Some stat → stat_at (volume_items image) key ≡ stat
 stat_is volume image place key stat opened at has = ap (λ (o : Option ObjectStat). unwrap_or o no_stat) (sym (opened.stats key (contains_at volume place key at)) ∙ has)
 
 -- the size of what stays in the tree
-pub inline_low : (volume : Volume) (image : Image) (place : ℕ) (key : ObjectKey) (inline : Bool) (kind : Kind) → IsAccepted image → IsOpened volume image → IsAt volume place key
-    → kind ≡ kind_by (stat_at (volume_items image) key) → is_inline inline (items_of key (volume_items image)) (stat_at (volume_items image) key).fields.size kind ≡ true → (stat_at (volume_items image) key).fields.size ≤ 3900
+pub inline_low : (volume : Volume) (image : Image) (place : ℕ) (key : ObjectKey) (inline : Bool) (kind : Kind) → IsAccepted image → IsOpened volume image → IsObjectAt volume place key
+    → kind ≡ kind_by (stat_at (volume_items image) key) → stays_in_tree inline (items_of key (volume_items image)) (stat_at (volume_items image) key).fields.size kind ≡ true → (stat_at (volume_items image) key).fields.size ≤ 3900
 inline_low volume image place key inline kind accepted opened at kind_is is = by kind kind_is is
   where
     second : (a b : Bool) → (a && b) ≡ true → b ≡ true
@@ -75,7 +56,7 @@ inline_low volume image place key inline kind accepted opened at kind_is is = by
             let size = ap (λ (s : ObjectStat). s.fields.size) same in
             omega (arith, low, size)
 
-    by : (k : Kind) → k ≡ kind_by (stat_at (volume_items image) key) → is_inline inline (items_of key (volume_items image)) (stat_at (volume_items image) key).fields.size k ≡ true → (stat_at (volume_items image) key).fields.size ≤ 3900
+    by : (k : Kind) → k ≡ kind_by (stat_at (volume_items image) key) → stays_in_tree inline (items_of key (volume_items image)) (stat_at (volume_items image) key).fields.size k ≡ true → (stat_at (volume_items image) key).fields.size ≤ 3900
     by File k_is h =
         let size : ℕ = (stat_at (volume_items image) key).fields.size in
         let tail : Bool = is_tail (block_from (items_of key (volume_items image)) size 0) in
@@ -89,7 +70,7 @@ inline_low volume image place key inline kind accepted opened at kind_is is = by
     by Subvolume k_is h = absurd (true≢false (sym h))
 
 -- a short file lies in direct items where its map begins so
-pub first_tail : (items : List Item) (size : ℕ) → size ≤ 2048 → begins_in_tail (file_runs items size) ≡ (nat_le size 2048 && is_tail (block_from items size 0))
+pub first_tail : (items : List ReiserItem) (size : ℕ) → size ≤ 2048 → begins_in_tail (file_runs items size) ≡ (nat_le size 2048 && is_tail (block_from items size 0))
 unfolding runs_of
 first_tail items size short = by size short
   where
@@ -121,13 +102,13 @@ not_short n b more = sym (ap (λ (c : Bool). c && b) (gt n more))
     gt n h = grind (arith, nat_tests)
 
 -- a file where short ones stay in the tree
-pub file_inline : (inline : Bool) (items : List Item) (size : ℕ) (kind : Kind) (test : Bool) → kind ≡ File → inline ≡ true → test ≡ (nat_le size 2048 && is_tail (block_from items size 0)) → test ≡ is_inline inline items size kind
+pub file_inline : (inline : Bool) (items : List ReiserItem) (size : ℕ) (kind : Kind) (test : Bool) → kind ≡ File → inline ≡ true → test ≡ (nat_le size 2048 && is_tail (block_from items size 0)) → test ≡ stays_in_tree inline items size kind
 file_inline inline items size kind test kind_is inline_is is =
-    is ∙ sym (ap (λ (k : Kind). is_inline inline items size k) kind_is ∙ ap (λ (b : Bool). b && (nat_le size 2048 && is_tail (block_from items size 0))) inline_is)
+    is ∙ sym (ap (λ (k : Kind). stays_in_tree inline items size k) kind_is ∙ ap (λ (b : Bool). b && (nat_le size 2048 && is_tail (block_from items size 0))) inline_is)
 
 -- what an inline object holds, and what another one
-pub holds_inline : (inline : Bool) (items : List Item) (size : ℕ) (kind : Kind) (n : ℕ) (block : List ℕ) → is_inline inline items size kind ≡ true → HoldsBytes items size n block → HoldsInline inline items size kind (Some n) block
+pub holds_inline : (inline : Bool) (items : List ReiserItem) (size : ℕ) (kind : Kind) (n : ℕ) (block : List ℕ) → stays_in_tree inline items size kind ≡ true → HoldsDirectBytes items size n block → HoldsInline inline items size kind (Some n) block
 holds_inline inline items size kind n block is has = subst (λ (b : Bool). HoldsBy b items size (Some n) block) (sym is) has
 
-pub holds_nothing : (inline : Bool) (items : List Item) (size : ℕ) (kind : Kind) (block : List ℕ) → is_inline inline items size kind ≡ false → HoldsInline inline items size kind None block
+pub holds_nothing : (inline : Bool) (items : List ReiserItem) (size : ℕ) (kind : Kind) (block : List ℕ) → stays_in_tree inline items size kind ≡ false → HoldsInline inline items size kind None block
 holds_nothing inline items size kind block is = subst (λ (b : Bool). HoldsBy b items size None block) (sym is) refl

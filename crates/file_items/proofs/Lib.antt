@@ -1,6 +1,7 @@
 pub mod Beginning
 pub mod Extending
 pub mod Held
+pub mod Imports
 pub mod Linked
 pub mod Named
 pub mod Ordering

@@ -1,34 +1,9 @@
 -- The links of a volume by the places of their directories and objects.
-use Rattle.std.proofs.Common.{◌≡◌, ◌≢◌, ◌<◌, ℕ, zero, suc, ◌+◌, ◌==◌, ◌&&◌, Bool, true, false, cond, List, [], ◌∷◌, ◌++◌, length, filter, map, take, get_or, count_by, nat_lt, Some, None, AllPairs, refl, sym, ap, subst, ◌∙◌, if◌then◌else◌, append_assoc, ⊎_elim, arith}
-use Rattle.std.specs.Prelude.{slice_get}
-use Rattle.std.specs.List.{All, AllByRecursion}
+use Rattle.file_items.proofs.Imports.{◌≡◌, ◌≢◌, ◌<◌, ℕ, zero, suc, ◌+◌, ◌==◌, ◌&&◌, Bool, true, false, cond, List, [], ◌∷◌, ◌++◌, length, filter, map, take, get_or, count_by, nat_lt, Some, None, AllPairs, refl, sym, ap, subst, ◌∙◌, if◌then◌else◌, append_assoc, ⊎_elim, arith, slice_get, All, AllByRecursion, nat_tests, append-nil, map-append, length-take, filter-append, All-push, All-from_recursion, slice_get_within, get_or_from_slice_get, slice_get-get_or, IndexMap, keys, Image, ascending, is_under, Spot, take_push, places_push, places_map, places_hold, places_before, places_rise, count_map, pairs_map, ascending_filter, ascending_all, reference_size, tally, capped, ObjectKey, Naming, same_key, same_key-true, same_key-self, and_left, and_right, Volume, IsOpened, links_in, AreBelow, TellsPlaces, IndexedLink, entry_behind, entries_behind, indexed_links, next_index, same_names, AreSizes}
 use Rattle.std.proofs.lemmas.Bool.{cases_lt}
-use Rattle.std.proofs.lemmas.Bool.Decides.{nat_tests}
-use Rattle.std.proofs.lemmas.List.{append-nil, map-append, length-take}
-use Rattle.std.proofs.lemmas.List.Elements.{filter-append, All-push, All-from_recursion}
-use Rattle.std.proofs.lemmas.Option.{slice_get_within, get_or_from_slice_get, slice_get-get_or}
-use Rattle.indexmap.specs.IndexMap.{IndexMap, keys}
-use Rattle.reiser_volume.specs.outside.History.{Image}
-use Rattle.btr_item_list.specs.Groups.{ascending}
 use Rattle.btr_item_list.specs.Places.{places_from}
-use Rattle.btr_item_list.specs.Spots.{is_under}
-use Rattle.btr_item_list.specs.declared.spot.Spot.{Spot}
-use Rattle.btr_item_list.proofs.Joining.{take_push}
-use Rattle.btr_item_list.proofs.Placing.{places_push, places_map, places_hold, places_before, places_rise, count_map, pairs_map}
-use Rattle.btr_item_list.proofs.Sorting.{ascending_filter, ascending_all}
-use Rattle.reiser_volume.specs.reiser_volume_names.Names.{reference_size}
-use Rattle.reiser_volume.specs.reiser_volume_names.Tally.{tally, capped}
 use Rattle.reiser_volume.proofs.reiser_volume_names.Sums.{weight_push}
-use Rattle.reiser_volume_objects.specs.declared.key.ObjectKey.{ObjectKey}
-use Rattle.reiser_volume_objects.specs.declared.naming.Naming.{Naming}
-use Rattle.reiser_volume_objects.specs.Keys.{same_key}
-use Rattle.reiser_volume_objects.proofs.Tables.{same_key-true, same_key-self, and_left, and_right}
-use Rattle.reiser_volume.specs.declared.volume.Volume.{Volume}
-use Rattle.reiser_volume.specs.Opened.{IsOpened, links_in}
-use Rattle.file_items.specs.Spots.{AreBelow, TellsPlaces}
-use Rattle.file_items.specs.Names.{Entry, entry_behind, entries_behind, entries, next_index}
-use Rattle.file_items.specs.Sizes.{same_names, AreSizes}
-use Rattle.file_items.specs.declared.link_index.NamesIn.{NamesIn}
+use Rattle.file_items.specs.declared.link_index.RefKey.{RefKey}
 
 pub unequal : (a b : ObjectKey) → (a ≡ b → ⊥) → same_key a b ≡ false
 unequal a b apart = by (same_key a b) refl
@@ -96,22 +71,22 @@ spot_more volume key_of links spots new n under x once before there at new_is = 
 pub entries_push : (before ls : List Naming) (n : Naming) → entries_behind before (ls ++ n ∷ []) ≡ entries_behind before ls ++ entry_behind (before ++ ls) n ∷ []
 entries_push before [] n = ap (λ (l : List Naming). entry_behind l n ∷ []) (sym (append-nil before))
 entries_push before (x ∷ ls) n =
-    ap (λ (l : List Entry). entry_behind before x ∷ l) (entries_push (before ++ x ∷ []) ls n ∙ ap (λ (l : List Naming). entries_behind (before ++ x ∷ []) ls ++ entry_behind l n ∷ []) (append_assoc before (x ∷ []) ls))
+    ap (λ (l : List IndexedLink). entry_behind before x ∷ l) (entries_push (before ++ x ∷ []) ls n ∙ ap (λ (l : List Naming). entries_behind (before ++ x ∷ []) ls ++ entry_behind l n ∷ []) (append_assoc before (x ∷ []) ls))
 
-pub entries_links : (before ls : List Naming) → map (λ (e : Entry). e.link) (entries_behind before ls) ≡ ls
+pub entries_links : (before ls : List Naming) → map (λ (e : IndexedLink). e.link) (entries_behind before ls) ≡ ls
 entries_links before [] = refl
 entries_links before (x ∷ ls) = ap (λ (l : List Naming). x ∷ l) (entries_links (before ++ x ∷ []) ls)
 
 -- an entry is its link's, with the index that it has behind those before it
-pub record IsEntry (before ls : List Naming) (i : ℕ) (e : Entry) : Type 0 where
+pub record IsEntry (before ls : List Naming) (i : ℕ) (e : IndexedLink) : Type 0 where
   pub link : slice_get ls i ≡ Some e.link
   pub is : e ≡ entry_behind (before ++ take i ls) e.link
 
-pub entry_at : (before ls : List Naming) (i : ℕ) (e : Entry) → slice_get (entries_behind before ls) i ≡ Some e → IsEntry before ls i e
+pub entry_at : (before ls : List Naming) (i : ℕ) (e : IndexedLink) → slice_get (entries_behind before ls) i ≡ Some e → IsEntry before ls i e
 entry_at before [] i e there = let never : None ≡ Some e = there in absurd cc
 entry_at before (x ∷ ls) zero e there =
     let same : entry_behind before x ≡ e = cc in
-    let link : x ≡ e.link = ap (λ (f : Entry). f.link) same in
+    let link : x ≡ e.link = ap (λ (f : IndexedLink). f.link) same in
     record {
       link = ap (λ (n : Naming). Some n) link;
       is = sym same ∙ (ap (λ (l : List Naming). entry_behind l x) (sym (append-nil before)) ∙ ap (entry_behind (before ++ [])) link);
@@ -126,11 +101,11 @@ map_twice {A} {B} {C} f g (x ∷ xs) = ap (λ (l : List C). f (g x) ∷ l) (map_
 
 -- what the spots under an object tell of all entries
 pub entries_told : (links : List Naming) (key_of : Naming → ObjectKey) (key : ObjectKey) (spots : List Spot) → map (λ spot. spot.number) spots ≡ places_from (λ n. same_key (key_of n) key) 0 links
-    → map (λ spot. slice_get (entries links) spot.number) spots ≡ map (λ (e : Entry). Some e) (filter (λ e. same_key (key_of e.link) key) (entries links))
+    → map (λ spot. slice_get (indexed_links links) spot.number) spots ≡ map (λ (e : IndexedLink). Some e) (filter (λ e. same_key (key_of e.link) key) (indexed_links links))
 entries_told links key_of key spots places =
-    map_twice (slice_get (entries links)) (λ (spot : Spot). spot.number) spots
-    ∙ (ap (map (slice_get (entries links))) (places ∙ (ap (places_from (λ n. same_key (key_of n) key) 0) (sym (entries_links [] links)) ∙ places_map (λ n. same_key (key_of n) key) (λ (e : Entry). e.link) 0 (entries links)))
-    ∙ places_hold (λ e. same_key (key_of e.link) key) 0 (entries links) (entries links) (λ k. let same : 0 + k ≡ k = omega arith in ap (slice_get (entries links)) same))
+    map_twice (slice_get (indexed_links links)) (λ (spot : Spot). spot.number) spots
+    ∙ (ap (map (slice_get (indexed_links links))) (places ∙ (ap (places_from (λ n. same_key (key_of n) key) 0) (sym (entries_links [] links)) ∙ places_map (λ n. same_key (key_of n) key) (λ (e : IndexedLink). e.link) 0 (indexed_links links)))
+    ∙ places_hold (λ e. same_key (key_of e.link) key) 0 (indexed_links links) (indexed_links links) (λ k. let same : 0 + k ≡ k = omega arith in ap (slice_get (indexed_links links)) same))
 
 -- the spots of a directory ascend
 pub spots_rise : (links : List Naming) (key : ObjectKey) (spots : List Spot) → map (λ spot. spot.number) spots ≡ places_from (λ n. same_key n.dir key) 0 links → AllPairs (λ (a b : Spot). a.number < b.number) spots
@@ -180,7 +155,7 @@ below_sorted n spots sorted below is =
     places_to P (x ∷ xs) all = (all 0 x (omega arith), places_to P xs (λ k d h. all (suc k) d (omega (arith, h))))
 
 -- what a link takes of an inode ref
-module _ {S : Type 0} (all : List ObjectKey) (once : AllPairs (λ (a b : ObjectKey). a ≢ b) all) (old new : IndexMap NamesIn ℕ S) (links : List Naming) (n : ℕ) (x : Naming) (dir object size now : ℕ)
+module _ {S : Type 0} (all : List ObjectKey) (once : AllPairs (λ (a b : ObjectKey). a ≢ b) all) (old new : IndexMap RefKey ℕ S) (links : List Naming) (n : ℕ) (x : Naming) (dir object size now : ℕ)
     (there : slice_get links n ≡ Some x) (at_dir : slice_get all dir ≡ Some x.dir) (at_object : slice_get all object ≡ Some x.target) (size_is : size ≡ capped (length x.name + 10))
     (now_is : now ≡ capped (tally same_names old (record { dir = dir; object = object }) + size)) (before : AreSizes all old (take n links)) where
   one_more : take (n + 1) links ≡ take n links ++ x ∷ []
@@ -204,7 +179,7 @@ module _ {S : Type 0} (all : List ObjectKey) (once : AllPairs (λ (a b : ObjectK
   pub size_now : now ≡ capped (reference_size (take n links ++ x ∷ []) x.dir x.target)
   size_now = own x.dir x.target (ap (λ (b : Bool). b && same_key x.target x.target) (same_key-self x.dir) ∙ same_key-self x.target) refl refl
 
-  pub sizes_more : ((q : NamesIn) → tally same_names new q ≡ (if same_names (record { dir = dir; object = object }) q then capped (tally same_names old (record { dir = dir; object = object }) + size) else tally same_names old q))
+  pub sizes_more : ((q : RefKey) → tally same_names new q ≡ (if same_names (record { dir = dir; object = object }) q then capped (tally same_names old (record { dir = dir; object = object }) + size) else tally same_names old q))
       → AreSizes all new (take (n + 1) links)
   sizes_more grows = λ q d o at_d at_o.
       let tests : same_names (record { dir = dir; object = object }) q ≡ (same_key x.dir d && same_key x.target o) =
@@ -212,7 +187,7 @@ module _ {S : Type 0} (all : List ObjectKey) (once : AllPairs (λ (a b : ObjectK
       grows q ∙ (ap (λ (b : Bool). if b then capped (tally same_names old (record { dir = dir; object = object }) + size) else tally same_names old q) tests
       ∙ (by q d o at_d at_o (same_key x.dir d && same_key x.target o) refl ∙ ap (λ (l : List Naming). capped (reference_size l d o)) (sym one_more)))
     where
-      by : (q : NamesIn) (d o : ObjectKey) → slice_get all q.dir ≡ Some d → slice_get all q.object ≡ Some o → (b : Bool) → (same_key x.dir d && same_key x.target o) ≡ b
+      by : (q : RefKey) (d o : ObjectKey) → slice_get all q.dir ≡ Some d → slice_get all q.object ≡ Some o → (b : Bool) → (same_key x.dir d && same_key x.target o) ≡ b
           → (if b then capped (tally same_names old (record { dir = dir; object = object }) + size) else tally same_names old q) ≡ capped (reference_size (take n links ++ x ∷ []) d o)
       by q d o at_d at_o true is =
           sym now_is ∙ own d o is (same_key-true x.dir d (and_left (same_key x.dir d) (same_key x.target o) is)) (same_key-true x.target o (and_right (same_key x.dir d) (same_key x.target o) is))
@@ -228,8 +203,8 @@ module _ {S : Type 0} (all : List ObjectKey) (once : AllPairs (λ (a b : ObjectK
       test : (a t : ℕ) → a ≡ capped t → nat_lt 3900 a ≡ nat_lt 3900 t
       test a t same = grind (arith, nat_tests)
 
-  pub flags_more : (flags more : List Bool) (flag : Bool) → flags ≡ map (λ (e : Entry). e.extended) (entries (take n links)) → flag ≡ nat_lt 3900 now → more ≡ flags ++ flag ∷ [] → more ≡ map (λ (e : Entry). e.extended) (entries (take (n + 1) links))
+  pub flags_more : (flags more : List Bool) (flag : Bool) → flags ≡ map (λ (e : IndexedLink). e.extended) (indexed_links (take n links)) → flag ≡ nat_lt 3900 now → more ≡ flags ++ flag ∷ [] → more ≡ map (λ (e : IndexedLink). e.extended) (indexed_links (take (n + 1) links))
   flags_more flags more flag are is more_is =
-      more_is ∙ (ap (λ (l : List Bool). l ++ flag ∷ []) are ∙ (ap (λ (b : Bool). map (λ (e : Entry). e.extended) (entries (take n links)) ++ b ∷ []) (flag_now flag is)
-      ∙ (sym (map-append (λ (e : Entry). e.extended) (entries (take n links)) (entry_behind (take n links) x ∷ []))
-      ∙ ap (map (λ (e : Entry). e.extended)) (sym (entries_push [] (take n links) x) ∙ ap entries (sym one_more)))))
+      more_is ∙ (ap (λ (l : List Bool). l ++ flag ∷ []) are ∙ (ap (λ (b : Bool). map (λ (e : IndexedLink). e.extended) (indexed_links (take n links)) ++ b ∷ []) (flag_now flag is)
+      ∙ (sym (map-append (λ (e : IndexedLink). e.extended) (indexed_links (take n links)) (entry_behind (take n links) x ∷ []))
+      ∙ ap (map (λ (e : IndexedLink). e.extended)) (sym (entries_push [] (take n links) x) ∙ ap indexed_links (sym one_more)))))

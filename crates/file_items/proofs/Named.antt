@@ -1,39 +1,7 @@
 -- The names of an object, and the entries of a directory, by the spots of a volume.
-use Rattle.std.proofs.Common.{◌≡◌, ◌<◌, ◌≤◌, ℕ, zero, suc, ◌+◌, ◌^◌, Bool, true, false, cond, not, List, [], ◌∷◌, ◌++◌, length, filter, map, take, get_or, count_by, nat_lt, Some, None, AllPairs, Contains, refl, sym, ap, subst, ◌∙◌, if◌then◌else◌, arith}
-use Rattle.std.specs.Prelude.{slice_get}
-use Rattle.std.proofs.lemmas.List.{map-append}
-use Rattle.std.proofs.lemmas.List.Elements.{filter-append, filter_passes}
-use Rattle.std.proofs.lemmas.List.Sums.{sum_by_push, sum_by-cons}
-use Rattle.std.proofs.lemmas.Option.{slice_get_within, get_or_from_slice_get, slice_get-get_or}
-use Rattle.fs_rows.specs.declared.row.Kind.{Kind}
-use Rattle.reiser_volume.specs.outside.History.{Image}
-use Rattle.unit_plan.specs.btr_keys.DirEntry.{DirEntryValue}
-use Rattle.unit_plan.specs.btr_keys.Key.{make_key}
-use Rattle.unit_plan.specs.btr_keys.declared.key.Key.{Key}
-use Rattle.unit_plan.specs.btr_node.Leaf.{Item}
-use Rattle.btr_item_list.specs.Spots.{is_under}
-use Rattle.btr_item_list.specs.declared.spot.Spot.{Spot}
-use Rattle.btr_item_list.proofs.Joining.{take_push}
-use Rattle.btr_item_list.proofs.Placing.{told_at, told_long, places_count}
-use Rattle.reiser_volume.proofs.reiser_volume_names.Uniqueness.{links_one}
-use Rattle.reiser_volume.specs.reiser_volume_names.Tally.{capped}
-use Rattle.reiser_volume_objects.specs.declared.key.ObjectKey.{ObjectKey}
-use Rattle.reiser_volume_objects.specs.declared.naming.Naming.{Naming}
-use Rattle.reiser_volume_objects.specs.Keys.{same_key, root}
-use Rattle.reiser_volume_objects.proofs.Tables.{same_key-true}
-use Rattle.reiser_volume.proofs.Bounds.{accepted_is_small}
-use Rattle.reiser_volume.specs.declared.numbers.Numbers.{Numbers}
-use Rattle.reiser_volume.specs.declared.volume.Volume.{Volume}
-use Rattle.reiser_volume.specs.Opened.{IsOpened, links_in}
-use Rattle.reiser_volume.specs.Volume.{IsAccepted, volume_items}
-use Rattle.file_items.specs.Gathered.{HasName, HasNames, HasEntry, HasEntries}
-use Rattle.file_items.specs.Known.{IsKnown}
-use Rattle.file_items.specs.Names.{Entry, entries, names_of, names_in, next_index, ref_record, far_record, Indexed, letters, hash_record, index_record, indexed, indexed_in, saved_entry, root_ref, inode_refs, extrefs}
-use Rattle.file_items.specs.Tree.{Source, name_items}
-use Rattle.file_items.specs.Spots.{IsAt}
-use Rattle.file_items.specs.declared.link_index.LinkIndex.{LinkIndex}
+use Rattle.file_items.proofs.Imports.{◌≡◌, ◌<◌, ◌≤◌, ℕ, zero, suc, ◌+◌, ◌^◌, Bool, true, false, cond, not, List, [], ◌∷◌, ◌++◌, length, filter, map, take, get_or, count_by, nat_lt, Some, None, AllPairs, Contains, refl, sym, ap, subst, ◌∙◌, if◌then◌else◌, arith, slice_get, map-append, filter-append, filter_passes, sum_by_push, sum_by-cons, slice_get_within, get_or_from_slice_get, slice_get-get_or, INODE_ITEM, Kind, Image, DirEntryValue, make_key, Key, Item, is_under, Spot, take_push, told_at, told_long, places_count, links_one, capped, ObjectKey, Naming, same_key, root, same_key-true, accepted_is_small, InodeNumbers, Volume, IsOpened, links_in, IsAccepted, volume_items, HasName, HasNames, HasEntry, HasEntries, IsKnown, IndexedLink, indexed_links, names_of, names_in, next_index, ref_record, far_record, Indexed, letters, hash_record, index_record, indexed, indexed_in, saved_entry, root_ref, inode_refs, extrefs, Source, name_items, IsObjectAt, LinkIndex}
 use Rattle.file_items.specs.declared.directory.Directory.{Directory}
-use Rattle.file_items.specs.declared.names.Names.{Names}
+use Rattle.file_items.specs.declared.object_names.ObjectNames.{ObjectNames}
 use Rattle.file_items.proofs.Linked.{entry_at, entries_told, spots_rise, spots_before}
 
 -- the names of an accepted volume are short
@@ -44,80 +12,80 @@ name_short volume image i n accepted opened there =
     let short = accepted.names.keeps.short n (subst (λ (l : List Naming). Contains l n) (sym same) among) in
     omega (arith, short)
 
-module _ (volume : Volume) (index : LinkIndex) (numbers : Numbers) (image : Image) (known : IsKnown volume index numbers image) (place : ℕ) (key : ObjectKey) (at : IsAt volume place key) where
+module _ (volume : Volume) (index : LinkIndex) (numbers : InodeNumbers) (image : Image) (known : IsKnown volume index numbers image) (place : ℕ) (key : ObjectKey) (at : IsObjectAt volume place key) where
   abbrev links : List Naming
   links = links_in volume
 
   -- the spots of an object tell its names
-  pub names_told : (spots : List Spot) → spots ≡ filter (is_under place) index.by_target → map (λ spot. slice_get (entries links) spot.number) spots ≡ map (λ (e : Entry). Some e) (names_of links key)
+  pub names_told : (spots : List Spot) → spots ≡ filter (is_under place) index.by_target → map (λ spot. slice_get (indexed_links links) spot.number) spots ≡ map (λ (e : IndexedLink). Some e) (names_of links key)
   names_told spots is = entries_told links (λ n. n.target) key spots (ap (map (λ (s : Spot). s.number)) is ∙ known.index_is.targets place key at)
 
   -- those of a directory its entries
-  pub entries_of_dir : (spots : List Spot) → spots ≡ filter (is_under place) index.by_dir → map (λ spot. slice_get (entries links) spot.number) spots ≡ map (λ (e : Entry). Some e) (names_in links key)
+  pub entries_of_dir : (spots : List Spot) → spots ≡ filter (is_under place) index.by_dir → map (λ spot. slice_get (indexed_links links) spot.number) spots ≡ map (λ (e : IndexedLink). Some e) (names_in links key)
   entries_of_dir spots is = entries_told links (λ n. n.dir) key spots (ap (map (λ (s : Spot). s.number)) is ∙ known.index_is.dirs place key at)
 
   -- the index of an entry of a directory
-  pub index_is : (number : ℕ) (e : Entry) (found : ℕ) → slice_get (entries links) number ≡ Some e → e.link.dir ≡ key
+  pub index_is : (number : ℕ) (e : IndexedLink) (found : ℕ) → slice_get (indexed_links links) number ≡ Some e → e.link.dir ≡ key
       → (AllPairs (λ (a b : Spot). a.number < b.number) (filter (is_under place) index.by_dir) → found ≡ 2 + count_by (λ (spot : Spot). nat_lt spot.number number) (filter (is_under place) index.by_dir)) → found ≡ e.index
   index_is number e found there dir counted =
       let spots : List Spot = filter (is_under place) index.by_dir in
       let places = known.index_is.dirs place key at in
       let own = entry_at [] links number e there in
-      counted (spots_rise links key spots places) ∙ (spots_before links key spots number places ∙ sym (ap (λ (f : Entry). f.index) own.is ∙ ap (next_index (take number links)) dir))
+      counted (spots_rise links key spots places) ∙ (spots_before links key spots number places ∙ sym (ap (λ (f : IndexedLink). f.index) own.is ∙ ap (next_index (take number links)) dir))
 
 -- an entry at the place of a spot
-pub record IsTold (links : List Naming) (es : List Entry) (i number : ℕ) : Type 0 where
-  pub entry : Entry
-  pub there : slice_get (entries links) number ≡ Some entry
+pub record IsTold (links : List Naming) (es : List IndexedLink) (i number : ℕ) : Type 0 where
+  pub entry : IndexedLink
+  pub there : slice_get (indexed_links links) number ≡ Some entry
   pub at : slice_get es i ≡ Some entry
   pub more : take (i + 1) es ≡ take i es ++ entry ∷ []
 
-pub told_here : (links : List Naming) (es : List Entry) (spots : List Spot) (i : ℕ) (spot : Spot) → map (λ s. slice_get (entries links) s.number) spots ≡ map (λ (e : Entry). Some e) es → slice_get spots i ≡ Some spot → IsTold links es i spot.number
+pub told_here : (links : List Naming) (es : List IndexedLink) (spots : List Spot) (i : ℕ) (spot : Spot) → map (λ s. slice_get (indexed_links links) s.number) spots ≡ map (λ (e : IndexedLink). Some e) es → slice_get spots i ≡ Some spot → IsTold links es i spot.number
 told_here links es spots i spot told here =
-    let long = told_long (λ (s : Spot). slice_get (entries links) s.number) spots es told in
+    let long = told_long (λ (s : Spot). slice_get (indexed_links links) s.number) spots es told in
     let within = slice_get_within spots i spot here in
     by links es spots i spot told here (omega (arith, long, within))
   where
-    no_entry : Entry
+    no_entry : IndexedLink
     no_entry = record { link = record { leaf = 0; dir = record { dir = 0; object = 0 }; target = record { dir = 0; object = 0 }; name = [] }; index = 0; extended = false }
 
-    by : (links : List Naming) (es : List Entry) (spots : List Spot) (i : ℕ) (spot : Spot) → map (λ s. slice_get (entries links) s.number) spots ≡ map (λ (e : Entry). Some e) es → slice_get spots i ≡ Some spot → i < length es → IsTold links es i spot.number
+    by : (links : List Naming) (es : List IndexedLink) (spots : List Spot) (i : ℕ) (spot : Spot) → map (λ s. slice_get (indexed_links links) s.number) spots ≡ map (λ (e : IndexedLink). Some e) es → slice_get spots i ≡ Some spot → i < length es → IsTold links es i spot.number
     by links es spots i spot told here inside =
-        let e : Entry = get_or es i no_entry in
+        let e : IndexedLink = get_or es i no_entry in
         let at = slice_get-get_or es i no_entry inside in
         let one : i + 1 ≡ suc i = omega arith in
         record {
           entry = e;
-          there = told_at (λ (s : Spot). slice_get (entries links) s.number) spots es i spot told here ∙ at;
+          there = told_at (λ (s : Spot). slice_get (indexed_links links) s.number) spots es i spot told here ∙ at;
           at = at;
           more = ap (λ (k : ℕ). take k es) one ∙ take_push i es no_entry inside;
         }
 
 -- whether a name is extended
-pub flag_is : (links : List Naming) (flags : List Bool) (number : ℕ) (e : Entry) (flag : Bool) → flags ≡ map (λ (f : Entry). f.extended) (entries links) → slice_get (entries links) number ≡ Some e → slice_get flags number ≡ Some flag → flag ≡ e.extended
-flag_is links flags number e flag are there found = some_same flag e.extended (sym found ∙ (ap (λ (l : List Bool). slice_get l number) are ∙ mapped (entries links) number e there))
+pub flag_is : (links : List Naming) (flags : List Bool) (number : ℕ) (e : IndexedLink) (flag : Bool) → flags ≡ map (λ (f : IndexedLink). f.extended) (indexed_links links) → slice_get (indexed_links links) number ≡ Some e → slice_get flags number ≡ Some flag → flag ≡ e.extended
+flag_is links flags number e flag are there found = some_same flag e.extended (sym found ∙ (ap (λ (l : List Bool). slice_get l number) are ∙ mapped (indexed_links links) number e there))
   where
     some_same : (a b : Bool) → Some a ≡ Some b → a ≡ b
     some_same a b is = cc
 
-    mapped : (es : List Entry) (i : ℕ) (e : Entry) → slice_get es i ≡ Some e → slice_get (map (λ (f : Entry). f.extended) es) i ≡ Some e.extended
+    mapped : (es : List IndexedLink) (i : ℕ) (e : IndexedLink) → slice_get es i ≡ Some e → slice_get (map (λ (f : IndexedLink). f.extended) es) i ≡ Some e.extended
     mapped [] i e there = let never : None ≡ Some e = there in absurd cc
-    mapped (f ∷ es) zero e there = let same : f ≡ e = cc in ap (λ (g : Entry). Some g.extended) same
+    mapped (f ∷ es) zero e there = let same : f ≡ e = cc in ap (λ (g : IndexedLink). Some g.extended) same
     mapped (f ∷ es) (suc i) e there = mapped es i e there
 
 -- one name more among those that were gathered
-pub names_more : (all : List ObjectKey) (ino : ℕ) (done more : List Entry) (e : Entry) (old new : Names) → HasNames all ino done old → HasName all ino e old new → more ≡ done ++ e ∷ [] → HasNames all ino more new
+pub names_more : (all : List ObjectKey) (ino : ℕ) (done more : List IndexedLink) (e : IndexedLink) (old new : ObjectNames) → HasNames all ino done old → HasName all ino e old new → more ≡ done ++ e ∷ [] → HasNames all ino more new
 names_more all ino done more e old new has one more_is = record {
   refs =
       one.refs ∙ (ap (λ (l : List Item). l ++ (if e.extended then [] else ref_record all ino e ∷ [])) has.refs
-      ∙ (plain e.extended refl ∙ ap (λ (l : List Entry). map (ref_record all ino) (filter (λ f. not f.extended) l)) (sym more_is)));
+      ∙ (plain e.extended refl ∙ ap (λ (l : List IndexedLink). map (ref_record all ino) (filter (λ f. not f.extended) l)) (sym more_is)));
   far =
       one.far ∙ (ap (λ (l : List Item). l ++ (if e.extended then far_record all e ∷ [] else [])) has.far
-      ∙ (far e.extended refl ∙ ap (λ (l : List Entry). map (far_record all) (filter (λ f. f.extended) l)) (sym more_is)));
+      ∙ (far e.extended refl ∙ ap (λ (l : List IndexedLink). map (far_record all) (filter (λ f. f.extended) l)) (sym more_is)));
 }
   where
     plain : (b : Bool) → e.extended ≡ b → map (ref_record all ino) (filter (λ f. not f.extended) done) ++ (if b then [] else ref_record all ino e ∷ []) ≡ map (ref_record all ino) (filter (λ f. not f.extended) (done ++ e ∷ []))
-    plain b is = by b is ∙ sym (ap (map (ref_record all ino)) (filter-append (λ (f : Entry). not f.extended) done (e ∷ [])) ∙ map-append (ref_record all ino) (filter (λ f. not f.extended) done) (filter (λ f. not f.extended) (e ∷ [])))
+    plain b is = by b is ∙ sym (ap (map (ref_record all ino)) (filter-append (λ (f : IndexedLink). not f.extended) done (e ∷ [])) ∙ map-append (ref_record all ino) (filter (λ f. not f.extended) done) (filter (λ f. not f.extended) (e ∷ [])))
       where
         by : (b : Bool) → e.extended ≡ b → map (ref_record all ino) (filter (λ f. not f.extended) done) ++ (if b then [] else ref_record all ino e ∷ []) ≡ map (ref_record all ino) (filter (λ f. not f.extended) done) ++ map (ref_record all ino) (filter (λ f. not f.extended) (e ∷ []))
         by b is = ap (λ (c : Bool). map (ref_record all ino) (filter (λ f. not f.extended) done) ++ (if c then [] else ref_record all ino e ∷ [])) (sym is) ∙ flip e.extended
@@ -128,17 +96,17 @@ names_more all ino done more e old new has one more_is = record {
 
     far : (b : Bool) → e.extended ≡ b → map (far_record all) (filter (λ f. f.extended) done) ++ (if b then far_record all e ∷ [] else []) ≡ map (far_record all) (filter (λ f. f.extended) (done ++ e ∷ []))
     far b is = ap (λ (c : Bool). map (far_record all) (filter (λ f. f.extended) done) ++ (if c then far_record all e ∷ [] else [])) (sym is) ∙ (flip e.extended
-        ∙ sym (ap (map (far_record all)) (filter-append (λ (f : Entry). f.extended) done (e ∷ [])) ∙ map-append (far_record all) (filter (λ f. f.extended) done) (filter (λ f. f.extended) (e ∷ []))))
+        ∙ sym (ap (map (far_record all)) (filter-append (λ (f : IndexedLink). f.extended) done (e ∷ [])) ∙ map-append (far_record all) (filter (λ f. f.extended) done) (filter (λ f. f.extended) (e ∷ []))))
       where
         flip : (c : Bool) → map (far_record all) (filter (λ f. f.extended) done) ++ (if c then far_record all e ∷ [] else []) ≡ map (far_record all) (filter (λ f. f.extended) done) ++ map (far_record all) (cond c (e ∷ []) [])
         flip true = refl
         flip false = refl
 
 -- the entry that is made of a link
-pub entry_made : (ino ino' kind kind' : ℕ) (location : Key) (name name' : List ℕ) (value : DirEntryValue) → value ≡ record { location = location; transid = 1; data_length = 0; kind = kind; name = name } → location ≡ make_key ino 1 0 → ino ≡ ino' → kind ≡ kind' → name ≡ name'
-    → value ≡ record { location = make_key ino' 1 0; transid = 1; data_length = 0; kind = kind'; name = name' }
+pub entry_made : (ino ino' kind kind' : ℕ) (location : Key) (name name' : List ℕ) (value : DirEntryValue) → value ≡ record { location = location; transid = 1; data_length = 0; kind = kind; name = name } → location ≡ make_key ino INODE_ITEM 0 → ino ≡ ino' → kind ≡ kind' → name ≡ name'
+    → value ≡ record { location = make_key ino' INODE_ITEM 0; transid = 1; data_length = 0; kind = kind'; name = name' }
 entry_made ino ino' kind kind' location name name' value is location_is ino_is kind_is name_is =
-    is ∙ (ap (λ (l : Key). made l kind name) (location_is ∙ ap (λ (i : ℕ). make_key i 1 0) ino_is) ∙ (ap (λ (k : ℕ). made (make_key ino' 1 0) k name) kind_is ∙ ap (made (make_key ino' 1 0) kind') name_is))
+    is ∙ (ap (λ (l : Key). made l kind name) (location_is ∙ ap (λ (i : ℕ). make_key i INODE_ITEM 0) ino_is) ∙ (ap (λ (k : ℕ). made (make_key ino' INODE_ITEM 0) k name) kind_is ∙ ap (made (make_key ino' INODE_ITEM 0) kind') name_is))
   where
     made : Key → ℕ → List ℕ → DirEntryValue
     made l k n = record { location = l; transid = 1; data_length = 0; kind = k; name = n }
@@ -155,14 +123,14 @@ entries_more ino done more e old new has one more_is = record {
     summed a t n is = omega arith
 
 -- an entry of a directory stands in it
-pub dir_of : (links : List Naming) (key : ObjectKey) (i : ℕ) (e : Entry) → slice_get (names_in links key) i ≡ Some e → e.link.dir ≡ key
-dir_of links key i e there = same_key-true e.link.dir key (passes (entries links) i e there)
+pub dir_of : (links : List Naming) (key : ObjectKey) (i : ℕ) (e : IndexedLink) → slice_get (names_in links key) i ≡ Some e → e.link.dir ≡ key
+dir_of links key i e there = same_key-true e.link.dir key (passes (indexed_links links) i e there)
   where
-    passes : (es : List Entry) (i : ℕ) (e : Entry) → slice_get (filter (λ f. same_key f.link.dir key) es) i ≡ Some e → same_key e.link.dir key ≡ true
+    passes : (es : List IndexedLink) (i : ℕ) (e : IndexedLink) → slice_get (filter (λ f. same_key f.link.dir key) es) i ≡ Some e → same_key e.link.dir key ≡ true
     passes es i e there =
-        let all = filter_passes (λ (f : Entry). same_key f.link.dir key) es in
+        let all = filter_passes (λ (f : IndexedLink). same_key f.link.dir key) es in
         let within = slice_get_within (filter (λ f. same_key f.link.dir key) es) i e there in
-        subst (λ (f : Entry). same_key f.link.dir key ≡ true) (get_or_from_slice_get (filter (λ f. same_key f.link.dir key) es) i e e there) (all i e within)
+        subst (λ (f : IndexedLink). same_key f.link.dir key ≡ true) (get_or_from_slice_get (filter (λ f. same_key f.link.dir key) es) i e e there) (all i e within)
 
 count_is : {A : Type 0} (p : A → Bool) (xs : List A) → count_by p xs ≡ length (filter p xs)
 count_is p [] = refl
@@ -184,7 +152,7 @@ count_low {A} p (x ∷ xs) = by (count_low p xs) (p x) refl
         bound false later first = omega (arith, later, first)
 
 -- the spots of a directory are as many as its links
-pub dir_count : (volume : Volume) (index : LinkIndex) (numbers : Numbers) (image : Image) → IsKnown volume index numbers image → (place : ℕ) (key : ObjectKey) → IsAt volume place key → (spots : List Spot) → spots ≡ filter (is_under place) index.by_dir
+pub dir_count : (volume : Volume) (index : LinkIndex) (numbers : InodeNumbers) (image : Image) → IsKnown volume index numbers image → (place : ℕ) (key : ObjectKey) → IsObjectAt volume place key → (spots : List Spot) → spots ≡ filter (is_under place) index.by_dir
     → 2 + length spots ≡ next_index (links_in volume) key
 dir_count volume index numbers image known place key at spots is =
     let places = ap (map (λ (s : Spot). s.number)) is ∙ known.index_is.dirs place key at in

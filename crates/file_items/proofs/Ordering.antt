@@ -1,24 +1,6 @@
 -- Pieces by the numbers that they stand under.
-use Rattle.std.proofs.Common.{◌≡◌, ◌<◌, ◌≤◌, ℕ, suc, ◌+◌, ◌*◌, ◌^◌, ◌==◌, Bool, true, false, cond, is_some, List, [], ◌∷◌, ◌++◌, length, filter, map, take, drop, get_or, sum_by, AllPairs, Some, None, Option, refl, sym, ap, subst, ◌∙◌, ◌&&◌, arith}
-use Rattle.std.specs.Prelude.{slice_get, unwrap_or}
-use Rattle.std.specs.List.{All}
-use Rattle.std.specs.Option.{MatchOption, option_map_or}
-use Rattle.std.proofs.lemmas.List.{map-append, append-nil}
-use Rattle.std.proofs.lemmas.List.Elements.{filter-append}
-use Rattle.std.proofs.lemmas.List.Sums.{sum_by-cons, sum_by_push}
-use Rattle.std.proofs.lemmas.Option.{slice_get_within, get_or_from_slice_get, slice_get-get_or}
-use Rattle.btr_item_list.specs.Groups.{ascending}
-use Rattle.btr_item_list.specs.Spots.{is_under}
-use Rattle.btr_item_list.specs.declared.spot.Spot.{Spot}
-use Rattle.btr_item_list.proofs.Joining.{take_push}
-use Rattle.btr_item_list.proofs.Placing.{told_at, told_long}
-use Rattle.btr_item_list.proofs.Sorting.{ascending_filter, ascending_kept, ascending_sum}
-use Rattle.reiser_volume.specs.reiser_volume_names.Tally.{capped}
-use Rattle.btr_item_list.proofs.Runs.{ascending_map}
+use Rattle.file_items.proofs.Imports.{◌≡◌, ◌<◌, ◌≤◌, ℕ, suc, ◌+◌, ◌*◌, ◌^◌, ◌==◌, Bool, true, false, cond, is_some, List, [], ◌∷◌, ◌++◌, length, filter, map, take, drop, get_or, sum_by, AllPairs, Some, None, Option, refl, sym, ap, subst, ◌∙◌, ◌&&◌, arith, slice_get, unwrap_or, All, MatchOption, option_map_or, map-append, append-nil, filter-append, sum_by-cons, sum_by_push, slice_get_within, get_or_from_slice_get, slice_get-get_or, ascending, is_under, Spot, take_push, told_at, told_long, ascending_filter, ascending_kept, ascending_sum, capped, ascending_map, Piece, owner_inode, file_block, source_block, by_block, is_owned_by, pieces_of, TellsPieces, AreOwners}
 use Rattle.unit_plan.specs.Pieces.{ArePlaced}
-use Rattle.unit_plan.specs.declared.piece.Piece.{Piece}
-use Rattle.file_items.specs.Extents.{owner_inode, file_block, source_block, by_block, is_owned_by, pieces_of}
-use Rattle.file_items.specs.Orders.{Tells, AreOwners}
 use Rattle.file_items.proofs.Streaming.{next_of}
 
 map_twice : {A B C : Type 0} (f : B → C) (g : A → B) (xs : List A) → map (λ x. f (g x)) xs ≡ map f (map g xs)
@@ -53,19 +35,19 @@ module _ (pieces : List Piece) (number : Piece → ℕ) where
   said p = (number p, Some p)
 
   -- what the spots tell without their numbers
-  pub tells_there : (spots : List Spot) (told : List Piece) → Tells pieces number spots told → map (λ spot. slice_get pieces spot.number) spots ≡ map (λ (p : Piece). Some p) told
+  pub tells_there : (spots : List Spot) (told : List Piece) → TellsPieces pieces number spots told → map (λ spot. slice_get pieces spot.number) spots ≡ map (λ (p : Piece). Some p) told
   tells_there spots told tells = map_twice (λ (e : ℕ × Option Piece). e.1) seen spots ∙ (ap (map (λ (e : ℕ × Option Piece). e.1)) tells ∙ sym (map_twice (λ (e : ℕ × Option Piece). e.1) said told))
 
-  pub tells_sorted : (spots sorted : List Spot) (told : List Piece) → Tells pieces number spots told → sorted ≡ ascending (λ spot. spot.of) spots → Tells pieces number sorted (ascending number told)
+  pub tells_sorted : (spots sorted : List Spot) (told : List Piece) → TellsPieces pieces number spots told → sorted ≡ ascending (λ spot. spot.of) spots → TellsPieces pieces number sorted (ascending number told)
   tells_sorted spots sorted told tells is =
       ap (map seen) is ∙ (sym (ascending_map (λ (e : ℕ × Option Piece). e.0) seen spots) ∙ (ap (ascending (λ (e : ℕ × Option Piece). e.0)) tells ∙ ascending_map (λ (e : ℕ × Option Piece). e.0) said told))
 
-  pub tells_under : (n : ℕ) (spots : List Spot) (told : List Piece) → Tells pieces number spots told → Tells pieces number (filter (is_under n) spots) (filter (λ p. number p == n) told)
+  pub tells_under : (n : ℕ) (spots : List Spot) (told : List Piece) → TellsPieces pieces number spots told → TellsPieces pieces number (filter (is_under n) spots) (filter (λ p. number p == n) told)
   tells_under n spots told tells =
       sym (filter_map (λ (e : ℕ × Option Piece). e.0 == n) seen spots) ∙ (ap (filter (λ (e : ℕ × Option Piece). e.0 == n)) tells ∙ filter_map (λ (e : ℕ × Option Piece). e.0 == n) said told)
 
   -- one spot more, and one piece more
-  pub tells_push : (spots : List Spot) (told : List Piece) (i : ℕ) (p : Piece) → Tells pieces number spots told → slice_get pieces i ≡ Some p → Tells pieces number (spots ++ record { of = number p; number = i } ∷ []) (told ++ p ∷ [])
+  pub tells_push : (spots : List Spot) (told : List Piece) (i : ℕ) (p : Piece) → TellsPieces pieces number spots told → slice_get pieces i ≡ Some p → TellsPieces pieces number (spots ++ record { of = number p; number = i } ∷ []) (told ++ p ∷ [])
   tells_push spots told i p tells there =
       map-append seen spots (record { of = number p; number = i } ∷ [])
       ∙ (ap (λ (l : List (ℕ × Option Piece)). l ++ (number p, slice_get pieces i) ∷ []) tells
@@ -79,14 +61,14 @@ module _ (pieces : List Piece) (number : Piece → ℕ) where
       one : i + 1 ≡ suc i
       one = omega arith
 
-  pub tells_more : (t : Piece → Bool) (spots new : List Spot) (i under : ℕ) (p : Piece) → Tells pieces number spots (filter t (take i pieces)) → slice_get pieces i ≡ Some p → t p ≡ true → under ≡ number p → new ≡ spots ++ record { of = under; number = i } ∷ []
-      → Tells pieces number new (filter t (take (i + 1) pieces))
+  pub tells_more : (t : Piece → Bool) (spots new : List Spot) (i under : ℕ) (p : Piece) → TellsPieces pieces number spots (filter t (take i pieces)) → slice_get pieces i ≡ Some p → t p ≡ true → under ≡ number p → new ≡ spots ++ record { of = under; number = i } ∷ []
+      → TellsPieces pieces number new (filter t (take (i + 1) pieces))
   tells_more t spots new i under p tells there passes under_is new_is =
       ap (map seen) (new_is ∙ ap (λ (k : ℕ). spots ++ record { of = k; number = i } ∷ []) under_is)
       ∙ (tells_push spots (filter t (take i pieces)) i p tells there
       ∙ ap (map said) (ap (λ (b : Bool). filter t (take i pieces) ++ cond b (p ∷ []) []) (sym passes) ∙ sym (part_more t i p there)))
 
-  pub tells_same : (t : Piece → Bool) (spots : List Spot) (i : ℕ) (p : Piece) → Tells pieces number spots (filter t (take i pieces)) → slice_get pieces i ≡ Some p → t p ≡ false → Tells pieces number spots (filter t (take (i + 1) pieces))
+  pub tells_same : (t : Piece → Bool) (spots : List Spot) (i : ℕ) (p : Piece) → TellsPieces pieces number spots (filter t (take i pieces)) → slice_get pieces i ≡ Some p → t p ≡ false → TellsPieces pieces number spots (filter t (take (i + 1) pieces))
   tells_same t spots i p tells there fails =
       tells ∙ ap (map said) (sym (part_more t i p there ∙ (ap (λ (b : Bool). filter t (take i pieces) ++ cond b (p ∷ []) []) fails ∙ append-nil (filter t (take i pieces)))))
 
@@ -105,7 +87,7 @@ of_inode pieces ino =
     ∙ ap (ascending file_block) (filter_twice (λ p. owner_inode p == ino) (λ p. is_some p.owner) pieces ∙ filter_alike (λ p. is_some p.owner && (owner_inode p == ino)) (is_owned_by ino) pieces (owned_test ino)))
 
 -- the spots of all owned pieces under their inodes
-pub owners_are : (pieces : List Piece) (spots sorted : List Spot) → Tells pieces owner_inode spots (by_block pieces) → sorted ≡ ascending (λ spot. spot.of) spots → AreOwners sorted pieces
+pub owners_are : (pieces : List Piece) (spots sorted : List Spot) → TellsPieces pieces owner_inode spots (by_block pieces) → sorted ≡ ascending (λ spot. spot.of) spots → AreOwners sorted pieces
 owners_are pieces spots sorted tells is = λ ino.
     tells_there pieces owner_inode (filter (is_under ino) sorted) (filter (λ p. owner_inode p == ino) (ascending owner_inode (by_block pieces)))
     (tells_under pieces owner_inode ino sorted (ascending owner_inode (by_block pieces)) (tells_sorted pieces owner_inode spots sorted (by_block pieces) tells is))
@@ -192,8 +174,8 @@ pub unwrapped_block : (o : Option (ℕ × ℕ)) (t : ℕ × ℕ) → t ≡ unwra
 unwrapped_block None t is = ap (λ (x : ℕ × ℕ). x.1) is
 unwrapped_block (Some x) t is = ap (λ (y : ℕ × ℕ). y.1) is
 
-pub owner_more : (pieces told : List Piece) (spots new : List Spot) (i number under : ℕ) (p : Piece) → Tells pieces owner_inode spots (take i told) → slice_get pieces number ≡ Some p → under ≡ owner_inode p → take (i + 1) told ≡ take i told ++ p ∷ []
-    → new ≡ spots ++ record { of = under; number = number } ∷ [] → Tells pieces owner_inode new (take (i + 1) told)
+pub owner_more : (pieces told : List Piece) (spots new : List Spot) (i number under : ℕ) (p : Piece) → TellsPieces pieces owner_inode spots (take i told) → slice_get pieces number ≡ Some p → under ≡ owner_inode p → take (i + 1) told ≡ take i told ++ p ∷ []
+    → new ≡ spots ++ record { of = under; number = number } ∷ [] → TellsPieces pieces owner_inode new (take (i + 1) told)
 owner_more pieces told spots new i number under p tells there under_is more new_is =
     ap (map {B = ℕ × Option Piece} (λ (s : Spot). (s.of, slice_get pieces s.number))) (new_is ∙ ap (λ (k : ℕ). spots ++ record { of = k; number = number } ∷ []) under_is)
     ∙ (tells_push pieces owner_inode spots (take i told) number p tells there ∙ ap (map {B = ℕ × Option Piece} (λ (q : Piece). (owner_inode q, Some q))) (sym more))

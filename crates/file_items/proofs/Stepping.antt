@@ -1,26 +1,8 @@
 -- Steps of the stream of the file tree, and of a stream of items.
-use Rattle.std.proofs.Common.{◌≡◌, ◌<◌, ◌≤◌, ℕ, zero, suc, ◌+◌, Bool, true, false, List, [], ◌∷◌, ◌++◌, length, drop, get_or, Some, None, Result, Ok, Err, refl, sym, ap, ◌∙◌, append_assoc, arith}
-use Rattle.std.specs.Prelude.{slice_get}
-use Rattle.std.specs.List.{flat_map}
+use Rattle.file_items.proofs.Imports.{◌≡◌, ◌<◌, ◌≤◌, ℕ, zero, suc, ◌+◌, Bool, true, false, List, [], ◌∷◌, ◌++◌, length, drop, get_or, Some, None, Result, Ok, Err, refl, sym, ap, ◌∙◌, append_assoc, arith, slice_get, flat_map, slice_get_within, slice_get-get_or, Item, keys, IsFaultOrMemory, Image, root, ObjectKey, by_inode, AreNumbered, Volume, Piece, IsObjectAt, AddsSome, AddsExtent, Begins, Comes, FitsRestBlocks, file_ahead, tree_ahead, rest_ahead, source_of, object_items, Basis, FileTree, Items}
 use Rattle.std.specs.Result.{MatchResult}
-use Rattle.std.proofs.lemmas.Option.{slice_get_within, slice_get-get_or}
-use Rattle.unit_plan.specs.btr_node.Leaf.{Item}
-use Rattle.indexmap.specs.IndexMap.{keys}
-use Rattle.reiser_volume.specs.reiser_volume_contents.Answers.{IsFaultOrMemory}
-use Rattle.reiser_volume.specs.outside.History.{Image}
 use Rattle.reiser_volume.specs.refusals.declared.answer.VolAnswer.{VolAnswer}
-use Rattle.reiser_volume_objects.specs.Keys.{root}
-use Rattle.reiser_volume_objects.specs.declared.key.ObjectKey.{ObjectKey}
-use Rattle.reiser_volume.specs.Numbers.{by_inode, AreNumbered}
 use Rattle.reiser_volume.proofs.Numbered.{place_behind}
-use Rattle.reiser_volume.specs.declared.volume.Volume.{Volume}
-use Rattle.unit_plan.specs.declared.piece.Piece.{Piece}
-use Rattle.file_items.specs.Spots.{IsAt}
-use Rattle.file_items.specs.Stream.{AddsSome, AddsExtent, Begins, Comes, FitsRestBlocks, file_ahead, tree_ahead, rest_ahead}
-use Rattle.file_items.specs.Tree.{source_of, object_items}
-use Rattle.file_items.specs.declared.files.Basis.{Basis}
-use Rattle.file_items.specs.declared.files.FileTree.{FileTree}
-use Rattle.file_items.specs.declared.items.Items.{Items}
 use Rattle.file_items.proofs.Streaming.{none_left}
 
 -- an element at a place is the first from there on
@@ -52,7 +34,7 @@ no_object all at n numbered behind =
 -- the next object and its place
 pub record IsNextObject (volume : Volume) (place begun : ℕ) : Type 0 where
   pub key : ObjectKey
-  pub at : IsAt volume place key
+  pub at : IsObjectAt volume place key
   pub rest : drop begun (by_inode (keys volume.named)) ≡ key ∷ drop (begun + 1) (by_inode (keys volume.named))
 
 pub next_object : (volume : Volume) (place begun : ℕ) → place < length (keys volume.named) → slice_get (keys volume.named) place ≡ slice_get (by_inode (keys volume.named)) begun → IsNextObject volume place begun

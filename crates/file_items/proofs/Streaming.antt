@@ -1,7 +1,5 @@
 -- Steps of a stream.
-use Rattle.std.proofs.Common.{◌≡◌, ◌<◌, ◌≤◌, ℕ, zero, suc, ◌+◌, ◌-◌, List, [], ◌∷◌, length, drop, Some, refl, sym, ap, ◌∙◌, arith}
-use Rattle.std.specs.Prelude.{slice_get}
-use Rattle.file_items.specs.Stream.{last_of}
+use Rattle.file_items.proofs.Imports.{◌≡◌, ◌<◌, ◌≤◌, ℕ, zero, suc, ◌+◌, ◌-◌, List, [], ◌∷◌, length, drop, Some, refl, sym, ap, ◌∙◌, arith, slice_get, last_of}
 
 -- the first of what is left of a list
 pub record IsNext {A : Type 0} (xs : List A) (n : ℕ) : Type 0 where

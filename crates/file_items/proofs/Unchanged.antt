@@ -1,21 +1,7 @@
 -- What is still to come of a stream is decided by the items of the volume, and not by where their leaves lie.
-use Rattle.std.proofs.Common.{◌≡◌, List, ◌++◌, refl, ap, drop}
-use Rattle.std.specs.List.{flat_map}
-use Rattle.indexmap.specs.IndexMap.{keys}
-use Rattle.reiser_volume.specs.outside.History.{Image}
-use Rattle.unit_plan.specs.btr_node.Leaf.{Item}
-use Rattle.file_items.specs.Stream.{ahead, rest_ahead, file_ahead}
-use Rattle.file_items.specs.Tree.{Source, object_items}
-use Rattle.file_items.specs.declared.files.FileTree.{FileTree}
-use Rattle.file_items.specs.declared.items.Items.{Items}
+use Rattle.file_items.proofs.Imports.{◌≡◌, List, ◌++◌, refl, ap, drop, flat_map, keys, Image, Item, ahead, rest_ahead, file_ahead, Source, object_items, FileTree, Items, by_inode, links_in, volume_items, Volume, ReiserItem, Piece}
 use Rattle.file_items.specs.declared.items.Rest.{Rest}
 use Rattle.file_items.specs.declared.items.Rest.TheVariants as rest
-use Rattle.reiser_volume.specs.Numbers.{by_inode}
-use Rattle.reiser_volume.specs.Opened.{links_in}
-use Rattle.reiser_volume.specs.Volume.{volume_items}
-use Rattle.reiser_volume.specs.declared.volume.Volume.{Volume}
-use Rattle.reiser_volume.specs.reiser_walk.Items.{Item as ReiserItem}
-use Rattle.unit_plan.specs.declared.piece.Piece.{Piece}
 
 -- the source of a file tree, by the items alone
 abbrev by_items : FileTree → Volume → List Piece → List ReiserItem → Source

@@ -1,5 +1,6 @@
 -- The inode of an object of a ReiserFS volume.
 use Rattle.std.specs.Prelude.{ℕ, ◌+◌, ◌*◌, ◌^◌, Bool, not, ◌&&◌, if◌then◌else◌}
+use Rattle.btrfs_format.specs.declared.flag.TheConstants.{INODE_APPEND, INODE_IMMUTABLE, INODE_NOATIME, INODE_NODATASUM, INODE_NODUMP, INODE_SYNC}
 use Rattle.unit_plan.specs.btr_keys.declared.inode.Inode.{Inode}
 use Rattle.fs_rows.specs.Kinds.{is_device, is_file, is_symlink}
 use Rattle.fs_rows.specs.declared.row.Kind.{Kind}
@@ -10,16 +11,15 @@ use Rattle.reiser_volume.specs.Rows.{flag, major_of, minor_of}
 abbrev pub if_set : Bool → ℕ → ℕ
 if_set test bit = if test then bit else 0
 
--- Flags: 0x1 for data without checksums, 0x20 sync, 0x40 immutable, 0x80 append, 0x100 nodump and 0x200 noatime. Immutable and
--- append mean nothing on a symlink.
+-- Flags. Immutable and append mean nothing on a symlink.
 abbrev pub inode_flags : Bool → ℕ → ObjectStat → Kind → ℕ
 inode_flags datasum flags stat kind =
-    if_set (is_file kind && not datasum) 0x1
-    + (if_set (flag flags stat 3) 0x20
-    + (if_set (not (is_symlink kind) && flag flags stat 4) 0x40
-    + (if_set (not (is_symlink kind) && flag flags stat 5) 0x80
-    + (if_set (flag flags stat 6) 0x100
-    + if_set (flag flags stat 7) 0x200))))
+    if_set (is_file kind && not datasum) INODE_NODATASUM
+    + (if_set (flag flags stat 3) INODE_SYNC
+    + (if_set (not (is_symlink kind) && flag flags stat 4) INODE_IMMUTABLE
+    + (if_set (not (is_symlink kind) && flag flags stat 5) INODE_APPEND
+    + (if_set (flag flags stat 6) INODE_NODUMP
+    + if_set (flag flags stat 7) INODE_NOATIME))))
 
 -- the number of a device, as Btrfs has it
 abbrev pub device_number : ObjectStat → Kind → ℕ

@@ -6,8 +6,8 @@ use Rattle.unit_plan.specs.declared.piece.Piece.{Piece}
 use Rattle.file_items.specs.Extents.{pieces_of, pieces_of_volume}
 
 -- the spots tell some of the pieces, each under its number
-abbrev pub Tells : List Piece → (Piece → ℕ) → List Spot → List Piece → Type 0
-Tells pieces number spots told = map {B = ℕ × Option Piece} (λ spot. (spot.of, slice_get pieces spot.number)) spots ≡ map {B = ℕ × Option Piece} (λ p. (number p, Some p)) told
+abbrev pub TellsPieces : List Piece → (Piece → ℕ) → List Spot → List Piece → Type 0
+TellsPieces pieces number spots told = map {B = ℕ × Option Piece} (λ spot. (spot.of, slice_get pieces spot.number)) spots ≡ map {B = ℕ × Option Piece} (λ p. (number p, Some p)) told
 
 -- under each inode its pieces, by their blocks of the file
 abbrev pub AreOwners : List Spot → List Piece → Type 0

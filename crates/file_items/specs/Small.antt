@@ -1,5 +1,8 @@
 -- The items of the tree of the saved image, and of the relocation tree.
-use Rattle.std.specs.Prelude.{ℕ, ◌*◌, List, [], ◌∷◌, ◌++◌, codes, if◌then◌else◌, Bool}
+use Rattle.std.specs.Prelude.{ℕ, ◌*◌, List, [], ◌∷◌, ◌++◌, codes, if◌then◌else◌, Bool, ◌+◌}
+use Rattle.btrfs_format.specs.declared.flag.TheConstants.{INODE_NODATASUM, INODE_READONLY}
+use Rattle.btrfs_format.specs.declared.object.TheConstants.{FIRST_FREE_OBJECTID}
+use Rattle.vol_block.specs.declared.mode.TheConstants.{DIRECTORY_MODE, IMAGE_MODE}
 use Rattle.unit_plan.specs.btr_node.Leaf.{Item}
 use Rattle.fs_rows.specs.declared.row.Kind.TheVariants.{File}
 use Rattle.unit_plan.specs.declared.piece.Piece.{Piece}
@@ -16,24 +19,24 @@ abbrev pub image_entries : List Indexed
 image_entries = (2, entry_to 257 File image_name) ∷ []
 
 -- a root directory made at a time, of mode 040755, with these entries
-abbrev pub root_items : ℕ → List Indexed → List Item
-root_items now list = inode_item 256 (inode_made now 0x41ED (2 * letters list) 0 0) ∷ root_ref ∷ entry_items 256 list
+abbrev pub root_directory_items : ℕ → List Indexed → List Item
+root_directory_items now list = inode_item FIRST_FREE_OBJECTID (inode_made now DIRECTORY_MODE (2 * letters list) 0 0) ∷ root_ref ∷ entry_items FIRST_FREE_OBJECTID list
 
 -- The relocation tree: an empty root directory.
 unfoldable pub relocation_items : ℕ → List Item
-relocation_items now = root_items now []
+relocation_items now = root_directory_items now []
 
 -- The image is read-only; where data has no checksums, it says so too.
 abbrev pub image_flags : Bool → ℕ
-image_flags datasum = if datasum then 4 else 5
+image_flags datasum = if datasum then INODE_READONLY else INODE_READONLY + INODE_NODATASUM
 
 -- The tree of the saved image of a volume of so many blocks, up to its extents: a root directory with the file `image`,
 -- inode 257, of so many bytes of extents.
 unfoldable pub image_head : ℕ → ℕ → Bool → ℕ → List Item
 image_head blocks nbytes datasum now =
-    root_items now image_entries
-    ++ (inode_item 257 (inode_made now 0x8100 (4096 * blocks) nbytes (image_flags datasum))
-    ∷ (ref_item 257 256 2 image_name ∷ []))
+    root_directory_items now image_entries
+    ++ (inode_item 257 (inode_made now IMAGE_MODE (4096 * blocks) nbytes (image_flags datasum))
+    ∷ (ref_item 257 FIRST_FREE_OBJECTID 2 image_name ∷ []))
 
 -- The whole of it: an extent for each piece that holds blocks of the volume, from the block on that it holds.
 unfoldable pub image_items : ℕ → List Piece → Bool → ℕ → List Item

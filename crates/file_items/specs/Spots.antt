@@ -14,10 +14,10 @@ abbrev pub AreBelow : ℕ → List Spot → Type 0
 AreBelow n spots = All (λ spot. spot.number < n) spots
 
 -- an object at a place
-abbrev pub IsAt : Volume → ℕ → ObjectKey → Type 0
-IsAt volume place key = slice_get (keys volume.named) place ≡ Some key
+abbrev pub IsObjectAt : Volume → ℕ → ObjectKey → Type 0
+IsObjectAt volume place key = slice_get (keys volume.named) place ≡ Some key
 
 -- Under each object at a place stand the places of its links, in their order.
 abbrev pub TellsPlaces : (Naming → ObjectKey) → Volume → List Naming → List Spot → Type 0
 TellsPlaces key_of volume links spots =
-    (place : ℕ) (key : ObjectKey) → IsAt volume place key → map (λ spot. spot.number) (filter (is_under place) spots) ≡ places_from (λ n. same_key (key_of n) key) 0 links
+    (place : ℕ) (key : ObjectKey) → IsObjectAt volume place key → map (λ spot. spot.number) (filter (is_under place) spots) ≡ places_from (λ n. same_key (key_of n) key) 0 links

@@ -17,7 +17,7 @@ use Rattle.file_items.specs.declared.items.Rest.TheVariants as rest
 use Rattle.file_items.specs.Extents.{file_block, pieces_of, source_block, pieces_of_volume, extents_at}
 use Rattle.file_items.specs.Known.{FitsIndex, IsKnown}
 use Rattle.file_items.specs.Orders.{AreOwners, AreSources}
-use Rattle.file_items.specs.Tree.{Source, source_of, object_items, content_items, extent_items, kind_in}
+use Rattle.file_items.specs.Tree.{Source, source_of, object_items, content_items, file_extent_items, kind_in}
 
 -- the last n of a list
 abbrev pub last_of : {A : Type 0} → ℕ → List A → List A
@@ -66,7 +66,7 @@ FitsRestBlocks (rest.Image extents) volume image = Unit {0}
 FitsRestBlocks (rest.Files files) volume image = FitsTreeBlocks files volume image
 
 -- A stream over this volume and these pieces, whatever a source gives: the condition of each call.
-pub record Fits (items : Items) (volume : Volume) (pieces : List Piece) : Type 0 where
+pub record FitsStream (items : Items) (volume : Volume) (pieces : List Piece) : Type 0 where
   pub given_within : items.given ≤ length items.list
   pub rest_fits : FitsRest items.rest volume pieces
 
@@ -75,13 +75,13 @@ pub record FitsBlocks (items : Items) (volume : Volume) (image : Image) : Type 0
   pub rest_fits : FitsRestBlocks items.rest volume image
 
 -- an item stands
-pub record HasItem (items : Items) : Type 0 where
+pub record HasGivenItem (items : Items) : Type 0 where
   pub some : 0 < items.given
   pub within : items.given ≤ length items.list
 
 -- an item is the one that stands
-abbrev pub Stands : Items → Item → Type 0
-Stands items item = (n : ℕ) × (items.given ≡ n + 1) × (slice_get items.list n ≡ Some item)
+abbrev pub StandsNext : Items → Item → Type 0
+StandsNext items item = (n : ℕ) × (items.given ≡ n + 1) × (slice_get items.list n ≡ Some item)
 
 -- some items that were still to come were appended to a list, or there are none more
 abbrev pub AddsSome : Bool → List Item → List Item → List Item → List Item → Type 0
@@ -94,10 +94,10 @@ AddsExtent true before after pieces old new = (item : Item) × (new ≡ old ++ i
 AddsExtent false before after pieces old new = (file_ahead before pieces ≡ []) × (after ≡ before) × (new ≡ old)
 
 -- the extents of a file or symlink were appended to a list, up to those that are now in hand
-pub record HasExtents (s : Source) (key : ObjectKey) (file : FileInHand) (old new : List Item) : Type 0 where
+pub record HasAddedExtents (s : Source) (key : ObjectKey) (file : FileInHand) (old new : List Item) : Type 0 where
   pub items : List Item
   pub added : new ≡ old ++ items
-  pub are : extent_items s key ≡ items ++ file_ahead file s.pieces
+  pub are : file_extent_items s key ≡ items ++ file_ahead file s.pieces
 
 -- what an object holds was appended to a list, up to the extents that are now in hand
 pub record HasContent (s : Source) (key : ObjectKey) (file : FileInHand) (old new : List Item) : Type 0 where
@@ -115,5 +115,5 @@ pub record Begins (s : Source) (key : ObjectKey) (file : FileInHand) (old new : 
 -- one more item came and stands, or there is none more
 abbrev pub Comes : Bool → Items → Items → Volume → List Piece → Image → Type 0
 Comes true old new volume pieces image =
-    (item : Item) × Stands new item × (ahead old volume pieces image ≡ item ∷ ahead new volume pieces image) × FitsBlocks new volume image
+    (item : Item) × StandsNext new item × (ahead old volume pieces image ≡ item ∷ ahead new volume pieces image) × FitsBlocks new volume image
 Comes false old new volume pieces image = (ahead old volume pieces image ≡ []) × (ahead new volume pieces image ≡ []) × FitsBlocks new volume image

@@ -9,17 +9,17 @@ use Rattle.fs_rows.specs.Kinds.{is_directory}
 use Rattle.fs_rows.specs.declared.row.Kind.{Kind}
 use Rattle.fs_rows.specs.declared.row.Kind.TheVariants.{Directory, File, Symlink, Character, Block, Fifo, Socket, Subvolume}
 use Rattle.reiser_volume_files.specs.Bytes.{target_bytes}
-use Rattle.reiser_volume.specs.reiser_volume_names.Names.{inode_of}
+use Rattle.reiser_volume.specs.reiser_volume_names.Names.{ino_of_key}
 use Rattle.reiser_volume_objects.specs.declared.key.ObjectKey.{ObjectKey}
 use Rattle.reiser_volume_objects.specs.declared.naming.Naming.{Naming}
 use Rattle.reiser_volume_objects.specs.declared.stat.ObjectStat.{ObjectStat}
 use Rattle.reiser_volume_objects.specs.Keys.{root, same_key, items_of}
-use Rattle.reiser_volume.specs.Inline.{is_inline}
+use Rattle.reiser_volume.specs.Inline.{stays_in_tree}
 use Rattle.reiser_volume.specs.Made.{stat_at, kind_by}
 use Rattle.reiser_volume.specs.Opened.{links_in}
 use Rattle.reiser_volume.specs.Volume.{volume_items}
 use Rattle.reiser_volume.specs.declared.volume.Volume.{Volume}
-use Rattle.reiser_volume.specs.reiser_walk.Items.{Item as ReiserItem}
+use Rattle.reiser_volume.specs.reiser_walk.Items.{ReiserItem}
 use Rattle.unit_plan.specs.declared.piece.Piece.{Piece}
 use Rattle.reiser_volume.specs.Numbers.{by_inode}
 use Rattle.file_items.specs.Names.{inode_refs, extrefs, root_ref, indexed_in, letters, entry_items}
@@ -51,8 +51,8 @@ source_of volume pieces inline datasum image = record {
   datasum = datasum;
 }
 
-abbrev pub number_of : Source → ObjectKey → ℕ
-number_of s key = inode_of s.keys key
+abbrev pub ino_of : Source → ObjectKey → ℕ
+ino_of s key = ino_of_key s.keys key
 
 abbrev pub stat_in : Source → ObjectKey → ObjectStat
 stat_in s key = stat_at s.items key
@@ -65,7 +65,7 @@ size_in s key = (stat_in s key).fields.size
 
 -- an inline file or symlink
 abbrev pub inline_in : Source → ObjectKey → Bool
-inline_in s key = is_inline s.inline (items_of key s.items) (size_in s key) (kind_in s key)
+inline_in s key = stays_in_tree s.inline (items_of key s.items) (size_in s key) (kind_in s key)
 
 -- Twice the bytes of all names of a directory, the bytes of a file or of a target, else 0.
 abbrev pub size_by : Source → ObjectKey → Kind → ℕ
@@ -79,8 +79,8 @@ size_by s key Socket = 0
 size_by s key Subvolume = 0
 
 -- the bytes of the extents of a file
-abbrev pub bytes_by : Source → ObjectKey → ℕ
-bytes_by s key = if inline_in s key then size_in s key else piece_bytes (pieces_of s.pieces (number_of s key))
+abbrev pub nbytes_by : Source → ObjectKey → ℕ
+nbytes_by s key = if inline_in s key then size_in s key else piece_bytes (pieces_of s.pieces (ino_of s key))
 
 -- a directory has one name, any other object all of its links
 abbrev pub link_count : Source → ObjectKey → ℕ
@@ -88,24 +88,24 @@ link_count s key = if is_directory (kind_in s key) then 1 else count_by (λ n. s
 
 unfoldable pub inode_in : Source → ObjectKey → Inode
 inode_in s key =
-    inode_from s.datasum s.flags (stat_in s key) (kind_in s key) (size_by s key (kind_in s key)) (bytes_by s key) (link_count s key)
+    inode_from s.datasum s.flags (stat_in s key) (kind_in s key) (size_by s key (kind_in s key)) (nbytes_by s key) (link_count s key)
 
 -- the names of an object as its references tell them
 unfoldable pub name_items : Source → ObjectKey → List Item
 name_items s key = if same_key key root then root_ref ∷ [] else inode_refs s.keys s.links key ++ extrefs s.keys s.links key
 
 -- The extents of a file or a symlink. An inline one has the bytes that its direct items hold.
-unfoldable pub extent_items : Source → ObjectKey → List Item
-extent_items s key =
+unfoldable pub file_extent_items : Source → ObjectKey → List Item
+file_extent_items s key =
     if inline_in s key
-    then extent_item (number_of s key) 0 (inline_extent (target_bytes (items_of key s.items) (size_in s key))) ∷ []
-    else extents_at (number_of s key) file_block (pieces_of s.pieces (number_of s key))
+    then extent_item (ino_of s key) 0 (inline_extent (target_bytes (items_of key s.items) (size_in s key))) ∷ []
+    else extents_at (ino_of s key) file_block (pieces_of s.pieces (ino_of s key))
 
 -- what an object holds
 abbrev pub content_items : Source → ObjectKey → Kind → List Item
-content_items s key Directory = entry_items (number_of s key) (indexed_in (kind_in s) s.keys s.links key)
-content_items s key File = extent_items s key
-content_items s key Symlink = extent_items s key
+content_items s key Directory = entry_items (ino_of s key) (indexed_in (kind_in s) s.keys s.links key)
+content_items s key File = file_extent_items s key
+content_items s key Symlink = file_extent_items s key
 content_items s key Character = []
 content_items s key Block = []
 content_items s key Fifo = []
@@ -114,8 +114,8 @@ content_items s key Subvolume = []
 
 -- the items of an object
 unfoldable pub object_items : Source → ObjectKey → List Item
-object_items s key = inode_item (number_of s key) (inode_in s key) ∷ (name_items s key ++ content_items s key (kind_in s key))
+object_items s key = inode_item (ino_of s key) (inode_in s key) ∷ (name_items s key ++ content_items s key (kind_in s key))
 
 -- The items of the tree.
-unfoldable pub tree_items : Source → List Item
-tree_items s = flat_map (object_items s) (by_inode s.keys)
+unfoldable pub fs_tree_items : Source → List Item
+fs_tree_items s = flat_map (object_items s) (by_inode s.keys)

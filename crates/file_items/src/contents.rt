@@ -9,12 +9,12 @@ ghost use Rattle.reiser_volume_files.specs.Bytes.{tail_block};
 ghost use Rattle.reiser_volume_files.specs.Runs.{block_from};
 ghost use Rattle.reiser_volume_objects.specs.declared.key.ObjectKey.{ObjectKey as KeyOf};
 ghost use Rattle.reiser_volume_objects.specs.Keys.{items_of};
-ghost use Rattle.reiser_volume.specs.Inline.{is_inline, is_tail};
+ghost use Rattle.reiser_volume.specs.Inline.{stays_in_tree, is_tail};
 ghost use Rattle.reiser_volume.specs.Made.{stat_at, kind_by};
 ghost use Rattle.reiser_volume.specs.Opened.{IsOpened};
 ghost use Rattle.reiser_volume.specs.Volume.{IsAccepted, volume_items};
-ghost use Rattle.file_items.specs.Contents.{begins_in_tail, HoldsBytes, HoldsInline};
-ghost use Rattle.file_items.specs.Spots.{IsAt};
+ghost use Rattle.file_items.specs.Contents.{begins_in_tail, HoldsDirectBytes, HoldsInline};
+ghost use Rattle.file_items.specs.Spots.{IsObjectAt};
 
 use fs_rows::Kind;
 use reiser_volume::{Block, BlockSource, Rule, VolAnswer, Volume, VolumeRefusal};
@@ -43,7 +43,7 @@ pub fn inlined<S: BlockSource>(
     ensures cause { HasCauseOf VolAnswer.Fault (S.faults src.old) (S.faults src.new) result }
     ensures answers { IfErr result IsFileAnswer }
     ensures small { IfOk result (λ held. IfSome held (λ n. n ≤ 4096)) }
-    ensures held { OverTold S.tells (S.blocks src.old) (λ image. IsAccepted image → IsOpened volume.now image → (key : KeyOf) → IsAt volume.now place key → kind ≡ kind_by (stat_at (volume_items image) key)
+    ensures held { OverTold S.tells (S.blocks src.old) (λ image. IsAccepted image → IsOpened volume.now image → (key : KeyOf) → IsObjectAt volume.now place key → kind ≡ kind_by (stat_at (volume_items image) key)
         → MatchResult result (λ held. HoldsInline inline (items_of key (volume_items image)) (stat_at (volume_items image) key).fields.size kind held into.new.bytes) IsFaultOrMemory) }
 {
     if is_inline(alloc, src, volume, place, kind, inline)? {
@@ -67,8 +67,8 @@ fn is_inline<S: BlockSource>(
     ensures kept { S.kept src.old src.new }
     ensures cause { HasCauseOf VolAnswer.Fault (S.faults src.old) (S.faults src.new) result }
     ensures answers { IfErr result IsFileAnswer }
-    ensures test { OverTold S.tells (S.blocks src.old) (λ image. IsAccepted image → IsOpened volume.now image → (key : KeyOf) → IsAt volume.now place key
-        → MatchResult result (λ test. test ≡ is_inline inline (items_of key (volume_items image)) (stat_at (volume_items image) key).fields.size kind) IsFaultOrMemory) }
+    ensures test { OverTold S.tells (S.blocks src.old) (λ image. IsAccepted image → IsOpened volume.now image → (key : KeyOf) → IsObjectAt volume.now place key
+        → MatchResult result (λ test. test ≡ stays_in_tree inline (items_of key (volume_items image)) (stat_at (volume_items image) key).fields.size kind) IsFaultOrMemory) }
 {
     match kind {
         Kind::Symlink => Ok(true),
@@ -99,7 +99,7 @@ fn is_inline_file<S: BlockSource>(
     ensures kept { S.kept src.old src.new }
     ensures cause { HasCauseOf VolAnswer.Fault (S.faults src.old) (S.faults src.new) result }
     ensures answers { IfErr result IsFileAnswer }
-    ensures test { OverTold S.tells (S.blocks src.old) (λ image. IsAccepted image → IsOpened volume.now image → (key : KeyOf) → IsAt volume.now place key
+    ensures test { OverTold S.tells (S.blocks src.old) (λ image. IsAccepted image → IsOpened volume.now image → (key : KeyOf) → IsObjectAt volume.now place key
         → MatchResult result (λ test. test ≡ (nat_le (stat_at (volume_items image) key).fields.size 2048 && is_tail (block_from (items_of key (volume_items image)) (stat_at (volume_items image) key).fields.size 0))) IsFaultOrMemory) }
 {
     if volume.stat(place).fields.size > INLINE_LIMIT {
@@ -128,8 +128,8 @@ fn read_bytes<S: BlockSource>(
     ensures cause { HasCauseOf VolAnswer.Fault (S.faults src.old) (S.faults src.new) result }
     ensures answers { IfErr result IsFileAnswer }
     ensures small { IfOk result (λ n. n ≤ 3900) }
-    ensures held { OverTold S.tells (S.blocks src.old) (λ image. IsAccepted image → IsOpened volume.now image → (key : KeyOf) → IsAt volume.now place key → (stat_at (volume_items image) key).fields.size ≤ 3900
-        → MatchResult result (λ n. HoldsBytes (items_of key (volume_items image)) (stat_at (volume_items image) key).fields.size n into.new.bytes) IsFaultOrMemory) }
+    ensures held { OverTold S.tells (S.blocks src.old) (λ image. IsAccepted image → IsOpened volume.now image → (key : KeyOf) → IsObjectAt volume.now place key → (stat_at (volume_items image) key).fields.size ≤ 3900
+        → MatchResult result (λ n. HoldsDirectBytes (items_of key (volume_items image)) (stat_at (volume_items image) key).fields.size n into.new.bytes) IsFaultOrMemory) }
 {
     let size = volume.stat(place).fields.size;
     if size > TARGET_LIMIT {

@@ -2,7 +2,7 @@ ghost use Rattle.std.specs.Prelude.{◌≡◌, ◌<◌, ◌*◌, ◌^◌, ◌++�
 ghost use Rattle.indexmap.specs.IndexMap.{keys};
 ghost use Rattle.reiser_volume.specs.outside.History.{Image};
 ghost use Rattle.unit_plan.specs.btr_keys.DirEntry.{dir_entry_value};
-ghost use Rattle.reiser_volume.specs.reiser_volume_names.Names.{inode_of};
+ghost use Rattle.reiser_volume.specs.reiser_volume_names.Names.{ino_of_key};
 ghost use Rattle.reiser_volume_objects.specs.declared.key.ObjectKey.{ObjectKey as KeyOf};
 ghost use Rattle.reiser_volume_objects.specs.declared.naming.Naming.{Naming as NamingOf};
 ghost use Rattle.reiser_volume.specs.Made.{stat_at, kind_by};
@@ -10,13 +10,16 @@ ghost use Rattle.reiser_volume.specs.Numbers.{AreNumbered};
 ghost use Rattle.reiser_volume.specs.Opened.{IsOpened, links_in};
 ghost use Rattle.reiser_volume.specs.Volume.{IsAccepted, volume_items};
 ghost use Rattle.file_items.specs.Known.{FitsIndex, IsKnown};
-ghost use Rattle.file_items.specs.Spots.{IsAt};
+ghost use Rattle.file_items.specs.Spots.{IsObjectAt};
 ghost use Rattle.file_items.specs.Names.{entry_kind, entry_to, entry_items, Indexed, indexed, indexed_in, names_in, saved_entry};
 
 use crate::link_index::{LinkIndex, index_at};
 use btr_item_list::{ItemList, key_of, put_dir_entry, short};
+use btrfs_format::flag::{FT_BLKDEV, FT_CHRDEV, FT_DIR, FT_FIFO, FT_REG_FILE, FT_SOCK, FT_SYMLINK};
+use btrfs_format::key::{DIR_INDEX, DIR_ITEM, INODE_ITEM, ROOT_ITEM};
+use btrfs_format::object::CONV_IMAGE_SUBVOL;
 use fs_rows::Kind;
-use reiser_volume::{Memory, Numbers, Volume, name_hash};
+use reiser_volume::{InodeNumbers, Memory, Volume, name_hash};
 use reiser_volume_objects::kind_of_mode;
 use std::alloc::Global;
 use unit_plan::{DirEntry, Key};
@@ -54,12 +57,12 @@ impl Directory {
         &mut self,
         volume: &Volume,
         links: &LinkIndex,
-        numbers: Numbers,
+        numbers: InodeNumbers,
         place: usize,
         ino: u64,
     ) -> Result<(), Memory>
         requires { FitsIndex links.now volume.now }
-        ensures { (image : Image) → IsKnown volume.now links.now numbers image → (key : KeyOf) → IsAt volume.now place key
+        ensures { (image : Image) → IsKnown volume.now links.now numbers image → (key : KeyOf) → IsObjectAt volume.now place key
             → OnOk result (HasEntries ino (indexed_in (λ k. kind_by (stat_at (volume_items image) k)) (keys volume.now.named) (links_in volume.now) key) self.new) }
     {
         self.gather_links(volume, links, numbers, place, ino)?;
@@ -75,12 +78,12 @@ impl Directory {
         &mut self,
         volume: &Volume,
         links: &LinkIndex,
-        numbers: Numbers,
+        numbers: InodeNumbers,
         place: usize,
         ino: u64,
     ) -> Result<(), Memory>
         requires { FitsIndex links.now volume.now }
-        ensures { (image : Image) → IsKnown volume.now links.now numbers image → (key : KeyOf) → IsAt volume.now place key
+        ensures { (image : Image) → IsKnown volume.now links.now numbers image → (key : KeyOf) → IsObjectAt volume.now place key
             → OnOk result (HasEntries ino (map (indexed (λ k. kind_by (stat_at (volume_items image) k)) (keys volume.now.named)) (names_in (links_in volume.now) key)) self.new) }
     {
         self.hashed.clear();
@@ -103,8 +106,8 @@ impl Directory {
         self.body.clear();
         put_dir_entry(&mut self.body, entry)?;
         let hash = name_hash(entry.name) as u64;
-        self.hashed.add(key_of(ino, 84, hash), &self.body)?;
-        self.indexes.add(key_of(ino, 96, index), &self.body)?;
+        self.hashed.add(key_of(ino, DIR_ITEM, hash), &self.body)?;
+        self.indexes.add(key_of(ino, DIR_INDEX, index), &self.body)?;
         self.letters = self.letters.saturating_add(entry.name.len() as u64);
         Ok(())
     }
@@ -120,20 +123,20 @@ impl Directory {
     pub fn add_items(&mut self, items: &mut ItemList, ino: u64) -> Result<(), Memory>
         ensures { (list : List Indexed) → HasEntries ino list self.old → OnOk result (items.new ≡ items.old ++ entry_items ino list) }
     {
-        items.add_joined(ino, 84, &mut self.hashed, &mut self.body)?;
+        items.add_joined(ino, DIR_ITEM, &mut self.hashed, &mut self.body)?;
         items.append(&self.indexes)
     }
 }
 
 /// The entry of a link.
-fn entry_of(volume: &Volume, numbers: Numbers, number: usize) -> DirEntry<'_>
+fn entry_of(volume: &Volume, numbers: InodeNumbers, number: usize) -> DirEntry<'_>
     requires { number < length (links_in volume.now) }
     ensures entry { (image : Image) → IsAccepted image → IsOpened volume.now image → AreNumbered numbers.root (keys volume.now.named) → (n : NamingOf) → slice_get (links_in volume.now) number ≡ Some n
-        → dir_entry_value result ≡ entry_to (inode_of (keys volume.now.named) n.target) (kind_by (stat_at (volume_items image) n.target)) n.name }
+        → dir_entry_value result ≡ entry_to (ino_of_key (keys volume.now.named) n.target) (kind_by (stat_at (volume_items image) n.target)) n.name }
     ensures short { length result.name.now < 65536 }
 {
     let link = volume.link(number);
-    let location = key_of(numbers.inode(link.object), 1, 0);
+    let location = key_of(numbers.inode(link.object), INODE_ITEM, 0);
     new_entry(location, kind_at(volume, link.object), short(link.name))
 }
 
@@ -142,7 +145,11 @@ fn saved_entry() -> DirEntry<'static>
     ensures entry { dir_entry_value result ≡ saved_entry }
     ensures short { length result.name.now < 65536 }
 {
-    new_entry(key_of(256, 132, u64::MAX), Kind::Subvolume, SAVED)
+    new_entry(
+        key_of(CONV_IMAGE_SUBVOL, ROOT_ITEM, u64::MAX),
+        Kind::Subvolume,
+        SAVED,
+    )
 }
 
 /// An entry of a new tree.
@@ -164,19 +171,19 @@ fn entry_kind(kind: Kind) -> u8
     ensures { result ≡ entry_kind kind }
 {
     match kind {
-        Kind::File => 1,
-        Kind::Directory | Kind::Subvolume => 2,
-        Kind::Character => 3,
-        Kind::Block => 4,
-        Kind::Fifo => 5,
-        Kind::Socket => 6,
-        Kind::Symlink => 7,
+        Kind::File => FT_REG_FILE,
+        Kind::Directory | Kind::Subvolume => FT_DIR,
+        Kind::Character => FT_CHRDEV,
+        Kind::Block => FT_BLKDEV,
+        Kind::Fifo => FT_FIFO,
+        Kind::Socket => FT_SOCK,
+        Kind::Symlink => FT_SYMLINK,
     }
 }
 
 /// The kind of the object at a place, which each named object has.
 pub fn kind_at(volume: &Volume, place: usize) -> Kind
-    ensures { (image : Image) → IsAccepted image → IsOpened volume.now image → (key : KeyOf) → IsAt volume.now place key → result ≡ kind_by (stat_at (volume_items image) key) }
+    ensures { (image : Image) → IsAccepted image → IsOpened volume.now image → (key : KeyOf) → IsObjectAt volume.now place key → result ≡ kind_by (stat_at (volume_items image) key) }
 {
     if place >= volume.count() {
         return Kind::File;

@@ -18,22 +18,22 @@ ghost use Rattle.file_items.specs.Contents.{HoldsBy, HoldsInline};
 ghost use Rattle.file_items.specs.Extents.{file_block, piece_bytes, pieces_of};
 ghost use Rattle.file_items.specs.Gathered.{HasEntries};
 ghost use Rattle.file_items.specs.Known.{FitsIndex, IsKnown};
-ghost use Rattle.file_items.specs.Spots.{IsAt};
+ghost use Rattle.file_items.specs.Spots.{IsObjectAt};
 ghost use Rattle.file_items.specs.Names.{indexed_in, letters};
 ghost use Rattle.file_items.specs.Orders.{AreOwners};
-ghost use Rattle.file_items.specs.Tree.{Source, source_of, tree_items, name_items, number_of, kind_in, size_in, size_by, inline_in};
+ghost use Rattle.file_items.specs.Tree.{Source, source_of, fs_tree_items, name_items, ino_of, kind_in, size_in, size_by, inline_in};
 
 use crate::contents::inlined;
 use crate::directory::{Directory, kind_at};
 use crate::inode::{Sizes, inode_from};
 use crate::link_index::LinkIndex;
-use crate::names::Names;
+use crate::object_names::ObjectNames;
 use crate::order::by_owner;
 use crate::small::add_root_ref;
 use btr_item_list::{Extent, ItemList, Spots, add_extent, add_inline, add_inode};
 use convert_options::Options;
 use fs_rows::Kind;
-use reiser_volume::{Block, BlockSource, Memory, Numbers, VolAnswer, Volume};
+use reiser_volume::{Block, BlockSource, InodeNumbers, Memory, VolAnswer, Volume};
 use std::alloc::Global;
 use unit_plan::{Piece, PieceList};
 
@@ -43,7 +43,7 @@ struct Basis {
     alloc: Global,
     inline: bool,
     datasum: bool,
-    numbers: Numbers,
+    numbers: InodeNumbers,
     links: LinkIndex,
     owners: Spots,
 }
@@ -60,7 +60,7 @@ struct FileInHand {
 #[derive(Drop)]
 pub struct FileTree {
     basis: Basis,
-    names: Names,
+    names: ObjectNames,
     directory: Directory,
     body: Vec<u8>,
     /// How many objects were begun.
@@ -69,7 +69,7 @@ pub struct FileTree {
 }
 
 impl FileTree {
-    ghost use Rattle.file_items.specs.Stream.{AddsSome, AddsExtent, Begins, HasContent, HasExtents, tree_ahead, FitsTree, FitsTreeBlocks};
+    ghost use Rattle.file_items.specs.Stream.{AddsSome, AddsExtent, Begins, HasContent, HasAddedExtents, tree_ahead, FitsTree, FitsTreeBlocks};
 
     /// All objects of a volume with these pieces.
     pub fn new<P: PieceList>(
@@ -80,19 +80,19 @@ impl FileTree {
     ) -> Result<FileTree, Memory>
         ensures fits { IfOk result (λ files. FitsTree files volume.now (P.pieces pieces.now)) }
         ensures fits_blocks { IfOk result (λ files. (image : Image) → IsAccepted image → IsOpened volume.now image → FitsTreeBlocks files volume.now image) }
-        ensures all { IfOk result (λ files. (image : Image) → tree_ahead files volume.now (P.pieces pieces.now) image ≡ tree_items (source_of volume.now (P.pieces pieces.now) options.now.inline options.now.datasum image)) }
+        ensures all { IfOk result (λ files. (image : Image) → tree_ahead files volume.now (P.pieces pieces.now) image ≡ fs_tree_items (source_of volume.now (P.pieces pieces.now) options.now.inline options.now.datasum image)) }
     {
         let basis = Basis {
             alloc,
             inline: options.inline,
             datasum: options.datasum,
-            numbers: Numbers::new(volume),
+            numbers: InodeNumbers::new(volume),
             links: LinkIndex::new(alloc, volume)?,
             owners: by_owner(alloc, pieces)?,
         };
         Ok(FileTree {
             basis,
-            names: Names::new(alloc),
+            names: ObjectNames::new(alloc),
             directory: Directory::new(alloc),
             body: Vec::new(alloc),
             begun: 0,
@@ -164,7 +164,7 @@ impl FileTree {
         ensures answers { IfErr result IsFileAnswer }
         ensures basis { self.new.basis ≡ self.old.basis }
         ensures begun { self.new.begun ≡ self.old.begun }
-        ensures next { OverTold S.tells (S.blocks src.old) (λ image. IsAccepted image → IsOpened volume.now image → ArePlaced (superblock image).blocks (P.pieces pieces.now) → FitsTreeBlocks self.old volume.now image → (key : KeyOf) → IsAt volume.now place key
+        ensures next { OverTold S.tells (S.blocks src.old) (λ image. IsAccepted image → IsOpened volume.now image → ArePlaced (superblock image).blocks (P.pieces pieces.now) → FitsTreeBlocks self.old volume.now image → (key : KeyOf) → IsObjectAt volume.now place key
             → MatchResult result (λ _. Begins (source_of volume.now (P.pieces pieces.now) self.old.basis.inline self.old.basis.datasum image) key self.new.file items.old items.new) IsFaultOrMemory) }
     {
         let kind = kind_at(volume, place);
@@ -198,7 +198,7 @@ impl FileTree {
         requires small { IfSome held (λ n. n ≤ 4096) }
         ensures basis { self.new.basis ≡ self.old.basis }
         ensures begun { self.new.begun ≡ self.old.begun }
-        ensures next { (image : Image) → FitsTreeBlocks self.old volume.now image → ArePlaced (superblock image).blocks (P.pieces pieces.now) → (key : KeyOf) → IsAt volume.now place key → kind ≡ kind_by (stat_at (volume_items image) key)
+        ensures next { (image : Image) → FitsTreeBlocks self.old volume.now image → ArePlaced (superblock image).blocks (P.pieces pieces.now) → (key : KeyOf) → IsObjectAt volume.now place key → kind ≡ kind_by (stat_at (volume_items image) key)
             → HoldsInline self.old.basis.inline (items_of key (volume_items image)) (stat_at (volume_items image) key).fields.size kind held block.now.bytes
             → OnOk result (Begins (source_of volume.now (P.pieces pieces.now) self.old.basis.inline self.old.basis.datasum image) key self.new.file items.old items.new) }
     {
@@ -228,7 +228,7 @@ impl FileTree {
         requires { FitsIndex self.old.basis.links volume.now }
         ensures basis { self.new.basis ≡ self.old.basis }
         ensures begun { self.new.begun ≡ self.old.begun }
-        ensures entries { (image : Image) → IsKnown volume.now self.old.basis.links self.old.basis.numbers image → (key : KeyOf) → IsAt volume.now place key → kind ≡ Kind.Directory
+        ensures entries { (image : Image) → IsKnown volume.now self.old.basis.links self.old.basis.numbers image → (key : KeyOf) → IsObjectAt volume.now place key → kind ≡ Kind.Directory
             → OnOk result (HasEntries ino (indexed_in (λ k. kind_by (stat_at (volume_items image) k)) (keys volume.now.named) (links_in volume.now) key) self.new.directory) }
     {
         if kind.is_directory() {
@@ -243,7 +243,7 @@ impl FileTree {
     fn size_of(&self, volume: &Volume, place: usize, kind: Kind) -> u64
         requires { place < length (keys volume.now.named) }
         ensures { (s : Source) (key : KeyOf) → (kind ≡ Kind.Directory → self.now.directory.letters ≡ letters (indexed_in (kind_in s) s.keys s.links key) × self.now.directory.letters < 2 ^ 62)
-            → (stat_of : StatOf) → get same_key volume.now.named key ≡ Some stat_of → IsAt volume.now place key → size_in s key ≡ stat_of.fields.size → result ≡ size_by s key kind }
+            → (stat_of : StatOf) → get same_key volume.now.named key ≡ Some stat_of → IsObjectAt volume.now place key → size_in s key ≡ stat_of.fields.size → result ≡ size_by s key kind }
     {
         match kind {
             Kind::Directory => self.directory.size(),
@@ -263,7 +263,7 @@ impl FileTree {
         ensures basis { self.new.basis ≡ self.old.basis }
         ensures begun { self.new.begun ≡ self.old.begun }
         ensures directory { self.new.directory ≡ self.old.directory }
-        ensures names { (s : Source) (image : Image) → IsKnown volume.now self.old.basis.links self.old.basis.numbers image → s.keys ≡ keys volume.now.named → s.links ≡ links_in volume.now → (key : KeyOf) → IsAt volume.now place key
+        ensures names { (s : Source) (image : Image) → IsKnown volume.now self.old.basis.links self.old.basis.numbers image → s.keys ≡ keys volume.now.named → s.links ≡ links_in volume.now → (key : KeyOf) → IsObjectAt volume.now place key
             → OnOk result (items.new ≡ items.old ++ name_items s key) }
     {
         if self.basis.numbers.is_root(place) {
@@ -286,7 +286,7 @@ impl FileTree {
         requires small { IfSome held (λ n. n ≤ 4096) }
         ensures basis { self.new.basis ≡ self.old.basis }
         ensures begun { self.new.begun ≡ self.old.begun }
-        ensures content { (s : Source) (key : KeyOf) → ino ≡ number_of s key → pieces ≡ length (pieces_of s.pieces (number_of s key)) → kind ≡ kind_in s key → (kind ≡ Kind.Directory → HasEntries ino (indexed_in (kind_in s) s.keys s.links key) self.old.directory)
+        ensures content { (s : Source) (key : KeyOf) → ino ≡ ino_of s key → pieces ≡ length (pieces_of s.pieces (ino_of s key)) → kind ≡ kind_in s key → (kind ≡ Kind.Directory → HasEntries ino (indexed_in (kind_in s) s.keys s.links key) self.old.directory)
             → HoldsInline s.inline (items_of key s.items) (size_in s key) kind held block.now.bytes → OnOk result (HasContent s key self.new.file items.old items.new) }
     {
         self.file = FileInHand { ino, left: 0 };
@@ -310,7 +310,7 @@ impl FileTree {
         requires file { self.old.file ≡ record { ino = ino; left = 0 } }
         ensures basis { self.new.basis ≡ self.old.basis }
         ensures begun { self.new.begun ≡ self.old.begun }
-        ensures bytes { (s : Source) (key : KeyOf) → ino ≡ number_of s key → pieces ≡ length (pieces_of s.pieces (number_of s key)) → HoldsBy (inline_in s key) (items_of key s.items) (size_in s key) held block.now.bytes → OnOk result (HasExtents s key self.new.file items.old items.new) }
+        ensures bytes { (s : Source) (key : KeyOf) → ino ≡ ino_of s key → pieces ≡ length (pieces_of s.pieces (ino_of s key)) → HoldsBy (inline_in s key) (items_of key s.items) (size_in s key) held block.now.bytes → OnOk result (HasAddedExtents s key self.new.file items.old items.new) }
     {
         match held {
             Some(length) => add_inline(items, &mut self.body, ino, &block.bytes[..length]),

@@ -3,22 +3,12 @@ ghost use Rattle.reiser_volume.specs.Rows.{flag};
 ghost use Rattle.file_items.specs.Inodes.{if_set, inode_flags, device_number, inode_from};
 
 use btr_item_list::{new_inode, stamp_of};
+use btrfs_format::flag::{
+    INODE_APPEND, INODE_IMMUTABLE, INODE_NOATIME, INODE_NODATASUM, INODE_NODUMP, INODE_SYNC,
+};
 use fs_rows::Kind;
 use reiser_volume_objects::ObjectStat;
 use unit_plan::Inode;
-
-// Flags of an inode.
-const NO_DATASUM: u64 = 0x1;
-
-const SYNC: u64 = 0x20;
-
-const IMMUTABLE: u64 = 0x40;
-
-const APPEND: u64 = 0x80;
-
-const NODUMP: u64 = 0x100;
-
-const NOATIME: u64 = 0x200;
 
 /// What an inode has that is not in the stat data of its object.
 #[derive(Clone, Copy)]
@@ -71,12 +61,12 @@ fn device_number(stat: &ObjectStat, kind: Kind) -> u64
 fn inode_flags(datasum: bool, flags: u32, stat: &ObjectStat, kind: Kind) -> u64
     ensures { result ≡ inode_flags datasum flags stat.now kind }
 {
-    if_set(kind.is_file() && !datasum, NO_DATASUM)
-        + (if_set(flag(flags, stat, 3), SYNC)
-            + (if_set(!kind.is_symlink() && flag(flags, stat, 4), IMMUTABLE)
-                + (if_set(!kind.is_symlink() && flag(flags, stat, 5), APPEND)
-                    + (if_set(flag(flags, stat, 6), NODUMP)
-                        + if_set(flag(flags, stat, 7), NOATIME)))))
+    if_set(kind.is_file() && !datasum, INODE_NODATASUM)
+        + (if_set(flag(flags, stat, 3), INODE_SYNC)
+            + (if_set(!kind.is_symlink() && flag(flags, stat, 4), INODE_IMMUTABLE)
+                + (if_set(!kind.is_symlink() && flag(flags, stat, 5), INODE_APPEND)
+                    + (if_set(flag(flags, stat, 6), INODE_NODUMP)
+                        + if_set(flag(flags, stat, 7), INODE_NOATIME)))))
 }
 
 /// A bit of an inode's flags, if it is set.

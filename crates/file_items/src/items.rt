@@ -10,7 +10,7 @@ ghost use Rattle.reiser_volume.specs.declared.volume.Volume.{Volume as VolumeOf}
 ghost use Rattle.unit_plan.specs.declared.piece.Piece.{Piece as PieceOf};
 ghost use Rattle.unit_plan.specs.Pieces.{ArePlaced};
 ghost use Rattle.file_items.specs.Small.{image_items, relocation_items};
-ghost use Rattle.file_items.specs.Tree.{source_of, tree_items};
+ghost use Rattle.file_items.specs.Tree.{source_of, fs_tree_items};
 
 use crate::files::FileTree;
 use crate::image::{ImageExtents, image_blocks};
@@ -74,7 +74,7 @@ pub struct Items {
 }
 
 impl Items {
-    ghost use Rattle.file_items.specs.Stream.{ahead, Fits, FitsBlocks, HasItem, Stands, Comes};
+    ghost use Rattle.file_items.specs.Stream.{ahead, FitsStream, FitsBlocks, HasGivenItem, StandsNext, Comes};
 
     /// The items of the file tree, number 5, of a volume whose pieces were placed. Nothing in this tree is of the time of the
     /// conversion.
@@ -86,9 +86,9 @@ impl Items {
         _now: u64,
     ) -> Result<Items, Memory>
         ensures live { IfOk result (λ items. items.spent ≡ false) }
-        ensures fits { IfOk result (λ items. Fits items volume.now (P.pieces pieces.now)) }
+        ensures fits { IfOk result (λ items. FitsStream items volume.now (P.pieces pieces.now)) }
         ensures fits_blocks { IfOk result (λ items. (image : Image) → IsAccepted image → IsOpened volume.now image → FitsBlocks items volume.now image) }
-        ensures all { IfOk result (λ items. (image : Image) → ahead items volume.now (P.pieces pieces.now) image ≡ tree_items (source_of volume.now (P.pieces pieces.now) options.now.inline options.now.datasum image)) }
+        ensures all { IfOk result (λ items. (image : Image) → ahead items volume.now (P.pieces pieces.now) image ≡ fs_tree_items (source_of volume.now (P.pieces pieces.now) options.now.inline options.now.datasum image)) }
     {
         let files = FileTree::new(alloc, volume, pieces, options)?;
         Ok(Items::with(ItemList::new(alloc), Rest::Files(files)))
@@ -105,7 +105,7 @@ impl Items {
     ) -> Result<Items, Memory>
         requires { now < 2 ^ 63 }
         ensures live { IfOk result (λ items. items.spent ≡ false) }
-        ensures fits { IfOk result (λ items. Fits items volume.now (P.pieces pieces.now)) }
+        ensures fits { IfOk result (λ items. FitsStream items volume.now (P.pieces pieces.now)) }
         ensures fits_blocks { IfOk result (λ items. (image : Image) → FitsBlocks items volume.now image) }
         ensures all { volume.now.sup.blocks < 2 ^ 52 → ArePlaced volume.now.sup.blocks (P.pieces pieces.now)
             → IfOk result (λ items. (image : Image) → ahead items volume.now (P.pieces pieces.now) image ≡ image_items volume.now.sup.blocks (P.pieces pieces.now) options.now.datasum now) }
@@ -120,7 +120,7 @@ impl Items {
     pub fn relocation(alloc: Global, now: u64) -> Result<Items, Memory>
         requires { now < 2 ^ 63 }
         ensures live { IfOk result (λ items. items.spent ≡ false) }
-        ensures fits { IfOk result (λ items. (volume : VolumeOf) (pieces : List PieceOf) → Fits items volume pieces) }
+        ensures fits { IfOk result (λ items. (volume : VolumeOf) (pieces : List PieceOf) → FitsStream items volume pieces) }
         ensures fits_blocks { IfOk result (λ items. (volume : VolumeOf) (image : Image) → FitsBlocks items volume image) }
         ensures all { IfOk result (λ items. (volume : VolumeOf) (pieces : List PieceOf) (image : Image) → ahead items volume pieces image ≡ relocation_items now) }
     {
@@ -151,13 +151,13 @@ impl Items {
         pieces: &P,
     ) -> Result<bool, VolAnswer>
         requires live { self.old.spent ≡ false }
-        requires fits { Fits self.old volume.now (P.pieces pieces.now) }
+        requires fits { FitsStream self.old volume.now (P.pieces pieces.now) }
         ensures kept { S.kept src.old src.new }
         ensures cause { HasCauseOf VolAnswer.Fault (S.faults src.old) (S.faults src.new) result }
         ensures answers { IfErr result IsFileAnswer }
         ensures spent { self.new.spent ≡ is_err result }
-        ensures fits { IfOk result (λ _. Fits self.new volume.now (P.pieces pieces.now)) }
-        ensures stands { IfOk result (λ more. more ≡ true → HasItem self.new) }
+        ensures fits { IfOk result (λ _. FitsStream self.new volume.now (P.pieces pieces.now)) }
+        ensures stands { IfOk result (λ more. more ≡ true → HasGivenItem self.new) }
         ensures next { OverTold S.tells (S.blocks src.old) (λ image. IsAccepted image → IsOpened volume.now image → ArePlaced (superblock image).blocks (P.pieces pieces.now) → FitsBlocks self.old volume.now image
             → MatchResult result (λ more. Comes more self.old self.new volume.now (P.pieces pieces.now) image) IsFaultOrMemory) }
     {
@@ -173,13 +173,13 @@ impl Items {
         pieces: &P,
     ) -> Result<bool, VolAnswer>
         requires live { self.old.spent ≡ false }
-        requires fits { Fits self.old volume.now (P.pieces pieces.now) }
+        requires fits { FitsStream self.old volume.now (P.pieces pieces.now) }
         ensures kept { S.kept src.old src.new }
         ensures cause { HasCauseOf VolAnswer.Fault (S.faults src.old) (S.faults src.new) result }
         ensures answers { IfErr result IsFileAnswer }
         ensures spent { self.new.spent ≡ self.old.spent }
-        ensures fits { IfOk result (λ _. Fits self.new volume.now (P.pieces pieces.now)) }
-        ensures stands { IfOk result (λ more. more ≡ true → HasItem self.new) }
+        ensures fits { IfOk result (λ _. FitsStream self.new volume.now (P.pieces pieces.now)) }
+        ensures stands { IfOk result (λ more. more ≡ true → HasGivenItem self.new) }
         ensures next { OverTold S.tells (S.blocks src.old) (λ image. IsAccepted image → IsOpened volume.now image → ArePlaced (superblock image).blocks (P.pieces pieces.now) → FitsBlocks self.old volume.now image
             → MatchResult result (λ more. Comes more self.old self.new volume.now (P.pieces pieces.now) image) IsFaultOrMemory) }
     {
@@ -199,16 +199,16 @@ impl Items {
 
     /// The key of the item that stands.
     pub fn key(&self) -> Key
-        requires { HasItem self.now }
-        ensures { (item : Item) → Stands self.now item → result ≡ item.0 }
+        requires { HasGivenItem self.now }
+        ensures { (item : Item) → StandsNext self.now item → result ≡ item.0 }
     {
         self.list.key(self.given - 1)
     }
 
     /// The body of the item that stands.
     pub fn body(&self) -> &[u8]
-        requires { HasItem self.now }
-        ensures { (item : Item) → Stands self.now item → result.now ≡ item.1 }
+        requires { HasGivenItem self.now }
+        ensures { (item : Item) → StandsNext self.now item → result.now ≡ item.1 }
     {
         self.list.body(self.given - 1)
     }

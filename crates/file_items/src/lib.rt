@@ -12,7 +12,7 @@ mod image;
 mod inode;
 mod items;
 mod link_index;
-mod names;
+mod object_names;
 mod order;
 mod small;
 

@@ -5,9 +5,9 @@ ghost use Rattle.reiser_volume.specs.reiser_volume_names.Tally.{tally, capped};
 ghost use Rattle.reiser_volume.specs.Opened.{IsOpened, links_in};
 ghost use Rattle.reiser_volume.specs.Volume.{IsAccepted};
 ghost use Rattle.file_items.specs.Spots.{AreBelow, TellsPlaces};
-ghost use Rattle.file_items.specs.Names.{entries};
+ghost use Rattle.file_items.specs.Names.{indexed_links};
 ghost use Rattle.file_items.specs.Sizes.{same_names, AreSizes};
-ghost use Rattle.file_items.specs.declared.link_index.NamesIn.{NamesIn as NamesInOf};
+ghost use Rattle.file_items.specs.declared.link_index.RefKey.{RefKey as RefKeyOf};
 
 use btr_item_list::{Spot, Spots, count_before};
 use indexmap::IndexMap;
@@ -19,7 +19,7 @@ const REF_LIMIT: u64 = 3900;
 
 /// The names of one object in one directory, by the places of both.
 #[derive(Clone, Copy, Debug, PartialEq, Eq, Hash)]
-struct NamesIn {
+struct RefKey {
     dir: usize,
     object: usize,
 }
@@ -125,13 +125,13 @@ fn target_spots(alloc: Global, volume: &Volume) -> Result<Vec<Spot>, Memory>
 /// Of each link whether the names of its object in its directory, up to it, take more than an inode ref has.
 fn extended_names(alloc: Global, volume: &Volume) -> Result<Vec<bool>, Memory>
     ensures count { IfOk result (λ extended. length extended.items ≡ length (links_in volume.now)) }
-    ensures extended { IfOk result (λ extended. (image : Image) → IsOpened volume.now image → extended.items ≡ map (λ e. e.extended) (entries (links_in volume.now))) }
+    ensures extended { IfOk result (λ extended. (image : Image) → IsOpened volume.now image → extended.items ≡ map (λ e. e.extended) (indexed_links (links_in volume.now))) }
 {
     let mut sizes = IndexMap::new(alloc);
     let mut extended = Vec::new(alloc);
     for n in 0..volume.link_count() {
         let link = volume.link(n);
-        let names = NamesIn {
+        let names = RefKey {
             dir: link.dir,
             object: link.object,
         };
@@ -143,9 +143,9 @@ fn extended_names(alloc: Global, volume: &Volume) -> Result<Vec<bool>, Memory>
 }
 
 /// Adds to a size, which stays at the last value of 64 bits.
-fn add_size(sizes: &mut IndexMap<NamesIn, u64>, names: NamesIn, size: u64) -> Result<u64, Memory>
+fn add_size(sizes: &mut IndexMap<RefKey, u64>, names: RefKey, size: u64) -> Result<u64, Memory>
     ensures size { IfOk result (λ now. now ≡ capped (tally same_names sizes.old names + size)) }
-    ensures sizes { OnOk result ((q : NamesInOf) → tally same_names sizes.new q ≡ (if same_names names q then capped (tally same_names sizes.old names + size) else tally same_names sizes.old q)) }
+    ensures sizes { OnOk result ((q : RefKeyOf) → tally same_names sizes.new q ≡ (if same_names names q then capped (tally same_names sizes.old names + size) else tally same_names sizes.old q)) }
 {
     let now = sizes.get(&names).copied().unwrap_or(0).saturating_add(size);
     sizes.insert(names, now)?;

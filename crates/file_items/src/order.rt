@@ -1,7 +1,7 @@
 // The pieces of a volume in the orders in which their extents are given.
 ghost use Rattle.std.specs.Prelude.{◌≡◌, ◌<◌, filter, is_some, IfOk};
 ghost use Rattle.file_items.specs.Extents.{file_block, owner_inode, source_block, by_block};
-ghost use Rattle.file_items.specs.Orders.{Tells, AreOwners, AreSources};
+ghost use Rattle.file_items.specs.Orders.{TellsPieces, AreOwners, AreSources};
 
 use btr_item_list::{Spot, Spots};
 use reiser_volume::Memory;
@@ -18,7 +18,7 @@ pub fn by_owner<P: PieceList>(alloc: Global, pieces: &P) -> Result<Spots, Memory
 
 /// Each owned piece under its block of the file.
 fn block_spots<P: PieceList>(alloc: Global, pieces: &P) -> Result<Vec<Spot>, Memory>
-    ensures { IfOk result (λ spots. Tells (P.pieces pieces.now) file_block spots.items (filter (λ p. is_some p.owner) (P.pieces pieces.now))) }
+    ensures { IfOk result (λ spots. TellsPieces (P.pieces pieces.now) file_block spots.items (filter (λ p. is_some p.owner) (P.pieces pieces.now))) }
 {
     let mut spots = Vec::new(alloc);
     for number in 0..pieces.len() {
@@ -31,8 +31,8 @@ fn block_spots<P: PieceList>(alloc: Global, pieces: &P) -> Result<Vec<Spot>, Mem
 
 /// The same pieces under their inodes.
 fn owner_spots<P: PieceList>(alloc: Global, pieces: &P, blocks: &Spots) -> Result<Vec<Spot>, Memory>
-    requires { Tells (P.pieces pieces.now) file_block blocks.now (by_block (P.pieces pieces.now)) }
-    ensures { IfOk result (λ spots. Tells (P.pieces pieces.now) owner_inode spots.items (by_block (P.pieces pieces.now))) }
+    requires { TellsPieces (P.pieces pieces.now) file_block blocks.now (by_block (P.pieces pieces.now)) }
+    ensures { IfOk result (λ spots. TellsPieces (P.pieces pieces.now) owner_inode spots.items (by_block (P.pieces pieces.now))) }
 {
     let mut spots = Vec::new(alloc);
     for i in 0..blocks.len() {
@@ -52,7 +52,7 @@ pub fn by_source<P: PieceList>(alloc: Global, pieces: &P) -> Result<Spots, Memor
 
 /// Each piece that holds blocks of the volume under the first of these.
 fn source_spots<P: PieceList>(alloc: Global, pieces: &P) -> Result<Vec<Spot>, Memory>
-    ensures { IfOk result (λ spots. Tells (P.pieces pieces.now) source_block spots.items (filter (λ p. is_some p.from) (P.pieces pieces.now))) }
+    ensures { IfOk result (λ spots. TellsPieces (P.pieces pieces.now) source_block spots.items (filter (λ p. is_some p.from) (P.pieces pieces.now))) }
 {
     let mut spots = Vec::new(alloc);
     for number in 0..pieces.len() {

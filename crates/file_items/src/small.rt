@@ -5,19 +5,20 @@ ghost use Rattle.file_items.specs.Small.{relocation_items, image_head, image_ent
 
 use crate::directory::new_entry;
 use btr_item_list::{ItemList, add_inode, add_ref, inode_made, key_of, put_dir_entry};
+use btrfs_format::flag::{INODE_NODATASUM, INODE_READONLY};
+use btrfs_format::key::{DIR_INDEX, DIR_ITEM, INODE_ITEM};
+use btrfs_format::object::FIRST_FREE_OBJECTID;
 use fs_rows::Kind;
 use reiser_volume::{Memory, name_hash};
 use std::alloc::Global;
 use unit_plan::InodeRef;
+use vol_block::{DIRECTORY_MODE, IMAGE_MODE};
 
 /// The name of the image.
 const IMAGE: &[u8] = b"image";
 
-/// The mode of a directory that only its owner may write.
-const DIRECTORY: u32 = 0o40755;
-
-/// The mode of a file that only its owner may read, and nobody write.
-const READ_ONLY: u32 = 0o100400;
+/// The flags of a file that nothing changes and whose data has no checksums.
+const UNSUMMED: u64 = INODE_READONLY | INODE_NODATASUM;
 
 /// Appends the reference of a root directory, which names itself.
 pub fn add_root_ref(items: &mut ItemList, body: &mut Vec<u8>) -> Result<(), Memory>
@@ -27,7 +28,7 @@ pub fn add_root_ref(items: &mut ItemList, body: &mut Vec<u8>) -> Result<(), Memo
         index: 0,
         name: b"..",
     };
-    add_ref(items, body, 256, 256, &name)
+    add_ref(items, body, FIRST_FREE_OBJECTID, FIRST_FREE_OBJECTID, &name)
 }
 
 /// The items of the relocation tree: an empty root directory.
@@ -38,7 +39,11 @@ pub fn relocation_items(alloc: Global, now: u64) -> Result<ItemList, Memory>
 {
     let mut items = ItemList::new(alloc);
     let mut body = Vec::new(alloc);
-    add_inode(&mut items, 256, &inode_made(now, DIRECTORY, 0, 0, 0))?;
+    add_inode(
+        &mut items,
+        FIRST_FREE_OBJECTID,
+        &inode_made(now, DIRECTORY_MODE, 0, 0, 0),
+    )?;
     add_root_ref(&mut items, &mut body)?;
     Ok(items)
 }
@@ -58,7 +63,11 @@ pub fn image_head(
 {
     let mut items = ItemList::new(alloc);
     let mut body = Vec::new(alloc);
-    add_inode(&mut items, 256, &inode_made(now, DIRECTORY, 10, 0, 0))?;
+    add_inode(
+        &mut items,
+        FIRST_FREE_OBJECTID,
+        &inode_made(now, DIRECTORY_MODE, 10, 0, 0),
+    )?;
     add_root_ref(&mut items, &mut body)?;
     add_image_entry(&mut items, &mut body)?;
     let size = blocks.saturating_mul(4096);
@@ -66,25 +75,31 @@ pub fn image_head(
         index: 2,
         name: IMAGE,
     };
-    let image = inode_made(now, READ_ONLY, size, nbytes, image_flags(datasum));
+    let image = inode_made(now, IMAGE_MODE, size, nbytes, image_flags(datasum));
     add_inode(&mut items, 257, &image)?;
-    add_ref(&mut items, &mut body, 257, 256, &name)?;
+    add_ref(&mut items, &mut body, 257, FIRST_FREE_OBJECTID, &name)?;
     Ok(items)
 }
 
 /// Appends the dir item and the dir index of the image.
 fn add_image_entry(items: &mut ItemList, body: &mut Vec<u8>) -> Result<(), Memory>
-    ensures { OnOk result (items.new ≡ items.old ++ entry_items 256 image_entries) }
+    ensures { OnOk result (items.new ≡ items.old ++ entry_items FIRST_FREE_OBJECTID image_entries) }
 {
     body.clear();
-    put_dir_entry(body, &new_entry(key_of(257, 1, 0), Kind::File, IMAGE))?;
-    items.add(key_of(256, 84, name_hash(IMAGE) as u64), body)?;
-    items.add(key_of(256, 96, 2), body)
+    put_dir_entry(
+        body,
+        &new_entry(key_of(257, INODE_ITEM, 0), Kind::File, IMAGE),
+    )?;
+    items.add(
+        key_of(FIRST_FREE_OBJECTID, DIR_ITEM, name_hash(IMAGE) as u64),
+        body,
+    )?;
+    items.add(key_of(FIRST_FREE_OBJECTID, DIR_INDEX, 2), body)
 }
 
 /// The flags of the image: it is read-only, and where data has no checksums it says so.
 fn image_flags(datasum: bool) -> u64
     ensures { result ≡ image_flags datasum }
 {
-    if datasum { 4 } else { 5 }
+    if datasum { INODE_READONLY } else { UNSUMMED }
 }

@@ -1,6 +1,6 @@
 // The items of a sample volume. Their checksums are those of an independent program that writes the same items.
 ghost use Rattle.std.specs.Prelude.{◌≡◌, false};
-ghost use Rattle.file_items.specs.Stream.{Fits};
+ghost use Rattle.file_items.specs.Stream.{FitsStream};
 
 use castagnoli::raw_crc;
 use convert_options::Options;
@@ -118,7 +118,7 @@ fn sum(
     pieces: &Pieces,
 ) -> Result<(u64, u32), VolAnswer>
     requires live { items.old.spent ≡ false }
-    requires fits { Fits items.old volume.now pieces.now.items.items }
+    requires fits { FitsStream items.old volume.now pieces.now.items.items }
 {
     let mut count = 0_u64;
     let mut sum = u32::MAX;

@@ -1,30 +1,11 @@
 -- The list of paths, from what the root reaches over the links in another order.
-use Rattle.std.proofs.Common.{◌≡◌, ℕ, ◌+◌, ◌<◌, Bool, true, false, cond, not, nat_eq, nat_cmp, List, [], ◌∷◌, map, length, get_or, count_by, Contains, IsPermutation, IsSortedBy, Ordering, Less, Equal, Greater, is_lt, refl, sym, ap, ◌∙◌, true≢false, arith}
-use Rattle.std.specs.Cmp.{IsTotalOrder}
-use Rattle.std.specs.Cmp.Lexicographic.{slice_cmp, pointwise}
-use Rattle.std.specs.List.{AllAdjacentBelow, position_or_len}
-use Rattle.std.specs.Ordering.{ordering_then, ordering_reverse}
-use Rattle.std.proofs.lemmas.Bool.{and_parts, and_from}
-use Rattle.std.proofs.lemmas.Bool.Decides.{nat_tests}
-use Rattle.std.proofs.lemmas.Cmp.{nat_list_cmp_total, lists_total, tied_itself}
-use Rattle.std.proofs.lemmas.List.{get_or-map, length-map}
-use Rattle.std.proofs.lemmas.List.Elements.{All-map, All-contains}
-use Rattle.std.proofs.lemmas.List.Sorted.{IsPermutation-sym, All-permutation, Contains-permutation, sum_by-IsPermutation}
-use Rattle.fs_rows.specs.Rows.{NameList, path_cmp, is_same_path}
-use Rattle.fs_paths.specs.declared.found.Found.{Found}
-use Rattle.fs_paths.specs.declared.link.Link.{Link}
-use Rattle.fs_paths.specs.declared.link.PathTo.{PathTo}
-use Rattle.fs_paths.specs.declared.node.NodeId.{NodeId}
-use Rattle.fs_paths.specs.Links.{Leads, AreNamedOnce}
-use Rattle.fs_paths.specs.Paths.{ArePaths, leads_to}
-use Rattle.fs_paths.specs.Places.{numbered}
-use Rattle.fs_paths.specs.Spread.{is_of, names_node, has_name, IsTree, Reaches}
+use Rattle.fs_paths.proofs.Imports.{◌≡◌, ℕ, ◌+◌, ◌<◌, Bool, true, false, cond, not, nat_eq, nat_cmp, List, [], ◌∷◌, map, length, get_or, count_by, Contains, IsPermutation, IsSortedBy, Ordering, Less, Equal, Greater, is_lt, refl, sym, ap, ◌∙◌, true≢false, arith, IsTotalOrder, slice_cmp, pointwise, AllAdjacentBelow, position_or_len, ordering_then, ordering_reverse, and_parts, and_from, nat_tests, nat_list_cmp_total, lists_total, tied_itself, get_or-map, length-map, All-map, All-contains, IsPermutation-sym, All-permutation, Contains-permutation, sum_by-IsPermutation, NameList, path_cmp, is_same_path, PathFound, NodeLink, PathTo, NodeId, Leads, AreNamedOnce, ArePaths, leads_to, numbered, is_of, names_node, has_name, FormTree, Reaches}
 use Rattle.fs_paths.proofs.Counts.{count_map, count_none, count_once, count_twice}
 use Rattle.fs_paths.proofs.Lists.{in_map}
 use Rattle.fs_paths.proofs.Nodes.{same_node-true, same_name-true}
 
 -- links that make a tree, by counts
-pub tree_from_named : (links : List Link) (root : NodeId) → AreNamedOnce links root → IsTree links root
+pub tree_from_named : (links : List NodeLink) (root : NodeId) → AreNamedOnce links root → FormTree links root
 tree_from_named links root named = record {
   not_root = count_none (names_node root) links (λ link among. other link among (names_node root link) refl);
   directories = λ link among. count_once (names_node link.dir) links (λ i j d below within first second.
@@ -38,17 +19,17 @@ tree_from_named links root named = record {
       (same_name-true (get_or links i d).name name one.1 ∙ sym (same_name-true (get_or links j d).name name two.1)));
 }
   where
-    other : (link : Link) → Contains links link → (b : Bool) → names_node root link ≡ b → b ≡ false
+    other : (link : NodeLink) → Contains links link → (b : Bool) → names_node root link ≡ b → b ≡ false
     other link among true is = absurd (named.not_root link among (same_node-true link.target root is))
     other link among false is = refl
 
 -- a way over links that stand in another list too
-pub leads_among : (xs ys : List Link) → ((link : Link) → Contains xs link → Contains ys link) → (from to : NodeId) (path : NameList) → Leads xs from path to → Leads ys from path to
+pub leads_among : (xs ys : List NodeLink) → ((link : NodeLink) → Contains xs link → Contains ys link) → (from to : NodeId) (path : NameList) → Leads xs from path to → Leads ys from path to
 leads_among xs ys all from to [] leads = leads
 leads_among xs ys all from to (name ∷ names) leads = (leads.0, all leads.0 leads.1, leads.2, leads.3, leads_among xs ys all leads.0.target to names leads.4)
 
-module _ (links sorted : List Link) (root : NodeId) (same : IsPermutation links sorted) where
-  pub tree_sorted : IsTree links root → IsTree sorted root
+module _ (links sorted : List NodeLink) (root : NodeId) (same : IsPermutation links sorted) where
+  pub tree_sorted : FormTree links root → FormTree sorted root
   tree_sorted tree = record {
     not_root = sum_by-IsPermutation (λ link. cond (names_node root link) 1 0) links sorted same ∙ tree.not_root;
     directories = λ link among.
@@ -61,7 +42,7 @@ module _ (links sorted : List Link) (root : NodeId) (same : IsPermutation links 
         omega (arith, count, few);
   }
 
-  pub reaches_sorted : (found list : List Found) → IsPermutation found list → Reaches sorted root found → Reaches links root list
+  pub reaches_sorted : (found list : List PathFound) → IsPermutation found list → Reaches sorted root found → Reaches links root list
   reaches_sorted found list moved reaches = record {
     leads = All-permutation (λ f. Leads links root f.path f.target) found list moved
         (λ k d within. leads_among sorted links (λ link among. Contains-permutation sorted links link (IsPermutation-sym links sorted same) among) root (get_or found k d).target (get_or found k d).path (reaches.leads k d within));
@@ -69,7 +50,7 @@ module _ (links sorted : List Link) (root : NodeId) (same : IsPermutation links 
         let has = reaches.whole path to (leads_among links sorted (λ link among. Contains-permutation links sorted link same among) root to path leads) in
         (has.0, Contains-permutation found list has.0 moved has.1, has.2, has.3);
     once = λ path.
-        let count = sum_by-IsPermutation (λ (f : Found). cond (is_same_path f.path path) 1 0) found list moved in
+        let count = sum_by-IsPermutation (λ (f : PathFound). cond (is_same_path f.path path) 1 0) found list moved in
         let few = reaches.once path in
         omega (arith, count, few);
   }
@@ -114,7 +95,7 @@ position_map : {X Y : Type 0} (p : Y → Bool) (f : X → Y) (xs : List X) → p
 position_map p f [] = refl
 position_map p f (x ∷ xs) = ap (λ (n : ℕ). cond (not (p (f x))) (1 + n) 0) (position_map p f xs)
 
-pub listed : (links : List Link) (root : NodeId) (found : List Found) → Reaches links root found → IsSortedBy (λ f g. is_lt (path_cmp f.path g.path)) found → ArePaths links root (map (numbered found) found)
+pub listed : (links : List NodeLink) (root : NodeId) (found : List PathFound) → Reaches links root found → IsSortedBy (λ f g. is_lt (path_cmp f.path g.path)) found → ArePaths links root (map (numbered found) found)
 listed links root found reaches sorted = record {
   ascends = ascends;
   leads = λ p among. All-contains (λ (q : PathTo). Leads links root q.path q.target) list p (All-map (λ (q : PathTo). Leads links root q.path q.target) (numbered found) found reaches.leads) among;
@@ -128,16 +109,16 @@ listed links root found reaches sorted = record {
     list : List PathTo
     list = map (numbered found) found
 
-    twice : (k : ℕ) (any : Found) → k + 1 < length found → is_same_path (get_or found k any).path (get_or found (k + 1) any).path ≡ true → ⊥
+    twice : (k : ℕ) (any : PathFound) → k + 1 < length found → is_same_path (get_or found k any).path (get_or found (k + 1) any).path ≡ true → ⊥
     twice k any within same =
         let path = (get_or found (k + 1) any).path in
-        let two = count_twice (λ (f : Found). is_same_path f.path path) found k (k + 1) any (omega arith) within same (path_equal path path (tied_itself path_total path)) in
+        let two = count_twice (λ (f : PathFound). is_same_path f.path path) found k (k + 1) any (omega arith) within same (path_equal path path (tied_itself path_total path)) in
         let one = reaches.once path in
         omega (arith, two, one)
 
     ascends : AllAdjacentBelow (λ (a b : PathTo). path_cmp a.path b.path ≡ Less) list (length list)
     ascends k d within =
-        let any : Found = record { path = []; target = root } in
+        let any : PathFound = record { path = []; target = root } in
         let long = length-map found (numbered found) in
         let lower : k < length found = omega arith in
         let upper : k + 1 < length found = omega arith in

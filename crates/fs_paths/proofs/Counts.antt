@@ -1,7 +1,5 @@
 -- Counts over lists.
-use Rattle.std.proofs.Common.{◌≡◌, ℕ, zero, suc, ◌+◌, ◌<◌, ◌≤◌, Bool, true, false, cond, ◌&&◌, List, [], ◌∷◌, ◌++◌, map, length, get_or, filter, flat_map, sum_by, count_by, Contains, AllPairs, refl, sym, ap, ◌∙◌, arith}
-use Rattle.std.proofs.lemmas.List.Sums.{sum_by-cons, sum_by-append, get_or-le-sum_by}
-use Rattle.std.proofs.lemmas.List.Elements.{Contains-append_right}
+use Rattle.fs_paths.proofs.Imports.{◌≡◌, ℕ, zero, suc, ◌+◌, ◌<◌, ◌≤◌, Bool, true, false, cond, ◌&&◌, List, [], ◌∷◌, ◌++◌, map, length, get_or, filter, flat_map, sum_by, count_by, Contains, AllPairs, refl, sym, ap, ◌∙◌, arith, sum_by-cons, sum_by-append, get_or-le-sum_by, Contains-append_right}
 
 pub and_true : (a : Bool) → (a && true) ≡ a
 and_true true = refl

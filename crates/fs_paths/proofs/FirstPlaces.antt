@@ -1,19 +1,6 @@
 -- The places in the list of the paths of a tree.
-use Rattle.std.proofs.Common.{◌≡◌, ℕ, ◌+◌, ◌<◌, ◌≤◌, Bool, true, false, cond, List, [], ◌∷◌, map, length, get_or, count_by, Contains, Ordering, Less, Equal, Greater, ⊎_elim, refl, sym, ap, subst, ◌∙◌, true≢false, nat_eq, eq-eqb, arith}
-use Rattle.std.specs.List.{position_or_len}
-use Rattle.std.specs.Ordering.{is_le, ordering_reverse}
-use Rattle.std.specs.Cmp.Lexicographic.{pointwise}
-use Rattle.std.proofs.lemmas.Bool.{and_from, cases_lt}
-use Rattle.std.proofs.lemmas.Cmp.{tied_itself}
-use Rattle.std.proofs.lemmas.List.{get_or-map, length-map, get_or_default}
-use Rattle.std.proofs.lemmas.List.Sums.{fails_before_first, passes_at_first}
-use Rattle.std.proofs.lemmas.Map.Keys.{Less-from_sorted}
-use Rattle.fs_rows.specs.Rows.{NameList, path_cmp, is_same_path}
-use Rattle.fs_paths.specs.declared.link.Link.{Link}
-use Rattle.fs_paths.specs.declared.link.PathTo.{PathTo}
-use Rattle.fs_paths.specs.declared.node.NodeId.{NodeId}
-use Rattle.fs_paths.specs.Links.{same_node}
-use Rattle.fs_paths.specs.Paths.{ArePaths, first_path, leads_to}
+use Rattle.fs_paths.proofs.Imports.{◌≡◌, ℕ, ◌+◌, ◌<◌, ◌≤◌, Bool, true, false, cond, List, [], ◌∷◌, map, length, get_or, count_by, Contains, Ordering, Less, Equal, Greater, ⊎_elim, refl, sym, ap, subst, ◌∙◌, true≢false, nat_eq, eq-eqb, arith, position_or_len, ordering_reverse, pointwise, and_from, cases_lt, tied_itself, get_or-map, length-map, get_or_default, fails_before_first, passes_at_first, Less-from_sorted, NameList, path_cmp, is_same_path, NodeLink, PathTo, NodeId, same_node, ArePaths, first_path, leads_to}
+use Rattle.std.specs.Ordering.{is_le}
 use Rattle.fs_paths.proofs.Arranging.{path_total, path_equal}
 use Rattle.fs_paths.proofs.Counts.{count_cons}
 use Rattle.fs_paths.proofs.Lists.{in_tail}
@@ -60,7 +47,7 @@ neither_above p q one other = by (path_cmp p q) (path_cmp q p) refl refl (path_t
     by Less Greater is also turned low high = absurd (true≢false (sym high))
     by Greater r is also turned low high = absurd (true≢false (sym low))
 
-module _ (links : List Link) (root : NodeId) (list : List PathTo) (are : ArePaths links root list) where
+module _ (links : List NodeLink) (root : NodeId) (list : List PathTo) (are : ArePaths links root list) where
   -- the place of the first path to an object is in the list, and the path there leads to the object
   pub first_within : (p : PathTo) → Contains list p → p.least < length list
   first_within p among = subst (λ (n : ℕ). n < length list) (sym (are.least p among)) (is_first_none (leads_to p.target) list p among (same_node-self p.target))

@@ -1,12 +1,5 @@
 -- What is equal to something sought stands together in a list that ascends.
-use Rattle.std.proofs.Common.{◌≡◌, ℕ, ◌+◌, ◌-◌, ◌<◌, ◌≤◌, Bool, true, false, cond, List, [], ◌∷◌, ◌++◌, length, get_or, take, drop, filter, All, Ordering, Less, Equal, Greater, is_lt, is_le, is_eq, refl, sym, ap, ◌∙◌, ⊎_elim, true≢false, leb, ltb, get_or-take, get_or-drop, arith}
-use Rattle.std.specs.List.{AllWithin}
-use Rattle.std.specs.List.Sorted.{IsPartitionedBy, IsPartitionPoint, IsNonDecreasingBy}
-use Rattle.std.specs.Ordering.{ordering_index}
-use Rattle.std.proofs.lemmas.Bool.{cases_lt}
-use Rattle.std.proofs.lemmas.List.{take-append-drop, length-take, length-drop, append-nil}
-use Rattle.std.proofs.lemmas.List.Elements.{All-head, All-tail, filter-append}
-use Rattle.std.proofs.lemmas.List.Sorted.{IsPartitionedBy-leb, IsPartitionedBy-ltb}
+use Rattle.fs_paths.proofs.Imports.{◌≡◌, ℕ, ◌+◌, ◌-◌, ◌<◌, ◌≤◌, Bool, true, false, cond, List, [], ◌∷◌, ◌++◌, length, get_or, take, drop, filter, All, Ordering, Less, Equal, Greater, is_lt, is_le, is_eq, refl, sym, ap, ◌∙◌, ⊎_elim, true≢false, leb, ltb, get_or-take, get_or-drop, arith, AllWithin, IsPartitionedBy, IsPartitionPoint, IsNonDecreasingBy, ordering_index, cases_lt, take-append-drop, length-take, length-drop, append-nil, All-head, All-tail, filter-append, IsPartitionedBy-leb, IsPartitionedBy-ltb}
 
 lt_index : (o : Ordering) → ltb (ordering_index o) 1 ≡ is_lt o
 lt_index Less = refl

@@ -1,10 +1,5 @@
 -- Tests of objects, names and paths.
-use Rattle.std.proofs.Common.{◌≡◌, ℕ, ◌==◌, Bool, true, false, ◌&&◌, nat_eq, List, [], ◌∷◌, ◌++◌, refl, sym, ap, ◌∙◌, true≢false, arith}
-use Rattle.std.specs.Cmp.Lexicographic.{pointwise}
-use Rattle.std.proofs.lemmas.Bool.{eqb-true, and_parts}
-use Rattle.std.proofs.lemmas.Bool.Decides.{nat_tests}
-use Rattle.fs_paths.specs.declared.node.NodeId.{NodeId}
-use Rattle.fs_paths.specs.Links.{same_node}
+use Rattle.fs_paths.proofs.Imports.{◌≡◌, ℕ, ◌==◌, Bool, true, false, ◌&&◌, nat_eq, List, [], ◌∷◌, ◌++◌, refl, sym, ap, ◌∙◌, true≢false, arith, pointwise, eqb-true, and_parts, nat_tests, NodeId, same_node}
 use Rattle.fs_paths.proofs.Counts.{and_true, and_false}
 
 pub same_node-true : (a b : NodeId) → same_node a b ≡ true → a ≡ b

@@ -1,14 +1,6 @@
 -- Lists that ascend are one list where they have the same members; so are lists of rows with the same paths.
-use Rattle.std.proofs.Common.{◌≡◌, ℕ, ◌+◌, ◌<◌, List, [], ◌∷◌, map, length, get_or, count_by, Contains, Ordering, Less, Equal, ⊎_elim, refl, sym, ap, subst, ◌∙◌, arith}
-use Rattle.std.specs.Cmp.{IsTotalOrder}
-use Rattle.std.specs.List.{AllAdjacentBelow}
-use Rattle.std.specs.List.Sorted.{IsStrictlySortedBy}
-use Rattle.std.proofs.lemmas.Cmp.{tied_itself}
-use Rattle.std.proofs.lemmas.List.{get_or-map, length-map}
-use Rattle.std.proofs.lemmas.List.Elements.{All-contains}
-use Rattle.std.proofs.lemmas.Map.Keys.{sorted_from_all_adjacent, sorted_tail}
+use Rattle.fs_paths.proofs.Imports.{◌≡◌, ℕ, ◌+◌, ◌<◌, List, [], ◌∷◌, map, length, get_or, count_by, Contains, Ordering, Less, Equal, ⊎_elim, refl, sym, ap, subst, ◌∙◌, arith, IsTotalOrder, AllAdjacentBelow, IsStrictlySortedBy, tied_itself, get_or-map, length-map, All-contains, sorted_from_all_adjacent, sorted_tail, NameList, WholeRow, AscendsByPath, path_cmp, is_same_path, name_count}
 use Rattle.std.proofs.lemmas.Map.Views.{All-after_first}
-use Rattle.fs_rows.specs.Rows.{NameList, WholeRow, AscendsByPath, path_cmp, is_same_path, name_count}
 use Rattle.fs_paths.proofs.Arranging.{path_total}
 use Rattle.fs_paths.proofs.Counts.{count_map}
 use Rattle.fs_paths.proofs.Lists.{at_head, in_tail, head_or_tail, in_map, from_map}

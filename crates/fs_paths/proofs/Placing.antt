@@ -1,19 +1,9 @@
 -- The places of objects, with one more path.
-use Rattle.std.proofs.Common.{◌≡◌, ℕ, ◌+◌, ◌<◌, Bool, true, false, cond, List, [], ◌∷◌, ◌++◌, length, get_or, count_by, Contains, Option, Some, None, IsSome, IfSome, refl, sym, ap, subst, ◌∙◌, ne_eqb, eq-eqb, arith}
-use Rattle.std.specs.List.{position_or_len}
-use Rattle.std.proofs.lemmas.List.Sums.{sum_by_push, count_by-le-length, get_or-le-sum_by}
-use Rattle.std.proofs.lemmas.List.{length_push}
-use Rattle.std.proofs.lemmas.List.Folds.{position_or_len_push}
+use Rattle.fs_paths.proofs.Imports.{◌≡◌, ℕ, ◌+◌, ◌<◌, Bool, true, false, cond, List, [], ◌∷◌, ◌++◌, length, get_or, count_by, Contains, Option, Some, None, IsSome, IfSome, refl, sym, ap, subst, ◌∙◌, ne_eqb, eq-eqb, arith, position_or_len, sum_by_push, count_by-le-length, get_or-le-sum_by, length_push, position_or_len_push, IndexMap, get, Updates, PathFound, NodeId, FirstPath, same_node, finds, numbered, IsFirstPath, HasFirstPaths, with_one_more}
 use Rattle.std.specs.Map.{lookup}
-use Rattle.indexmap.specs.IndexMap.{IndexMap, get, Updates}
-use Rattle.fs_paths.specs.declared.found.Found.{Found}
-use Rattle.fs_paths.specs.declared.node.NodeId.{NodeId}
-use Rattle.fs_paths.specs.declared.place.Place.{Place}
-use Rattle.fs_paths.specs.Links.{same_node}
-use Rattle.fs_paths.specs.Places.{finds, numbered, IsPlace, HasPlaces, with_one_more}
 use Rattle.fs_paths.proofs.Nodes.{same_node-true, same_node-self}
 
-module _ (all : List Found) (f : Found) (node : NodeId) where
+module _ (all : List PathFound) (f : PathFound) (node : NodeId) where
   long : length (all ++ f ∷ []) ≡ length all + 1
   long = length_push all f
 
@@ -33,7 +23,7 @@ module _ (all : List Found) (f : Found) (node : NodeId) where
       ∙ ap (λ (c : Bool). length all + cond c 0 1) is)
 
   -- one more path to the object
-  place_more : (o : Option Place) → IsPlace all node o → finds node f ≡ true → IsPlace (all ++ f ∷ []) node (Some (with_one_more o (length all)))
+  place_more : (o : Option FirstPath) → IsFirstPath all node o → finds node f ≡ true → IsFirstPath (all ++ f ∷ []) node (Some (with_one_more o (length all)))
   place_more None is own =
       let place = place_end true own is.0 in
       let count = counted true own in
@@ -44,7 +34,7 @@ module _ (all : List Found) (f : Found) (node : NodeId) where
       (omega (arith, stays, long, is.0), is.1 ∙ sym stays, omega (arith, count, is.2))
 
   -- a path to another one
-  place_kept : (o : Option Place) → IsPlace all node o → finds node f ≡ false → IsPlace (all ++ f ∷ []) node o
+  place_kept : (o : Option FirstPath) → IsFirstPath all node o → finds node f ≡ false → IsFirstPath (all ++ f ∷ []) node o
   place_kept None is other =
       let place = place_end false other is.0 in
       let count = counted false other in
@@ -55,41 +45,41 @@ module _ (all : List Found) (f : Found) (node : NodeId) where
       (omega (arith, stays, long, is.0), is.1 ∙ sym stays, omega (arith, count, is.2))
 
 -- the map with one more path
-pub placed : {S : Type 0} (old new : IndexMap NodeId Place S) (all : List Found) (f : Found) (place : Place) → HasPlaces old all → Updates same_node old new f.target (Some place)
-    → place ≡ with_one_more (get same_node old f.target) (length all) → HasPlaces new (all ++ f ∷ [])
+pub placed : {S : Type 0} (old new : IndexMap NodeId FirstPath S) (all : List PathFound) (f : PathFound) (place : FirstPath) → HasFirstPaths old all → Updates same_node old new f.target (Some place)
+    → place ≡ with_one_more (get same_node old f.target) (length all) → HasFirstPaths new (all ++ f ∷ [])
 placed {S} old new all f place has updates is = record { each = λ node. by node (same_node f.target node) refl }
   where
-    by : (node : NodeId) (b : Bool) → same_node f.target node ≡ b → IsPlace (all ++ f ∷ []) node (get same_node new node)
+    by : (node : NodeId) (b : Bool) → same_node f.target node ≡ b → IsFirstPath (all ++ f ∷ []) node (get same_node new node)
     by node true own =
         let same = same_node-true f.target node own in
         let now = updates.0 node ∙ (ap (λ (b : Bool). cond b (Some place) (get same_node old node)) own ∙ ap Some (is ∙ ap (λ (n : NodeId). with_one_more (get same_node old n) (length all)) same)) in
-        subst (λ (o : Option Place). IsPlace (all ++ f ∷ []) node o) (sym now) (place_more all f node (get same_node old node) (has.each node) own)
+        subst (λ (o : Option FirstPath). IsFirstPath (all ++ f ∷ []) node o) (sym now) (place_more all f node (get same_node old node) (has.each node) own)
     by node false other =
         let now = updates.0 node ∙ ap (λ (b : Bool). cond b (Some place) (get same_node old node)) other in
-        subst (λ (o : Option Place). IsPlace (all ++ f ∷ []) node o) (sym now) (place_kept all f node (get same_node old node) (has.each node) other)
+        subst (λ (o : Option FirstPath). IsFirstPath (all ++ f ∷ []) node o) (sym now) (place_kept all f node (get same_node old node) (has.each node) other)
 
 -- no place before the first path
-pub no_places : {S : Type 0} (places : IndexMap NodeId Place S) → places.entries ≡ [] → HasPlaces places []
-no_places places empty = record { each = λ node. subst (λ (o : Option Place). IsPlace [] node o) (sym (ap (λ (es : List (NodeId × Place)). lookup (same_node node) es) empty)) (refl, refl) }
+pub no_places : {S : Type 0} (places : IndexMap NodeId FirstPath S) → places.entries ≡ [] → HasFirstPaths places []
+no_places places empty = record { each = λ node. subst (λ (o : Option FirstPath). IsFirstPath [] node o) (sym (ap (λ (es : List (NodeId × FirstPath)). lookup (same_node node) es) empty)) (refl, refl) }
 
 -- no more paths to it than there are
-pub few_names : (all : List Found) (node : NodeId) (bound : ℕ) (o : Option Place) → IsPlace all node o → length all < bound → IfSome o (λ p. p.names < bound)
+pub few_names : (all : List PathFound) (node : NodeId) (bound : ℕ) (o : Option FirstPath) → IsFirstPath all node o → length all < bound → IfSome o (λ p. p.names < bound)
 few_names all node bound None is less = tt
 few_names all node bound (Some place) is less = let few = count_by-le-length (finds node) all in omega (arith, few, is.2, less)
 
 -- an object that a path leads to has its place
-pub has_place : {S : Type 0} (places : IndexMap NodeId Place S) (all : List Found) (f : Found) → HasPlaces places all → Contains all f → IsSome (get same_node places f.target)
+pub has_place : {S : Type 0} (places : IndexMap NodeId FirstPath S) (all : List PathFound) (f : PathFound) → HasFirstPaths places all → Contains all f → IsSome (get same_node places f.target)
 has_place {S} places all f has among = by (get same_node places f.target) (has.each f.target)
   where
-    by : (o : Option Place) → IsPlace all f.target o → IsSome o
+    by : (o : Option FirstPath) → IsFirstPath all f.target o → IsSome o
     by None is =
         let part = get_or-le-sum_by (λ g. cond (finds f.target g) 1 0) all among.0 f among.1 in
-        let own : ◌≡◌ {A = ℕ} (cond (finds f.target (get_or all among.0 f)) 1 0) 1 = ap (λ (g : Found). cond (finds f.target g) 1 0) among.2 ∙ ap (λ (b : Bool). cond b 1 0) (same_node-self f.target) in
+        let own : ◌≡◌ {A = ℕ} (cond (finds f.target (get_or all among.0 f)) 1 0) 1 = ap (λ (g : PathFound). cond (finds f.target g) 1 0) among.2 ∙ ap (λ (b : Bool). cond b 1 0) (same_node-self f.target) in
         absurd (omega (arith, part, own, is.1))
     by (Some place) is = refl
 
-pub numbered_is : {S : Type 0} (places : IndexMap NodeId Place S) (all : List Found) (f : Found) (place : Place) → HasPlaces places all → get same_node places f.target ≡ Some place
+pub numbered_is : {S : Type 0} (places : IndexMap NodeId FirstPath S) (all : List PathFound) (f : PathFound) (place : FirstPath) → HasFirstPaths places all → get same_node places f.target ≡ Some place
     → record { path = f.path; target = f.target; least = place.first; names = place.names } ≡ numbered all f
 numbered_is places all f place has at =
-    let is = subst (λ (o : Option Place). IsPlace all f.target o) at (has.each f.target) in
+    let is = subst (λ (o : Option FirstPath). IsFirstPath all f.target o) at (has.each f.target) in
     λ j. record { path = f.path; target = f.target; least = is.1 j; names = is.2 j }

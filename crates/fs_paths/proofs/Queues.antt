@@ -1,20 +1,7 @@
 -- The queue of the objects that are reached: all in it are reached, and in the end it is closed under links.
-use Rattle.std.proofs.Common.{◌≡◌, ℕ, zero, suc, ◌+◌, ◌<◌, ◌≤◌, Bool, true, false, not, cond, ◌||◌, List, [], ◌∷◌, ◌++◌, length, get_or, filter, count_by, Contains, All, ⊎_elim, refl, sym, ap, subst, ◌∙◌, true≢false, arith}
-use Rattle.std.specs.List.{list_any}
+use Rattle.fs_paths.proofs.Imports.{◌≡◌, ℕ, zero, suc, ◌+◌, ◌<◌, ◌≤◌, Bool, true, false, not, cond, ◌||◌, List, [], ◌∷◌, ◌++◌, length, get_or, filter, count_by, Contains, All, ⊎_elim, refl, sym, ap, subst, ◌∙◌, true≢false, arith, list_any, cases_lt, append-nil, append_assoc, length-append, All-cons, All-nil, All-push, All-map, All-filter, All-contains_itself, filter_passes, list_any-append, Any-from_list_any, IsPermutation-sym, Contains-permutation, insert_key, insert_all, NodeLink, NodeId, same_node, named_by, followed, waiting, IsReachedBy, IsReached, AreReached, is_of}
 use Rattle.std.proofs.Math.ListN.{get_or-append}
-use Rattle.std.proofs.lemmas.Bool.{cases_lt}
-use Rattle.std.proofs.lemmas.List.{append-nil, append_assoc, length-append}
-use Rattle.std.proofs.lemmas.List.Elements.{All-cons, All-nil, All-push, All-map, All-filter, All-contains_itself, filter_passes}
-use Rattle.std.proofs.lemmas.List.Folds.{list_any-append, Any-from_list_any}
-use Rattle.std.proofs.lemmas.List.Sorted.{IsPermutation-sym, Contains-permutation}
 use Rattle.std.specs.Prelude.{IsPermutation}
-use Rattle.indexmap.specs.IndexSet.{insert_key, insert_all}
-use Rattle.fs_paths.specs.declared.link.Link.{Link}
-use Rattle.fs_paths.specs.declared.node.NodeId.{NodeId}
-use Rattle.fs_paths.specs.Links.{same_node}
-use Rattle.fs_paths.specs.Queue.{named_by, followed, waiting}
-use Rattle.fs_paths.specs.Reached.{IsReachedBy, IsReached, AreReached}
-use Rattle.fs_paths.specs.Spread.{is_of}
 use Rattle.fs_paths.proofs.Counts.{count_cons}
 use Rattle.fs_paths.proofs.Lists.{head_or_tail, in_map, in_filter}
 use Rattle.fs_paths.proofs.Nodes.{same_node-true, same_node-self}
@@ -108,9 +95,9 @@ not_true true true h is = is
 not_true true false h is = absurd (true≢false (sym (h refl)))
 not_true false b h is = refl
 
-module _ (links : List Link) where
+module _ (links : List NodeLink) where
   -- each that is new waits no longer
-  one_fewer : (queue : List NodeId) (link : Link) → Contains links link → waiting links (inserted queue link.target) + length (inserted queue link.target) ≤ waiting links queue + length queue
+  one_fewer : (queue : List NodeId) (link : NodeLink) → Contains links link → waiting links (inserted queue link.target) + length (inserted queue link.target) ≤ waiting links queue + length queue
   one_fewer queue link among = by (in_queue queue link.target) refl
     where
       by : (b : Bool) → in_queue queue link.target ≡ b
@@ -120,12 +107,12 @@ module _ (links : List Link) where
           let there : List NodeId = queue ++ link.target ∷ [] in
           let long = length-append queue (link.target ∷ []) in
           let has : in_queue there link.target ≡ true = ap (λ (b : Bool). in_queue (cond b queue there) link.target) (sym is) ∙ inserted_in queue link.target in
-          let falls = count_falls (λ (l : Link). not (in_queue queue l.target)) (λ (l : Link). not (in_queue there l.target))
+          let falls = count_falls (λ (l : NodeLink). not (in_queue queue l.target)) (λ (l : NodeLink). not (in_queue there l.target))
           (λ l. not_true (in_queue queue l.target) (in_queue there l.target) (λ was. list_any-append (same_node l.target) queue (link.target ∷ []) ∙ or_kept (in_queue queue l.target) (in_queue (link.target ∷ []) l.target) was))
           links link among (ap not is) (ap not has) in
           omega (arith, long, falls)
 
-  all_fewer : (queue more : List NodeId) → All (λ n. (link : Link) × Contains links link × (link.target ≡ n)) more → waiting links (all_inserted queue more) + length (all_inserted queue more) ≤ waiting links queue + length queue
+  all_fewer : (queue more : List NodeId) → All (λ n. (link : NodeLink) × Contains links link × (link.target ≡ n)) more → waiting links (all_inserted queue more) + length (all_inserted queue more) ≤ waiting links queue + length queue
   all_fewer queue [] named = omega arith
   all_fewer queue (node ∷ more) named =
       let own = named 0 node (omega arith) in
@@ -134,21 +121,21 @@ module _ (links : List Link) where
       omega (arith, one, rest)
 
   -- what a directory's links name
-  named_all : (P : NodeId → Type 0) (dir : NodeId) → ((link : Link) → Contains links link → link.dir ≡ dir → P link.target) → All P (named_by links dir)
-  named_all P dir each = All-map P (λ (link : Link). link.target) (filter (is_of dir) links) (λ k d within.
+  named_all : (P : NodeId → Type 0) (dir : NodeId) → ((link : NodeLink) → Contains links link → link.dir ≡ dir → P link.target) → All P (named_by links dir)
+  named_all P dir each = All-map P (λ (link : NodeLink). link.target) (filter (is_of dir) links) (λ k d within.
       let link = get_or (filter (is_of dir) links) k d in
       let among = All-filter (is_of dir) (Contains links) links (All-contains_itself links) k d within in
       each link among (sym (same_node-true dir link.dir (filter_passes (is_of dir) links k d within))))
 
   pub follow_fewer : (queue : List NodeId) (dir : NodeId) → waiting links (followed links queue dir) + length (followed links queue dir) ≤ waiting links queue + length queue
-  follow_fewer queue dir = all_fewer queue (named_by links dir) (named_all (λ n. (link : Link) × Contains links link × (link.target ≡ n)) dir (λ link among of. (link, among, refl)))
+  follow_fewer queue dir = all_fewer queue (named_by links dir) (named_all (λ n. (link : NodeLink) × Contains links link × (link.target ≡ n)) dir (λ link among of. (link, among, refl)))
 
 -- the queue after its first objects were followed
-pub data Queue (links : List Link) (root : NodeId) : List NodeId → ℕ → Type 0 where
+pub data Queue (links : List NodeLink) (root : NodeId) : List NodeId → ℕ → Type 0 where
   start : Queue links root (root ∷ []) 0
   step : (queue : List NodeId) (i : ℕ) (dir : NodeId) → Queue links root queue i → i < length queue → get_or queue i dir ≡ dir → Queue links root (followed links queue dir) (i + 1)
 
-module _ (links : List Link) (root : NodeId) where
+module _ (links : List NodeLink) (root : NodeId) where
   sound : (queue : List NodeId) (i : ℕ) → Queue links root queue i → All (IsReached links root) queue
   sound _ _ start = All-cons (IsReached links root) root [] (0, refl) (All-nil (IsReached links root))
   sound _ _ (step queue i dir before within at) =
@@ -168,7 +155,7 @@ module _ (links : List Link) (root : NodeId) where
   root_in _ _ start = ap (λ (b : Bool). b || false) (same_node-self root)
   root_in _ _ (step queue i dir before within at) = kept queue (named_by links dir) root (root_in queue i before)
 
-  closed : (queue : List NodeId) (i : ℕ) → Queue links root queue i → (k : ℕ) (d : NodeId) → k < i → (link : Link) → Contains links link → link.dir ≡ get_or queue k d → in_queue queue link.target ≡ true
+  closed : (queue : List NodeId) (i : ℕ) → Queue links root queue i → (k : ℕ) (d : NodeId) → k < i → (link : NodeLink) → Contains links link → link.dir ≡ get_or queue k d → in_queue queue link.target ≡ true
   closed _ _ start k d less link among of = absurd (omega (arith, less))
   closed _ _ (step queue i dir before within at) k d less link among of = ⊎_elim (λ before_i. earlier (closed queue i before k d before_i link among) before_i) (λ not_less. own (omega (arith, less, not_less))) (cases_lt k i)
     where
@@ -185,7 +172,7 @@ module _ (links : List Link) (root : NodeId) where
       own is =
           let here : get_or queue k d ≡ dir = ap (λ (n : ℕ). get_or queue n d) is ∙ (get_same queue i d dir within ∙ at) in
           let of_dir : link.dir ≡ dir = of ∙ (same (omega (arith, is, within)) ∙ here) in
-          all_in queue (named_by links dir) link.target (in_map (λ (l : Link). l.target) (filter (is_of dir) links) link (in_filter (is_of dir) links link among (ap (same_node dir) of_dir ∙ same_node-self dir)))
+          all_in queue (named_by links dir) link.target (in_map (λ (l : NodeLink). l.target) (filter (is_of dir) links) link (in_filter (is_of dir) links link among (ap (same_node dir) of_dir ∙ same_node-self dir)))
         where
           get_same : (xs : List NodeId) (n : ℕ) (a b : NodeId) → n < length xs → get_or xs n a ≡ get_or xs n b
           get_same [] n a b less = absurd (omega (arith, less))
@@ -209,11 +196,11 @@ module _ (links : List Link) (root : NodeId) where
   }
 
 -- links in another order reach the same
-reached_among : (xs ys : List Link) → ((link : Link) → Contains xs link → Contains ys link) → (root : NodeId) (steps : ℕ) (node : NodeId) → IsReachedBy xs root steps node → IsReachedBy ys root steps node
+reached_among : (xs ys : List NodeLink) → ((link : NodeLink) → Contains xs link → Contains ys link) → (root : NodeId) (steps : ℕ) (node : NodeId) → IsReachedBy xs root steps node → IsReachedBy ys root steps node
 reached_among xs ys all root zero node is = is
 reached_among xs ys all root (suc steps) node (link, among, names, before) = (link, all link among, names, reached_among xs ys all root steps link.dir before)
 
-pub reached_sorted : (links sorted : List Link) (root : NodeId) (has : NodeId → Bool) → IsPermutation links sorted → AreReached sorted root has → AreReached links root has
+pub reached_sorted : (links sorted : List NodeLink) (root : NodeId) (has : NodeId → Bool) → IsPermutation links sorted → AreReached sorted root has → AreReached links root has
 reached_sorted links sorted root has same reached = record {
   sound = λ node is.
       let r = reached.sound node is in

@@ -3,10 +3,10 @@ ghost use Rattle.std.specs.List.Sorted.{IsPartitionPoint};
 ghost use Rattle.std.specs.Ordering.{is_lt, is_le};
 ghost use Rattle.fs_paths.specs.Spread.{AscendByDirectory, is_of, node_cmp};
 
-use crate::{Link, NodeId};
+use crate::{NodeId, NodeLink};
 
 /// The links of a directory, out of links that ascend by their directory.
-pub fn links_of<'a>(links: &'a [Link], dir: NodeId) -> &'a [Link]
+pub fn links_of<'a>(links: &'a [NodeLink], dir: NodeId) -> &'a [NodeLink]
     requires { AscendByDirectory links.now }
     ensures { result.now ≡ filter (is_of dir) links.now }
 {
@@ -15,7 +15,7 @@ pub fn links_of<'a>(links: &'a [Link], dir: NodeId) -> &'a [Link]
 }
 
 /// Where the links of a directory begin and end.
-fn bounds_of(links: &[Link], dir: NodeId) -> (usize, usize)
+fn bounds_of(links: &[NodeLink], dir: NodeId) -> (usize, usize)
     requires { AscendByDirectory links.now }
     ensures ordered { result.0 ≤ result.1 }
     ensures within { result.1 ≤ length links.now }
@@ -25,7 +25,7 @@ fn bounds_of(links: &[Link], dir: NodeId) -> (usize, usize)
 }
 
 /// The place of the first link of a directory, or where it would stand.
-fn first_of(links: &[Link], dir: NodeId) -> usize
+fn first_of(links: &[NodeLink], dir: NodeId) -> usize
     requires { AscendByDirectory links.now }
     ensures within { result ≤ length links.now }
     ensures parts { IsPartitionPoint (λ link. is_lt (node_cmp link.dir dir) ≡ true) (λ link. is_lt (node_cmp link.dir dir) ≡ false) links.now result }
@@ -34,7 +34,7 @@ fn first_of(links: &[Link], dir: NodeId) -> usize
 }
 
 /// The place behind the last link of a directory.
-fn end_of(links: &[Link], dir: NodeId) -> usize
+fn end_of(links: &[NodeLink], dir: NodeId) -> usize
     requires { AscendByDirectory links.now }
     ensures within { result ≤ length links.now }
     ensures parts { IsPartitionPoint (λ link. is_le (node_cmp link.dir dir) ≡ true) (λ link. is_le (node_cmp link.dir dir) ≡ false) links.now result }

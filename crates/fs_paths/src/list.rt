@@ -2,10 +2,10 @@ ghost use Rattle.std.specs.Prelude.{IfOk};
 ghost use Rattle.fs_paths.specs.Links.{AreNamedOnce};
 ghost use Rattle.fs_paths.specs.Paths.{ArePaths};
 
-use crate::found::compare;
-use crate::place::number;
+use crate::first_path::number;
+use crate::path_found::compare;
 use crate::spread::spread;
-use crate::{Link, NodeId, PathTo};
+use crate::{NodeId, NodeLink, PathTo};
 use fs_rows::Memory;
 use std::alloc::Global;
 
@@ -14,7 +14,7 @@ use std::alloc::Global;
 ///
 /// Of links that name the root, a directory twice, or one name twice in a directory, the list may be any. The time grows
 /// with the number of paths and the names in them. Without memory there is no list.
-pub fn paths(alloc: Global, links: Vec<Link>, root: NodeId) -> Result<Vec<PathTo>, Memory>
+pub fn paths(alloc: Global, links: Vec<NodeLink>, root: NodeId) -> Result<Vec<PathTo>, Memory>
     ensures { IfOk result (λ list. AreNamedOnce links.items root → ArePaths links.items root list.items) }
 {
     let mut links = links;

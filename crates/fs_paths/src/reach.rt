@@ -6,7 +6,7 @@ ghost use Rattle.fs_paths.specs.Reached.{AreReached};
 ghost use Rattle.fs_paths.specs.Spread.{AscendByDirectory};
 
 use crate::entries::links_of;
-use crate::{Link, NodeId};
+use crate::{NodeId, NodeLink};
 use fs_rows::Memory;
 use indexmap::IndexSet;
 use std::alloc::Global;
@@ -15,7 +15,11 @@ use std::alloc::Global;
 ///
 /// The links may be any: they may form circles, or name an object several times. Names are not looked at. The time is that
 /// of sorting the links, and a search among them for each object that is reached.
-pub fn reached(alloc: Global, links: Vec<Link>, root: NodeId) -> Result<IndexSet<NodeId>, Memory>
+pub fn reached(
+    alloc: Global,
+    links: Vec<NodeLink>,
+    root: NodeId,
+) -> Result<IndexSet<NodeId>, Memory>
     ensures { IfOk result (λ set. AreReached links.items root (contains same_node set)) }
 {
     let mut links = links;
@@ -24,7 +28,7 @@ pub fn reached(alloc: Global, links: Vec<Link>, root: NodeId) -> Result<IndexSet
 }
 
 /// The same over links that ascend by their directory.
-fn reach_sorted(alloc: Global, links: &[Link], root: NodeId) -> Result<IndexSet<NodeId>, Memory>
+fn reach_sorted(alloc: Global, links: &[NodeLink], root: NodeId) -> Result<IndexSet<NodeId>, Memory>
     requires { AscendByDirectory links.now }
     ensures { IfOk result (λ set. AreReached links.now root (contains same_node set)) }
 {
@@ -40,7 +44,7 @@ fn reach_sorted(alloc: Global, links: &[Link], root: NodeId) -> Result<IndexSet<
 }
 
 /// Adds what the links of a directory name.
-fn follow(links: &[Link], queue: &mut IndexSet<NodeId>, dir: NodeId) -> Result<(), Memory>
+fn follow(links: &[NodeLink], queue: &mut IndexSet<NodeId>, dir: NodeId) -> Result<(), Memory>
     requires { AscendByDirectory links.now }
     ensures followed { OnOk result (queue.new.keys ≡ followed links.now queue.old.keys dir) }
     ensures fewer { OnOk result (waiting links.now queue.new.keys + length queue.new.keys ≤ waiting links.now queue.old.keys + length queue.old.keys) }

@@ -1,10 +1,10 @@
 ghost use Rattle.std.specs.Prelude.{◌≡◌, ◌<◌, ◌++◌, length, slice_index_or, IfOk, OnOk};
-ghost use Rattle.fs_paths.specs.declared.found.Found.{Found as FoundOf};
-ghost use Rattle.fs_paths.specs.Spread.{AscendByDirectory, IsTree, Reaches, children};
+ghost use Rattle.fs_paths.specs.declared.path_found.PathFound.{PathFound as PathFoundOf};
+ghost use Rattle.fs_paths.specs.Spread.{AscendByDirectory, FormTree, Reaches, children};
 
 use crate::entries::links_of;
-use crate::found::Found;
-use crate::{Link, NodeId};
+use crate::path_found::PathFound;
+use crate::{NodeId, NodeLink};
 use fs_rows::{Memory, Path};
 use std::alloc::Global;
 
@@ -12,12 +12,12 @@ use std::alloc::Global;
 ///
 /// In a tree each path but the root's has a link of its own. Where there are more paths, the links make no tree, and the
 /// list ends there.
-pub fn spread(alloc: Global, links: &[Link], root: NodeId) -> Result<Vec<Found>, Memory>
+pub fn spread(alloc: Global, links: &[NodeLink], root: NodeId) -> Result<Vec<PathFound>, Memory>
     requires { AscendByDirectory links.now }
-    ensures { IfOk result (λ found. IsTree links.now root → Reaches links.now root found.items) }
+    ensures { IfOk result (λ found. FormTree links.now root → Reaches links.now root found.items) }
 {
     let mut found = Vec::new(alloc);
-    found.push(Found {
+    found.push(PathFound {
         path: Path::new(alloc),
         target: root,
     })?;
@@ -30,15 +30,15 @@ pub fn spread(alloc: Global, links: &[Link], root: NodeId) -> Result<Vec<Found>,
 }
 
 /// Appends a path for each link of the directory that path number `i` leads to.
-fn follow(links: &[Link], found: &mut Vec<Found>, i: usize) -> Result<(), Memory>
+fn follow(links: &[NodeLink], found: &mut Vec<PathFound>, i: usize) -> Result<(), Memory>
     requires within { i < length found.old.items }
     requires ascend { AscendByDirectory links.now }
-    ensures { OnOk result ((d : FoundOf) → found.new.items ≡ found.old.items ++ children links.now (slice_index_or found.old.items i d)) }
+    ensures { OnOk result ((d : PathFoundOf) → found.new.items ≡ found.old.items ++ children links.now (slice_index_or found.old.items i d)) }
 {
     let dir = found[i].target;
     for link in links_of(links, dir) {
         let path = found[i].path.joined(&link.name)?;
-        found.push(Found {
+        found.push(PathFound {
             path,
             target: link.target,
         })?;

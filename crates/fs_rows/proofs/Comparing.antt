@@ -1,8 +1,5 @@
 -- Whether two lists are the same, element by element.
-use Rattle.std.proofs.Common.{◌≡◌, ℕ, ◌+◌, Bool, true, false, ◌&&◌, List, ◌∷◌, slice_get, Some, drop, sym, ap, ◌∙◌}
-use Rattle.std.specs.Cmp.Lexicographic.{pointwise}
-use Rattle.std.proofs.lemmas.List.{drop_more}
-use Rattle.std.proofs.lemmas.Option.{slice_get_within, get_or_from_slice_get}
+use Rattle.fs_rows.proofs.Imports.{◌≡◌, ℕ, ◌+◌, Bool, true, false, ◌&&◌, List, ◌∷◌, slice_get, Some, drop, sym, ap, ◌∙◌, pointwise, drop_more, slice_get_within, get_or_from_slice_get}
 
 module _ {X : Type 0} (E : X → X → Bool) where
   -- the next two elements

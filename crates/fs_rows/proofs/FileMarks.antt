@@ -1,12 +1,6 @@
 -- The mark of the bytes of a function.
-use Rattle.std.proofs.Common.{◌≡◌, ℕ, ◌+◌, ◌-◌, ◌*◌, ◌<◌, ◌≤◌, cond, ltb, List, [], ◌∷◌, ◌++◌, length, get_or, take, drop, map, replicate, refl, sym, ap, ◌∙◌, arith, inl, inr}
+use Rattle.fs_rows.proofs.Imports.{◌≡◌, ℕ, ◌+◌, ◌-◌, ◌*◌, ◌<◌, ◌≤◌, cond, ltb, List, [], ◌∷◌, ◌++◌, length, get_or, take, drop, map, replicate, refl, sym, ap, ◌∙◌, arith, inl, inr, range_with_len, cond-true, cond-false, lt-ltb, le-ltb, cases_lt, length-append, length-take, length-drop, length-replicate, get_or-replicate, get_or_append_left, get_or-append_right, get_or-take, get_or-drop, get_or_past, bytes_by, block_by, up_to, blocks_by, mark_of, block_of_bytes, blocks_of_bytes, mark_of_bytes}
 use Rattle.std.specs.Int.{div_ceil}
-use Rattle.std.specs.List.{range_with_len}
-use Rattle.std.proofs.lemmas.Bool.{cond-true, cond-false, lt-ltb, le-ltb, cases_lt}
-use Rattle.std.proofs.lemmas.List.{length-append, length-take, length-drop, length-replicate, get_or-replicate, get_or_append_left, get_or-append_right, get_or-take, get_or-drop, get_or_past}
-use Rattle.fs_rows.specs.Bytes.{bytes_by, block_by, up_to}
-use Rattle.fs_rows.specs.Held.{blocks_by}
-use Rattle.fs_rows.specs.Mark.{mark_of, block_of_bytes, blocks_of_bytes, mark_of_bytes}
 use Rattle.fs_rows.proofs.Functions.{bytes_are, byte_at, length_bytes, same_block}
 use Rattle.fs_rows.proofs.Messages.{same_mark}
 

@@ -1,10 +1,5 @@
 -- Lists of the bytes of a function.
-use Rattle.std.proofs.Common.{◌≡◌, ℕ, ◌+◌, ◌*◌, ◌<◌, ◌≤◌, List, length, get_or, replicate, sym, ◌∙◌, arith}
-use Rattle.std.proofs.lemmas.Grind.{same_number_lists}
-use Rattle.std.proofs.lemmas.List.{length-replicate, get_or-replicate}
-use Rattle.std.proofs.lemmas.List.FromFn.{length-map-range_with_len, get_or-map-range_with_len}
-use Rattle.sink_text.specs.vol_block.Volume.{zeros}
-use Rattle.fs_rows.specs.Bytes.{bytes_by, block_by}
+use Rattle.fs_rows.proofs.Imports.{◌≡◌, ℕ, ◌+◌, ◌*◌, ◌<◌, ◌≤◌, List, length, get_or, replicate, sym, ◌∙◌, arith, same_number_lists, length-replicate, get_or-replicate, length-map-range_with_len, get_or-map-range_with_len, zeros, bytes_by, block_by}
 
 pub length_bytes : (n : ℕ) (f : ℕ → ℕ) (at : ℕ) → length (bytes_by n f at) ≡ n
 unfolding bytes_by

@@ -1,11 +1,5 @@
 -- How the bytes of a file go on.
-use Rattle.std.proofs.Common.{◌≡◌, ℕ, ◌+◌, ◌-◌, ◌*◌, ◌<◌, ◌≤◌, List, [], ◌∷◌, ◌++◌, sym, ap, subst, ◌∙◌, arith}
-use Rattle.sink_text.specs.vol_block.Volume.{zeros}
-use Rattle.fs_rows.specs.Marker.{Marks}
-use Rattle.fs_rows.specs.declared.mark.Marker.{Marker}
-use Rattle.fs_rows.specs.declared.file.FileBytes.{FileBytes}
-use Rattle.fs_rows.specs.Bytes.{block_by}
-use Rattle.fs_rows.specs.Held.{blocks_by, HoldsBytes}
+use Rattle.fs_rows.proofs.Imports.{◌≡◌, ℕ, ◌+◌, ◌-◌, ◌*◌, ◌<◌, ◌≤◌, List, [], ◌∷◌, ◌++◌, sym, ap, subst, ◌∙◌, arith, zeros, Marks, Marker, FileBytes, block_by, blocks_by, HoldsBytes}
 use Rattle.fs_rows.proofs.Functions.{same_block, zero_block}
 use Rattle.fs_rows.proofs.Messages.{blocks_more, same_blocks, marks_further}
 

@@ -1,10 +1,6 @@
 -- A function that goes over into another one from the front.
-use Rattle.std.proofs.Common.{◌≡◌, ℕ, ◌+◌, ◌*◌, ◌<◌, ◌≤◌, ltb, if◌then◌else◌, sym, ap, ◌∙◌, arith, inl, inr}
+use Rattle.fs_rows.proofs.Imports.{◌≡◌, ℕ, ◌+◌, ◌*◌, ◌<◌, ◌≤◌, ltb, if◌then◌else◌, sym, ap, ◌∙◌, arith, inl, inr, cond-true, cond-false, lt-ltb, le-ltb, cases_lt, FileBytes, block_by, HoldsBytes}
 use Rattle.std.specs.Prelude.{nat_lt}
-use Rattle.std.proofs.lemmas.Bool.{cond-true, cond-false, lt-ltb, le-ltb, cases_lt}
-use Rattle.fs_rows.specs.declared.file.FileBytes.{FileBytes}
-use Rattle.fs_rows.specs.Bytes.{block_by}
-use Rattle.fs_rows.specs.Held.{HoldsBytes}
 use Rattle.fs_rows.proofs.Functions.{same_block}
 use Rattle.fs_rows.proofs.Holding.{replaced}
 

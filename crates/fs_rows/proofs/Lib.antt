@@ -4,6 +4,7 @@ pub mod Copies
 pub mod FileMarks
 pub mod Functions
 pub mod Holding
+pub mod Imports
 pub mod Joined
 pub mod LineLemmas
 pub mod MarkLemmas

@@ -1,11 +1,5 @@
 -- The parts of a line.
-use Rattle.std.proofs.Common.{◌≡◌, ℕ, ◌+◌, ◌<◌, ◌≤◌, List, [], ◌∷◌, ◌++◌, length, take, Some, slice_get, Result, IsErr, refl, sym, ap, subst, ◌∙◌, append_assoc}
-use Rattle.std.specs.List.{flat_map}
-use Rattle.std.proofs.lemmas.List.{take_all}
-use Rattle.std.proofs.lemmas.Option.{get_or_from_slice_get}
-use Rattle.sink_text.specs.Pushes.{Pushed, Stopped, Pushes}
-use Rattle.sink_text.proofs.Pushing.{pushes_later, pushes_stopped, pushed_item, stopped_at_item, stopped_here}
-use Rattle.fs_rows.specs.Text.{spaced}
+use Rattle.fs_rows.proofs.Imports.{◌≡◌, ℕ, ◌+◌, ◌<◌, ◌≤◌, List, [], ◌∷◌, ◌++◌, length, take, Some, slice_get, Result, IsErr, refl, sym, ap, subst, ◌∙◌, append_assoc, flat_map, take_all, get_or_from_slice_get, Pushed, Stopped, Pushes, pushes_later, pushes_stopped, pushed_item, stopped_at_item, stopped_here, spaced}
 
 pub spaced-append : (xs ys : List (List ℕ)) → spaced (xs ++ ys) ≡ spaced xs ++ spaced ys
 spaced-append [] ys = refl

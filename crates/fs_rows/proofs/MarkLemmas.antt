@@ -1,16 +1,10 @@
 -- What a marker holds after a block was added.
-use Rattle.std.proofs.Common.{◌≡◌, ℕ, Bool, true, false, IsTrue, ◌↔◌, List, [], ◌∷◌, ◌++◌, true≢false, refl, sym, ◌∙◌, ap, subst, append-nil, append_assoc}
-use Rattle.std.specs.List.{flat_map}
-use Rattle.std.proofs.lemmas.List.Concat.{flat_map-cons}
+use Rattle.fs_rows.proofs.Imports.{◌≡◌, ℕ, Bool, true, false, IsTrue, ◌↔◌, List, [], ◌∷◌, ◌++◌, true≢false, refl, sym, ◌∙◌, ap, subst, append_assoc, flat_map, flat_map-cons, bytes_decides, zeros, is_zeros, marked_block, Marks, Marker}
+use Rattle.std.proofs.Common.{append-nil}
 use Rattle.std.proofs.lemmas.Grind.{flat_map-append}
-use Rattle.std.specs.Cmp.Lexicographic.{bytes_decides}
-use Rattle.sink_text.specs.vol_block.Volume.{zeros}
 use Rattle.byteorder.specs.Endian.{little_bytes}
 use Rattle.sha2.specs.Hashers.{Holds256}
 use Rattle.sha2.specs.declared.Sha256.{Sha256}
-use Rattle.fs_rows.specs.Mark.{is_zeros, marked_block}
-use Rattle.fs_rows.specs.Marker.{Marks}
-use Rattle.fs_rows.specs.declared.mark.Marker.{Marker}
 
 contradiction : (t : Bool) → t ≡ false → IsTrue t → ⊥
 contradiction true h k = absurd (true≢false h)

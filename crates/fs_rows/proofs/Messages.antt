@@ -1,16 +1,6 @@
 -- What a marker holds after blocks of a function.
-use Rattle.std.proofs.Common.{◌≡◌, ℕ, zero, suc, ◌+◌, ◌-◌, ◌*◌, ◌<◌, ◌≤◌, List, [], ◌∷◌, ◌++◌, refl, sym, ap, subst, ◌∙◌, arith, inl, inr}
-use Rattle.std.specs.List.{flat_map}
-use Rattle.std.proofs.lemmas.Bool.{cases_lt}
-use Rattle.std.proofs.lemmas.List.{append-nil}
-use Rattle.std.proofs.lemmas.List.FromFn.{map-range_with_len_more}
-use Rattle.sink_text.specs.vol_block.Volume.{zeros}
-use Rattle.fs_rows.specs.Mark.{marked_block, mark_of}
-use Rattle.fs_rows.specs.Marker.{Marks}
-use Rattle.fs_rows.specs.declared.mark.Marker.{Marker}
+use Rattle.fs_rows.proofs.Imports.{◌≡◌, ℕ, zero, suc, ◌+◌, ◌-◌, ◌*◌, ◌<◌, ◌≤◌, List, [], ◌∷◌, ◌++◌, refl, sym, ap, subst, ◌∙◌, arith, inl, inr, flat_map, cases_lt, append-nil, map-range_with_len_more, zeros, marked_block, mark_of, Marks, Marker, block_by, blocks_by}
 use Rattle.fs_rows.proofs.MarkLemmas.{marks_zeros, message_more, skipped}
-use Rattle.fs_rows.specs.Bytes.{block_by}
-use Rattle.fs_rows.specs.Held.{blocks_by}
 use Rattle.fs_rows.proofs.Functions.{same_block, zero_block}
 
 pub blocks_more : (f : ℕ → ℕ) (n : ℕ) → blocks_by f (n + 1) ≡ blocks_by f n ++ (n, block_by f n) ∷ []

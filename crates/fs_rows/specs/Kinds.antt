@@ -1,18 +1,19 @@
 -- Kinds of objects, and which of them have what.
 use Rattle.std.specs.Prelude.{ℕ, ◌==◌, Bool, true, false, Option, Some, None, if◌then◌else◌}
+use Rattle.vol_block.specs.declared.mode.TheConstants.{DT_BLK, DT_CHR, DT_DIR, DT_FIFO, DT_LNK, DT_REG, DT_SOCK}
 use Rattle.fs_rows.specs.declared.row.Kind.{Kind}
 use Rattle.fs_rows.specs.declared.row.Kind.TheVariants.{Directory, File, Symlink, Character, Block, Fifo, Socket, Subvolume}
 
 -- the kind by the four bits of a mode that stat(2) has for it
 abbrev pub kind_of_code : ℕ → Option Kind
 kind_of_code code =
-    if code == 4 then Some Directory
-    else (if code == 8 then Some File
-    else (if code == 10 then Some Symlink
-    else (if code == 2 then Some Character
-    else (if code == 6 then Some Block
-    else (if code == 1 then Some Fifo
-    else (if code == 12 then Some Socket else None))))))
+    if code == DT_DIR then Some Directory
+    else (if code == DT_REG then Some File
+    else (if code == DT_LNK then Some Symlink
+    else (if code == DT_CHR then Some Character
+    else (if code == DT_BLK then Some Block
+    else (if code == DT_FIFO then Some Fifo
+    else (if code == DT_SOCK then Some Socket else None))))))
 
 abbrev pub is_directory : Kind → Bool
 is_directory Directory = true

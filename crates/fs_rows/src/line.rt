@@ -9,8 +9,8 @@ ghost use Rattle.sink_text.specs.Text.{piece_text};
 ghost use Rattle.fs_rows.specs.Text.{any_flag, device_by, end_by, fields_by, flag, flags_text, kind_letter, known_fields, last_fields, least_text, length_text, mark_text, names_by, owner_fields, path_text, row_text, slashed, spaced, time_fields};
 
 use crate::{Kind, Name, Path, Row, Time};
-use sink_text::Piece::{Decimal, Escaped, Fraction, Hex, Octal, Plain, Signed};
-use sink_text::{Buffered, Fault, Piece, Sink};
+use sink_text::TextPart::{Decimal, Escaped, Fraction, Hex, Octal, Plain, Signed};
+use sink_text::{Buffered, Fault, Sink, TextPart};
 
 /// Adds the line of a row.
 pub fn push_row<S: Sink>(row: &Row, text: &mut Buffered, out: &mut S) -> Result<(), Fault>
@@ -124,7 +124,7 @@ fn push_last<S: Sink>(row: &Row, text: &mut Buffered, out: &mut S) -> Result<(),
 }
 
 /// The seconds with their sign.
-fn seconds(time: &Time) -> Piece<'static>
+fn seconds(time: &Time) -> TextPart<'static>
     ensures { piece_text result ≡ signed_decimal time.now.sec }
 {
     Signed(time.sec)
@@ -191,7 +191,7 @@ fn push_numbers<S: Sink>(
 }
 
 /// How many names there are, but for a directory.
-fn names_piece(kind: Kind, names: u64) -> Piece<'static>
+fn names_piece(kind: Kind, names: u64) -> TextPart<'static>
     ensures { piece_text result ≡ names_by kind names }
 {
     match kind {
@@ -202,7 +202,7 @@ fn names_piece(kind: Kind, names: u64) -> Piece<'static>
 }
 
 /// The length of a file or a target.
-fn length_piece(kind: Kind, length: u64) -> Piece<'static>
+fn length_piece(kind: Kind, length: u64) -> TextPart<'static>
     ensures { piece_text result ≡ length_text kind length }
 {
     match kind {
@@ -217,7 +217,7 @@ fn length_piece(kind: Kind, length: u64) -> Piece<'static>
 }
 
 /// The mark of a file.
-fn mark_piece(kind: Kind, mark: &[u8; 32]) -> Piece<'_>
+fn mark_piece(kind: Kind, mark: &[u8; 32]) -> TextPart<'_>
     ensures { piece_text result ≡ mark_text kind mark.now }
 {
     match kind {

@@ -1,6 +1,6 @@
 // Mounted Btrfs volumes, as Linux lists them in `/sys/fs/btrfs`.
 use crate::devices::number_in;
-use crate::place::Place;
+use crate::file_identity::FileIdentity;
 use std::fs::Files;
 use std::{fs, io};
 
@@ -12,7 +12,7 @@ pub const MOUNTED_BTRFS: &str = "/sys/fs/btrfs";
 pub fn is_of_a_volume<R: Files + AllocGlobal + Clone + Drop>(
     files: &R,
     volumes: &str,
-    place: &Place,
+    place: &FileIdentity,
 ) -> io::Result<bool> {
     if fs::metadata(files, volumes).is_err() {
         return Ok(false);
@@ -33,7 +33,7 @@ pub fn is_of_a_volume<R: Files + AllocGlobal + Clone + Drop>(
 fn is_listed<R: Files + AllocGlobal + Clone + Drop>(
     files: &R,
     devices: &str,
-    place: &Place,
+    place: &FileIdentity,
 ) -> io::Result<bool> {
     for entry in fs::read_dir(files, devices)? {
         let entry = entry?;

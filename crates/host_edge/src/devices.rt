@@ -1,5 +1,5 @@
 // Block devices, and what belongs to one, as Linux tells it in `/sys/dev/block`.
-use crate::place::Place;
+use crate::file_identity::FileIdentity;
 use std::alloc::{AllocError, Global};
 use std::fs::Files;
 use std::io::ErrorKind;
@@ -119,7 +119,7 @@ pub fn is_held<R: Files + AllocGlobal + Clone + Drop>(
 pub fn are_told<R: Files + AllocGlobal>(
     files: &R,
     devices: &str,
-    place: &Place,
+    place: &FileIdentity,
 ) -> io::Result<bool> {
     for device in place.devices() {
         let folder = device.folder(files.alloc(), devices)?;
@@ -135,7 +135,7 @@ pub fn are_told<R: Files + AllocGlobal>(
 pub fn is_read_only<R: Files + AllocGlobal>(
     files: &R,
     devices: &str,
-    place: &Place,
+    place: &FileIdentity,
 ) -> io::Result<bool> {
     let Some(device) = place.devices().first() else {
         return Ok(false);

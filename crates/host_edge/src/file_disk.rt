@@ -5,9 +5,11 @@ ghost use Rattle.host_edge.specs.FileDisk.{Kept, opened_for, length_of, kept_ref
 
 use crate::opened::{FailedWrite, Opened};
 use crate::status_line::StatusLine;
-use crate::trouble::{Call, Cause, Trouble};
-use crate::watch::{Task, Watch};
-use crate::{Place, Signature, Use};
+use crate::steps::Task;
+use crate::trouble::{Cause, DiskCall, Trouble};
+use crate::watch::Watch;
+use crate::{FileIdentity, Signature, Use};
+use btrfs_format::block::SUPER_BLOCK;
 use outside::{Access, Block, BlockNo, BlockSource, Disk, Fault, Format, format_of};
 use std::fs::{File, Files, OpenOptions};
 use std::io::ErrorKind;
@@ -39,9 +41,6 @@ pub struct FileDisk<'a, R: Files<File = File> + AllocGlobal + Clock + Clone + Dr
     watch: Watch<'a>,
     is_overwritten: bool,
 }
-
-/// The block of the superblock of both formats that the rest of the program knows.
-const SUPERBLOCK: BlockNo = 16;
 
 impl<'a, R: Files<File = File> + AllocGlobal + Clock + Clone + Drop> FileDisk<'a, R> {
     /// A disk that is not open. It will find its file by these files, and show on this line what it does.
@@ -109,7 +108,7 @@ impl<'a, R: Files<File = File> + AllocGlobal + Clock + Clone + Drop> FileDisk<'a
 
     /// Checks that nobody uses what stands at a path, and that it is not read-only.
     fn check_free(&self, path: &str) -> Result<(), Cause> {
-        let place = Place::new(&self.files, path)?;
+        let place = FileIdentity::new(&self.files, path)?;
         if let Some(found) = Use::of(&self.files, &place)? {
             return Err(Cause::InUse(found));
         }
@@ -120,7 +119,7 @@ impl<'a, R: Files<File = File> + AllocGlobal + Clock + Clone + Drop> FileDisk<'a
     }
 
     /// Counts a failure, and keeps why it came.
-    fn fail(&mut self, call: Call, cause: Cause) -> Fault
+    fn fail(&mut self, call: DiskCall, cause: Cause) -> Fault
         ensures rose { Rose self.old.faults self.new.faults }
         ensures later { self.old.faults ≤ self.new.faults }
         ensures opened { self.new.opened ≡ self.old.opened }
@@ -142,9 +141,9 @@ fn unopened(e: io::Error) -> Cause {
 
 /// Checks that nothing lies on a file but what the rest of the program knows.
 fn check_blank(opened: &Opened) -> Result<(), Cause> {
-    if opened.blocks > SUPERBLOCK {
+    if opened.blocks > SUPER_BLOCK {
         let mut block = Block::zero();
-        opened.read(SUPERBLOCK, &mut block)?;
+        opened.read(SUPER_BLOCK, &mut block)?;
         if format_of(&block) != Format::Neither {
             return Ok(());
         }
@@ -194,7 +193,7 @@ impl<R: Files<File = File> + AllocGlobal + Clock + Clone + Drop> BlockSource for
                 self.watch.look(&self.files);
                 Ok(())
             }
-            Err(cause) => Err(self.fail(Call::Read(n), cause)),
+            Err(cause) => Err(self.fail(DiskCall::Read(n), cause)),
         }
     }
 }
@@ -227,7 +226,7 @@ impl<R: Files<File = File> + AllocGlobal + Clock + Clone + Drop> Disk for FileDi
                 self.watch.begin(&self.files);
                 Ok(())
             }
-            Err(cause) => Err(self.fail(Call::Open, cause)),
+            Err(cause) => Err(self.fail(DiskCall::Open, cause)),
         }
     }
 
@@ -241,13 +240,13 @@ impl<R: Files<File = File> + AllocGlobal + Clock + Clone + Drop> Disk for FileDi
         };
         match done {
             Ok(()) => {
-                self.watch.writes();
+                self.watch.writes(n, from);
                 self.watch.look(&self.files);
                 Ok(())
             }
             Err(failed) => {
                 self.watch.fails(failed.is_begun);
-                Err(self.fail(Call::Write(n), failed.cause))
+                Err(self.fail(DiskCall::Write(n), failed.cause))
             }
         }
     }
@@ -258,8 +257,11 @@ impl<R: Files<File = File> + AllocGlobal + Clock + Clone + Drop> Disk for FileDi
             None => Err(Cause::Closed),
         };
         match done {
-            Ok(()) => Ok(()),
-            Err(cause) => Err(self.fail(Call::Sync, cause)),
+            Ok(()) => {
+                self.watch.syncs();
+                Ok(())
+            }
+            Err(cause) => Err(self.fail(DiskCall::Sync, cause)),
         }
     }
 }

@@ -1,8 +1,8 @@
 use crate::btrfs::{MOUNTED_BTRFS, is_of_a_volume};
 use crate::devices::{DEVICES, are_told, is_held};
+use crate::file_identity::FileIdentity;
 use crate::loops::{ALL_DEVICES, is_behind_a_loop};
 use crate::mounts::{PROCESSES, SWAPS, are_mounts_told, is_mounted_for_any, is_swap};
-use crate::place::Place;
 use std::fs::Files;
 use std::io;
 use thiserror::Error;
@@ -35,7 +35,7 @@ impl Use {
     /// nothing is told where the system's tables can't be read.
     pub fn of<R: Files + AllocGlobal + Clone + Drop>(
         files: &R,
-        place: &Place,
+        place: &FileIdentity,
     ) -> io::Result<Option<Use>> {
         if is_mounted_for_any(files, PROCESSES, place)?
             || is_of_a_volume(files, MOUNTED_BTRFS, place)?
@@ -65,7 +65,7 @@ pub fn is_told<R: Files + AllocGlobal>(
     files: &R,
     processes: &str,
     devices: &str,
-    place: &Place,
+    place: &FileIdentity,
 ) -> io::Result<bool> {
     if place.devices().is_empty() {
         return Ok(true);

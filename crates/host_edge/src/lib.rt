@@ -7,24 +7,27 @@
 //! For a person at a terminal the disk shows on a [`StatusLine`] how far its [`Task`] is, and keeps as a [`Trouble`] why
 //! its last call failed; a [`LineSink`] keeps the first bytes that it passes on.
 //!
-//! [`Use::of`] says what stands in the way of writing to a [`Place`], as Linux tells it. Each question behind it is a
+//! [`Use::of`] says what stands in the way of writing to a [`FileIdentity`], as Linux tells it. Each question behind it is a
 //! call of its own, and takes the path of the table or of the folder in which Linux answers it: [`is_mounted`],
 //! [`is_of_a_volume`], [`is_swap`], [`is_held`] and [`is_behind_a_loop`].
 #![tactic(auto)]
 
 mod btrfs;
+mod census;
 mod devices;
 mod file_disk;
+mod file_identity;
+mod generation;
 mod in_use;
 mod line_sink;
 mod loops;
 mod mounts;
 mod opened;
 mod pace;
-mod place;
 mod signatures;
 mod status_line;
 mod std_sink;
+mod steps;
 mod streams;
 mod trouble;
 mod volume_use;
@@ -33,15 +36,16 @@ mod watch;
 pub use btrfs::is_of_a_volume;
 pub use devices::{DeviceNumber, is_held, is_read_only};
 pub use file_disk::FileDisk;
+pub use file_identity::FileIdentity;
+pub use generation::generation_at;
 pub use in_use::{Use, is_told};
 pub use line_sink::LineSink;
 pub use loops::is_behind_a_loop;
 pub use mounts::{Mount, is_mounted, is_mounted_for_any, is_swap};
 pub use outside::{Ids, Sink};
-pub use place::Place;
 pub use signatures::Signature;
 pub use status_line::StatusLine;
 pub use std_sink::StdSink;
+pub use steps::Task;
 pub use streams::hold_streams;
-pub use trouble::{Call, Cause, Trouble};
-pub use watch::Task;
+pub use trouble::{Cause, DiskCall, Trouble};

@@ -9,13 +9,13 @@ const KEPT: usize = 512;
 
 /// The first bytes of a text.
 #[derive(Drop)]
-struct Front {
+struct TextPrefix {
     bytes: [u8; KEPT],
     length: usize,
     ghost bounded: { length ≤ 512 },
 }
 
-impl Front {
+impl TextPrefix {
     /// Takes in as many of the bytes as there is room for.
     fn add(&mut self, bytes: &[u8]) {
         let room = &mut self.bytes[self.length..];
@@ -29,7 +29,7 @@ impl Front {
 #[derive(Drop)]
 pub struct LineSink<'a, W: Write + Drop> {
     sink: StdSink<'a, W>,
-    front: Front,
+    front: TextPrefix,
 }
 
 impl<'a, W: Write + Drop> LineSink<'a, W> {
@@ -37,7 +37,7 @@ impl<'a, W: Write + Drop> LineSink<'a, W> {
     pub fn new(sink: StdSink<'a, W>) -> Self {
         LineSink {
             sink,
-            front: Front {
+            front: TextPrefix {
                 bytes: [0; KEPT],
                 length: 0,
             },

@@ -1,5 +1,5 @@
 // Loop devices, which make a block device of a file.
-use crate::place::Place;
+use crate::file_identity::FileIdentity;
 use std::fs::Files;
 use std::io::ErrorKind;
 use std::{fs, io, str};
@@ -12,7 +12,7 @@ pub const ALL_DEVICES: &str = "/sys/block";
 pub fn is_behind_a_loop<R: Files + AllocGlobal + Clone + Drop>(
     files: &R,
     devices: &str,
-    place: &Place,
+    place: &FileIdentity,
 ) -> io::Result<bool> {
     if fs::metadata(files, devices).is_err() {
         return Ok(false);

@@ -1,7 +1,7 @@
 ghost use Rattle.std.specs.Prelude.{◌≡◌, ◌≤◌, length, OnSome};
 
 use crate::devices::DeviceNumber;
-use crate::place::Place;
+use crate::file_identity::FileIdentity;
 use std::alloc::{AllocError, Global};
 use std::fs::Files;
 use std::io::ErrorKind;
@@ -98,7 +98,7 @@ pub const SWAPS: &str = "/proc/swaps";
 pub fn is_mounted<R: Files + AllocGlobal>(
     files: &R,
     mounts: &str,
-    place: &Place,
+    place: &FileIdentity,
 ) -> io::Result<bool> {
     let mounts = table(files, mounts)?;
     names(files, mounts.as_slice(), place)
@@ -109,7 +109,7 @@ pub fn is_mounted<R: Files + AllocGlobal>(
 pub fn is_mounted_for_any<R: Files + AllocGlobal + Clone + Drop>(
     files: &R,
     processes: &str,
-    place: &Place,
+    place: &FileIdentity,
 ) -> io::Result<bool> {
     if fs::metadata(files, processes).is_err() {
         return Ok(false);
@@ -167,7 +167,11 @@ fn is_of_the_process(e: &io::Error) -> bool {
 }
 
 /// Whether a table of mounts names what stands at a place.
-fn names<R: Files + AllocGlobal>(files: &R, mounts: &[u8], place: &Place) -> io::Result<bool> {
+fn names<R: Files + AllocGlobal>(
+    files: &R,
+    mounts: &[u8],
+    place: &FileIdentity,
+) -> io::Result<bool> {
     for line in mounts.split(|byte| *byte == b'\n') {
         if let Some(mount) = Mount::read(line) {
             if place.has(mount.device()) {
@@ -185,7 +189,11 @@ fn names<R: Files + AllocGlobal>(files: &R, mounts: &[u8], place: &Place) -> io:
 
 /// Whether what stands at a place is swapped to, by a table of swap spaces. Its first line has the names of the columns, and each
 /// other one begins with a path.
-pub fn is_swap<R: Files + AllocGlobal>(files: &R, swaps: &str, place: &Place) -> io::Result<bool> {
+pub fn is_swap<R: Files + AllocGlobal>(
+    files: &R,
+    swaps: &str,
+    place: &FileIdentity,
+) -> io::Result<bool> {
     let swaps = table(files, swaps)?;
     for line in swaps.as_slice().split(|byte| *byte == b'\n') {
         let Some(first) = line.split(|byte| *byte == b' ' || *byte == b'\t').next() else {

@@ -5,7 +5,7 @@ use thiserror::Error;
 
 /// What a disk was asked for.
 #[derive(Clone, Copy, Debug, PartialEq, Eq, Error)]
-pub enum Call {
+pub enum DiskCall {
     #[error("opening it")]
     Open,
     #[error("reading block {0}")]
@@ -43,6 +43,6 @@ pub enum Cause {
 #[derive(Clone, Copy, Debug, Error)]
 #[error("{call}: {cause}")]
 pub struct Trouble {
-    pub call: Call,
+    pub call: DiskCall,
     pub cause: Cause,
 }

@@ -1,7 +1,10 @@
+use crate::census::{Census, Round};
 use crate::pace::{Moment, Pace};
 use crate::status_line::StatusLine;
+use crate::steps::{Stage, Step, Task};
 use crate::volume_use::VolumeUse;
-use outside::{Block, BlockNo};
+use btrfs_format::block::SUPER_BLOCK;
+use outside::{Block, BlockNo, Format, format_of};
 use std::alloc::{AllocError, Global};
 use std::time::{Clock, Duration, Instant};
 
@@ -17,36 +20,10 @@ const KNOWN: u64 = 5000;
 /// Blocks of 4 KiB in 1 MiB.
 const BLOCKS_OF_MIB: u64 = 256;
 
-/// The block of the superblock of both formats.
-const SUPERBLOCK: BlockNo = 16;
-
-/// What a command does with a disk, as far as it matters to somebody who waits.
-#[derive(Clone, Copy, Debug, PartialEq, Eq)]
-pub enum Task {
-    /// It looks through a volume.
-    Check,
-    /// It reads all that is in use, each block about once.
-    ReadAll,
-    /// It looks through a volume. Then it writes, and reads all that is in use, each block about once, and what it looked through once more.
-    Convert,
-    /// It looks through a volume, and then it writes a part of it.
-    WriteBack,
-    /// It writes a volume and reads it, several times.
-    Try,
-}
-
-/// How far a command is.
-#[derive(Clone, Copy, Debug, PartialEq, Eq)]
-struct Far {
-    /// The blocks that were moved.
-    done: u64,
-    /// How many it will be, where that is known.
-    known: Option<u64>,
-}
-
 /// The blocks that were read and written, whole or in part, since a disk was opened, and the line that tells of it to a person.
 ///
-/// It knows calls alone, and of the blocks the superblock's.
+/// It knows calls alone, and what the blocks are that it was told to expect. A command goes from step to step and never back, and in a step its share
+/// never falls.
 #[derive(Drop)]
 pub struct Watch<'a> {
     line: &'a StatusLine,
@@ -56,8 +33,13 @@ pub struct Watch<'a> {
     /// How many were read before the first was written.
     read_before: u64,
     volume: Option<VolumeUse>,
+    census: Option<Census>,
+    /// The step of a trial.
+    turn: u64,
     began: Option<Instant>,
     pace: Pace,
+    /// The step whose pace it is.
+    step: Step,
     /// After how many milliseconds the last line was shown.
     told: u64,
 }
@@ -67,13 +49,16 @@ impl<'a> Watch<'a> {
     pub fn new(line: &'a StatusLine) -> Self {
         Watch {
             line,
-            task: Task::Check,
+            task: Task::Inspect,
             read: 0,
             written: 0,
             read_before: 0,
             volume: None,
+            census: None,
+            turn: 1,
             began: None,
             pace: Pace::new(),
+            step: Step::new("", 1, 1),
             told: 0,
         }
     }
@@ -95,28 +80,64 @@ impl<'a> Watch<'a> {
         }
     }
 
-    /// A block is read. What the first superblock tells is kept.
+    /// A block is read. What the first superblock tells is kept, and so is what that of the image tells, which a rollback reads elsewhere.
     pub fn reads(&mut self, n: BlockNo, block: &Block) {
         self.read = self.read.saturating_add(1);
-        if n == SUPERBLOCK && self.volume.is_none() {
-            self.volume = VolumeUse::of(block);
+        match &mut self.census {
+            Some(census) => census.reads(n, block, self.task == Task::List),
+            None => self.look_for_volume(n, block),
         }
     }
 
-    /// A block is written.
-    pub fn writes(&mut self) {
-        if self.written == 0 {
-            self.read_before = self.read;
-            self.pace = Pace::new();
+    fn look_for_volume(&mut self, n: BlockNo, block: &Block) {
+        let is_first = n == SUPER_BLOCK && self.volume.is_none();
+        if !is_first && (self.task != Task::Rollback || self.volume.is_none()) {
+            return;
         }
-        self.written = self.written.saturating_add(1);
+        let format = format_of(block);
+        if !is_first && format != Format::Reiser {
+            return;
+        }
+        if let Some(volume) = VolumeUse::of(block) {
+            self.volume = Some(volume);
+            if format == Format::Reiser && self.task != Task::Trial {
+                self.census = Some(Census::new(n, volume));
+            }
+        }
+    }
+
+    /// A block is written. What a trial is at is told by its superblock.
+    pub fn writes(&mut self, n: BlockNo, block: &Block) {
+        self.counts_write();
+        if self.task == Task::Trial && n == SUPER_BLOCK {
+            match (self.turn, format_of(block)) {
+                (1, Format::Reiser) => self.volume = VolumeUse::of(block),
+                (2, Format::Btrfs) => self.turn = 3,
+                (3, Format::Reiser) => self.turn = 4,
+                _ => {}
+            }
+        }
+    }
+
+    /// All that was written is on the disk. The sample of a trial is made then.
+    pub fn syncs(&mut self) {
+        if self.task == Task::Trial && self.turn == 1 && self.volume.is_some() {
+            self.turn = 2;
+        }
     }
 
     /// The writing of a block failed, behind a part of it or before.
     pub fn fails(&mut self, is_begun: bool) {
         if is_begun {
-            self.writes();
+            self.counts_write();
         }
+    }
+
+    fn counts_write(&mut self) {
+        if self.written == 0 {
+            self.read_before = self.read;
+        }
+        self.written = self.written.saturating_add(1);
     }
 
     /// Looks whether it is time to tell how far it is.
@@ -137,83 +158,107 @@ impl<'a> Watch<'a> {
 
     /// Shows how far it is after so many milliseconds, where it is time for another line. Without memory it shows nothing.
     fn tell(&mut self, alloc: Global, after: u64) {
+        let stage = self.stage();
+        if stage.step != self.step {
+            self.step = stage.step;
+            self.pace = Pace::new();
+        }
         let now = Moment {
             at: after,
-            blocks: self.blocks(),
+            blocks: stage.done,
         };
         self.pace.note(now);
         if after < QUIET || after.saturating_sub(self.told) < self.line.stands() {
             return;
         }
-        if let Ok(text) = self.text(alloc, self.pace.since(now)) {
+        if let Ok(text) = text(alloc, &stage, self.pace.since(now)) {
             self.line.show(alloc, text.as_str());
         }
         self.told = after;
     }
 
-    /// The line, where so many blocks were moved of late in so many milliseconds.
-    fn text(&self, alloc: Global, late: Moment) -> Result<String, AllocError> {
-        let far = self.far();
-        let speed = per_second(late.blocks, late.at) / BLOCKS_OF_MIB;
-        match (far.known, self.task) {
-            (Some(known), _) => {
-                let left = left(alloc, known.saturating_sub(far.done), late)?;
-                format!(in alloc;
-                    "{}: {}%, {} of {} MiB, {} MiB/s{}",
-                    self.phase(),
-                    share(far.done, known),
-                    far.done.min(known) / BLOCKS_OF_MIB,
-                    known / BLOCKS_OF_MIB,
-                    speed,
-                    left.as_str()
-                )
-            }
-            (None, Task::Try) => format!(in alloc;
-                "{}: read {} MiB, wrote {} MiB, {} MiB/s",
-                self.phase(),
-                self.read / BLOCKS_OF_MIB,
-                self.written / BLOCKS_OF_MIB,
-                speed
-            ),
-            (None, _) => format!(in alloc;
-                "{}: {} MiB, {} MiB/s",
-                self.phase(),
-                far.done / BLOCKS_OF_MIB,
-                speed
-            ),
-        }
-    }
-
-    /// What is done right now.
-    fn phase(&self) -> &'static str {
+    /// What is done right now, and how far it is.
+    fn stage(&self) -> Stage {
         match (self.task, self.written) {
-            (Task::Try, _) => "trying",
-            (Task::ReadAll, _) => "reading",
-            (_, 0) => "checking",
-            (Task::Convert, _) => "converting",
-            (_, _) => "writing",
-        }
-    }
-
-    /// How far what is done right now is.
-    fn far(&self) -> Far {
-        match (self.task, self.written) {
-            (Task::ReadAll, _) => Far {
-                done: self.read,
-                known: self.volume.map(|volume| volume.used),
-            },
-            (_, 0) => Far {
-                done: self.read,
-                known: None,
-            },
-            (Task::Convert, _) => Far {
+            (Task::Inspect, _) => self.looking("counting", 2),
+            (Task::InspectAgain { time, of }, _) => self.looking_again(time, of),
+            (Task::List, _) => self.listing(),
+            (Task::Convert, 0) => self.looking("counting", 3),
+            (Task::Convert, _) => Stage {
+                step: Step::new("converting", 3, 3),
                 done: self.read.saturating_sub(self.read_before),
                 known: self.to_convert(),
             },
-            (_, _) => Far {
-                done: self.written,
-                known: None,
+            (Task::Recover, 0) => Stage {
+                step: Step::new("checking", 1, 1),
+                done: self.read,
+                known: match &self.census {
+                    Some(census) => Some(census.volume().front),
+                    None => None,
+                },
             },
+            (Task::Recover, _) => Stage::unknown(Step::new("writing", 1, 1), self.written),
+            (Task::Rollback, 0) => self.going_back(),
+            (Task::Rollback, _) => Stage::unknown(Step::new("writing", 3, 3), self.written),
+            (Task::Trial, _) => self.trying(),
+        }
+    }
+
+    /// How far the look through a volume is, whose second round has this name. How many blocks it takes is known of ReiserFS alone.
+    fn looking(&self, second: &'static str, of: u64) -> Stage {
+        match &self.census {
+            Some(census) => Stage {
+                step: match census.round() {
+                    Round::First => Step::new("checking", 1, of),
+                    Round::Second => Step::new(second, 2, of),
+                },
+                done: census.done(),
+                known: Some(census.volume().used),
+            },
+            None => Stage::unknown(Step::new("checking", 1, 1), self.read),
+        }
+    }
+
+    fn looking_again(&self, time: u64, of: u64) -> Stage {
+        let stage = self.looking("", 2);
+        let number = time.saturating_mul(2).saturating_add(stage.step.number);
+        Stage {
+            step: Step::new("counting again", number, of.saturating_mul(2)),
+            ..stage
+        }
+    }
+
+    fn listing(&self) -> Stage {
+        match (&self.census, self.volume) {
+            (None, Some(volume)) => Stage {
+                step: Step::new("reading", 1, 1),
+                done: self.read,
+                known: Some(volume.used),
+            },
+            _ => self.looking("reading", 2),
+        }
+    }
+
+    /// How far a rollback is that has not written. How many blocks of a Btrfs volume it reads is told nowhere.
+    fn going_back(&self) -> Stage {
+        match &self.census {
+            Some(census) => Stage {
+                step: Step::new("checking", 2, 3),
+                done: census.done(),
+                known: Some(census.volume().used),
+            },
+            None => Stage::unknown(Step::new("reading", 1, 3), self.read),
+        }
+    }
+
+    fn trying(&self) -> Stage {
+        match (self.turn, self.volume) {
+            (1, Some(volume)) => Stage {
+                step: Step::new("making", 1, 4),
+                done: self.written,
+                known: Some(volume.used),
+            },
+            (turn, _) => Stage::unknown(Step::new(turn_name(turn), turn, 4), self.blocks()),
         }
     }
 
@@ -222,6 +267,51 @@ impl<'a> Watch<'a> {
         let volume = self.volume?;
         let tree = self.read_before.saturating_sub(volume.journal);
         Some(volume.used.saturating_add(tree))
+    }
+}
+
+/// What a trial does in its step with this number.
+fn turn_name(turn: u64) -> &'static str {
+    match turn {
+        1 => "making",
+        2 => "converting",
+        3 => "rolling back",
+        _ => "comparing",
+    }
+}
+
+/// The line of a stage, where so many blocks were done of late in so many milliseconds.
+fn text(alloc: Global, stage: &Stage, late: Moment) -> Result<String, AllocError> {
+    let step = step_text(alloc, &stage.step)?;
+    let speed = per_second(late.blocks, late.at) / BLOCKS_OF_MIB;
+    match stage.known {
+        Some(known) => {
+            let left = left(alloc, known.saturating_sub(stage.done), late)?;
+            format!(in alloc;
+                "{}: {}%, {} of {} MiB, {} MiB/s{}",
+                step.as_str(),
+                share(stage.done, known),
+                stage.done.min(known) / BLOCKS_OF_MIB,
+                known / BLOCKS_OF_MIB,
+                speed,
+                left.as_str()
+            )
+        }
+        None => format!(in alloc;
+            "{}: {} MiB, {} MiB/s",
+            step.as_str(),
+            stage.done / BLOCKS_OF_MIB,
+            speed
+        ),
+    }
+}
+
+/// The name of a step, with its number where there are several.
+fn step_text(alloc: Global, step: &Step) -> Result<String, AllocError> {
+    if step.of > 1 {
+        format!(in alloc; "{} ({} of {})", step.name, step.number, step.of)
+    } else {
+        format!(in alloc; "{}", step.name)
     }
 }
 

@@ -1,5 +1,5 @@
 use crate::folder::Folder;
-use host_edge::{DeviceNumber, Place, is_of_a_volume};
+use host_edge::{DeviceNumber, FileIdentity, is_of_a_volume};
 use std::test::Fail;
 
 #[test]
@@ -11,7 +11,7 @@ fn each_device_of_a_mounted_volume_is_found(rt: HostRuntime) -> Result<(), Fail>
     folder.folder(&rt, "7a148d8a/devices/sdb1")?;
     folder.file(&rt, "7a148d8a/devices/sdb1/dev", "8:17\n")?;
     let volumes = folder.path(&rt, "")?;
-    let mut place = Place::new(&rt, volumes.as_str())?;
+    let mut place = FileIdentity::new(&rt, volumes.as_str())?;
     assert!(rt; !is_of_a_volume(&rt, volumes.as_str(), &place)?);
     // the whole disk, whose first partition it is
     place.add(DeviceNumber {

@@ -1,5 +1,5 @@
 use crate::folder::Folder;
-use host_edge::{Call, Cause, FileDisk, StatusLine, Trouble};
+use host_edge::{Cause, DiskCall, FileDisk, StatusLine, Trouble};
 use outside::{Access, BlockSource, Disk};
 use std::fs;
 use std::io::ErrorKind;
@@ -93,7 +93,7 @@ fn a_file_that_is_not_there_is_told(rt: HostRuntime) -> Result<(), Fail> {
     let mut gone = FileDisk::new(&rt, &line);
     assert!(rt; gone.open(path.as_str(), Access::Read).is_err());
     let trouble = gone.trouble().ok_or("no trouble")?;
-    assert!(rt; trouble.call == Call::Open);
+    assert!(rt; trouble.call == DiskCall::Open);
     assert!(rt; matches!(&trouble.cause, Cause::System(e) if e.kind() == ErrorKind::NotFound));
     folder.remove(&rt)?;
     Ok(())

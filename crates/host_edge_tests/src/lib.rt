@@ -12,6 +12,8 @@ mod disks;
 #[cfg(test)]
 mod folder;
 #[cfg(test)]
+mod generations;
+#[cfg(test)]
 mod loop_devices;
 #[cfg(test)]
 mod numbers;

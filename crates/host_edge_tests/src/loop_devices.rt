@@ -1,5 +1,5 @@
 use crate::folder::Folder;
-use host_edge::{Place, is_behind_a_loop};
+use host_edge::{FileIdentity, is_behind_a_loop};
 use std::fs;
 use std::test::Fail;
 
@@ -18,7 +18,7 @@ fn a_path_may_lack_its_line_feed_and_is_passed_over_where_it_is_no_text(
 ) -> Result<(), Fail> {
     let folder = Folder::new(&rt, "paths")?;
     let disk = folder.file(&rt, "disk", "")?;
-    let place = Place::new(&rt, disk.as_str())?;
+    let place = FileIdentity::new(&rt, disk.as_str())?;
     let line = devices(&rt, &folder)?;
     let devices = folder.path(&rt, "devices")?;
     fs::write(&rt, line.as_str(), b"/srv/d\xffsk\n".as_slice())?;
@@ -42,9 +42,27 @@ fn a_file_that_a_loop_device_has_is_found_by_each_of_its_names(
     let line = format!(in rt.alloc(); "{}\n", name.as_str())?;
     fs::write(&rt, path.as_str(), line.as_str())?;
     let devices = folder.path(&rt, "devices")?;
-    assert!(rt; is_behind_a_loop(&rt, devices.as_str(), &Place::new(&rt, disk.as_str())?)?);
-    assert!(rt; !is_behind_a_loop(&rt, devices.as_str(), &Place::new(&rt, other.as_str())?)?);
-    assert!(rt; !is_behind_a_loop(&rt, "/no such folder", &Place::new(&rt, disk.as_str())?)?);
+    assert!(rt;
+        is_behind_a_loop(
+            &rt,
+            devices.as_str(),
+            &FileIdentity::new(&rt, disk.as_str())?
+        )?
+    );
+    assert!(rt;
+        !is_behind_a_loop(
+            &rt,
+            devices.as_str(),
+            &FileIdentity::new(&rt, other.as_str())?
+        )?
+    );
+    assert!(rt;
+        !is_behind_a_loop(
+            &rt,
+            "/no such folder",
+            &FileIdentity::new(&rt, disk.as_str())?
+        )?
+    );
     folder.remove(&rt)?;
     Ok(())
 }

@@ -1,5 +1,5 @@
 use crate::folder::Folder;
-use host_edge::{DeviceNumber, Place, is_mounted_for_any, is_read_only, is_told};
+use host_edge::{DeviceNumber, FileIdentity, is_mounted_for_any, is_read_only, is_told};
 use std::fs;
 use std::test::Fail;
 
@@ -29,7 +29,7 @@ fn processes(rt: &HostRuntime, folder: &Folder) -> Result<String, Fail> {
 fn a_mount_of_another_process_is_found(rt: HostRuntime) -> Result<(), Fail> {
     let folder = Folder::new(&rt, "processes")?;
     let disk = folder.file(&rt, "disk", "")?;
-    let mut place = Place::new(&rt, disk.as_str())?;
+    let mut place = FileIdentity::new(&rt, disk.as_str())?;
     place.add(PARTITION)?;
     let processes = processes(&rt, &folder)?;
     // the folder `sys` is no process
@@ -49,7 +49,7 @@ fn a_mount_of_another_process_is_found(rt: HostRuntime) -> Result<(), Fail> {
 fn of_a_device_both_folders_have_to_tell(rt: HostRuntime) -> Result<(), Fail> {
     let folder = Folder::new(&rt, "told")?;
     let disk = folder.file(&rt, "disk", "")?;
-    let mut place = Place::new(&rt, disk.as_str())?;
+    let mut place = FileIdentity::new(&rt, disk.as_str())?;
     let none = "/no such folder";
     // a plain file
     assert!(rt; is_told(&rt, none, none, &place)?);
@@ -72,7 +72,7 @@ fn of_a_device_both_folders_have_to_tell(rt: HostRuntime) -> Result<(), Fail> {
 fn a_device_that_is_read_only_is_known(rt: HostRuntime) -> Result<(), Fail> {
     let folder = Folder::new(&rt, "read_only")?;
     let disk = folder.file(&rt, "disk", "")?;
-    let mut place = Place::new(&rt, disk.as_str())?;
+    let mut place = FileIdentity::new(&rt, disk.as_str())?;
     folder.folder(&rt, "block")?;
     let devices = folder.path(&rt, "block")?;
     assert!(rt; !is_read_only(&rt, devices.as_str(), &place)?);

@@ -1,5 +1,5 @@
 use crate::folder::Folder;
-use host_edge::{DeviceNumber, Mount, Place, is_mounted, is_swap};
+use host_edge::{DeviceNumber, FileIdentity, Mount, is_mounted, is_swap};
 use std::process::Abort;
 use std::test::Fail;
 
@@ -93,8 +93,14 @@ fn what_is_mounted_is_found_by_its_number_and_by_its_source(rt: HostRuntime) -> 
         folder.path(&rt, "")?.as_str()
     )?;
     let mounts = folder.file(&rt, "mounts", lines.as_str())?;
-    assert!(rt; is_mounted(&rt, mounts.as_str(), &Place::new(&rt, disk.as_str())?)?);
-    let mut place = Place::new(&rt, other.as_str())?;
+    assert!(rt;
+        is_mounted(
+            &rt,
+            mounts.as_str(),
+            &FileIdentity::new(&rt, disk.as_str())?
+        )?
+    );
+    let mut place = FileIdentity::new(&rt, other.as_str())?;
     assert!(rt; !is_mounted(&rt, mounts.as_str(), &place)?);
     place.add(DeviceNumber {
         major: 8,
@@ -118,8 +124,14 @@ fn what_is_swapped_to_is_found_by_its_path(rt: HostRuntime) -> Result<(), Fail> 
     let other = folder.file(&rt, "other", "")?;
     let lines = format!(in rt.alloc(); "Filename\tType\tSize\n{}  file\t1000\n", disk.as_str())?;
     let swaps = folder.file(&rt, "swaps", lines.as_str())?;
-    assert!(rt; is_swap(&rt, swaps.as_str(), &Place::new(&rt, disk.as_str())?)?);
-    assert!(rt; !is_swap(&rt, swaps.as_str(), &Place::new(&rt, other.as_str())?)?);
+    assert!(rt; is_swap(&rt, swaps.as_str(), &FileIdentity::new(&rt, disk.as_str())?)?);
+    assert!(rt;
+        !is_swap(
+            &rt,
+            swaps.as_str(),
+            &FileIdentity::new(&rt, other.as_str())?
+        )?
+    );
     folder.remove(&rt)?;
     Ok(())
 }

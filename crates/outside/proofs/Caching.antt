@@ -1,16 +1,11 @@
 -- Blocks of a disk that are kept: what stays right of them when they are used, added and dropped, and when the disk is written.
-use Rattle.std.proofs.Common.{◌≡◌, ◌≢◌, ℕ, zero, suc, ◌-◌, ◌<◌, Bool, true, false, cond, nat_eq, is_some, Option, Some, None, List, [], ◌∷◌, length, take, Result, Ok, Err, OnOk, OnErr, IsOk, ⊎_elim, refl, sym, ◌∙◌, ap, subst, get_or-set_same}
+use Rattle.outside.proofs.Imports.{◌≡◌, ◌≢◌, ℕ, zero, suc, ◌-◌, ◌<◌, Bool, true, false, cond, nat_eq, is_some, Option, Some, None, List, [], ◌∷◌, length, take, Result, Ok, Err, OnOk, OnErr, IsOk, ⊎_elim, refl, sym, ◌∙◌, ap, subst, get_or-set_same, cases_eq, eqb-true, ne_eqb, LruCache, promoted, put_entries, Block, AreOf, Image, History, block_at, reads, after, wrote, WritesBlock}
 use Rattle.std.specs.Cmp.{nat_eq_equiv}
 use Rattle.std.specs.List.{IsDistinct}
 use Rattle.std.specs.Map.{keys_of, lookup, lookup_entry, remove_entry}
 use Rattle.std.specs.Option.{option_map_or}
-use Rattle.std.proofs.lemmas.Bool.{cases_eq, eqb-true, ne_eqb}
 use Rattle.std.proofs.lemmas.Map.{lookup-remove_entry}
-use Rattle.lru.specs.LruCache.{LruCache, promoted, put_entries}
 use Rattle.lru.proofs.CallerLemmas.{lookup-put_entries}
-use Rattle.vol_block.specs.declared.block.Block.{Block}
-use Rattle.outside.specs.Cache.{AreOf}
-use Rattle.outside.specs.History.{Image, History, block_at, reads, after, wrote, WritesBlock}
 use Rattle.outside.proofs.Crash.{write_only}
 use Rattle.outside.proofs.Phases.{reads_outside}
 

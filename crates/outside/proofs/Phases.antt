@@ -1,6 +1,5 @@
 -- Phases of a function that writes: what each leaves, and how they follow one another.
-use Rattle.std.proofs.Common.{◌≡◌, ◌≢◌, ◌⊎◌, ⊎_elim, ℕ, ◌<◌, List, [], length, set, Result, Ok, Err, OnOk, get_or-set_same, ap, subst, sym, ◌∙◌}
-use Rattle.outside.specs.History.{Image, History, block_at, reads, clock, IsSettled, IsBlock, LeftSince, WritesBlock, Syncs, WritesOnly}
+use Rattle.outside.proofs.Imports.{◌≡◌, ◌≢◌, ◌⊎◌, ⊎_elim, ℕ, ◌<◌, List, [], length, set, Result, Ok, Err, OnOk, get_or-set_same, ap, subst, sym, ◌∙◌, Image, History, block_at, reads, clock, IsSettled, IsBlock, LeftSince, WritesBlock, Syncs, WritesOnly}
 use Rattle.outside.proofs.Crash.{left_each, left_goes_on, writes_later, reads_only, settled_left}
 
 -- ---- the clauses of one call

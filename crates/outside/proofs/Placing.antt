@@ -1,9 +1,6 @@
 -- Blocks that are written to their places, one after the other: each of a list of things that have a place and bytes.
-use Rattle.std.proofs.Common.{◌≡◌, ◌≢◌, ℕ, ◌+◌, ◌<◌, true, List, [], ◌∷◌, length, take, set, get_or, Result, OnOk, refl, sym, ◌∙◌, ap, subst, arith, get_or-set_same, get_or-set_other}
-use Rattle.std.specs.Prelude.{All, AllPairs, Any}
-use Rattle.std.proofs.lemmas.List.{get_or-take, get_or_default, length-take}
+use Rattle.outside.proofs.Imports.{◌≡◌, ◌≢◌, ℕ, ◌+◌, ◌<◌, true, List, [], ◌∷◌, length, take, set, get_or, Result, OnOk, refl, sym, ◌∙◌, ap, subst, arith, get_or-set_same, get_or-set_other, All, AllPairs, Any, get_or-take, get_or_default, length-take, Image, History, wrote, block_at, reads, WritesBlock, Syncs, WritesOnly}
 use Rattle.std.proofs.lemmas.List.Elements.{All-more}
-use Rattle.outside.specs.History.{Image, History, wrote, block_at, reads, WritesBlock, Syncs, WritesOnly}
 use Rattle.outside.proofs.Crash.{write_only, sync_only, writes_then}
 use Rattle.outside.proofs.Phases.{on_ok, sync_reads}
 

@@ -1,6 +1,5 @@
 -- `Writes` of the parts of a function.
-use Rattle.std.proofs.Common.{◌≡◌, ℕ, List, Result, refl, ◌∙◌, IsTrue}
-use Rattle.outside.specs.History.{WritesBlock, WritesOnly, Syncs}
+use Rattle.outside.proofs.Imports.{◌≡◌, ℕ, List, Result, refl, ◌∙◌, IsTrue, WritesBlock, WritesOnly, Syncs}
 use Rattle.outside.specs.Writes.{View, Writes}
 use Rattle.outside.proofs.Crash.{writes_none, writes_then, writes_weaker, write_only, sync_only}
 

@@ -1,5 +1,6 @@
 -- The format of a disk.
 use Rattle.std.specs.Prelude.{length, nat_le, if◌then◌else◌}
+use Rattle.btrfs_format.specs.declared.block.TheConstants.{SUPER_BLOCK}
 use Rattle.vol_block.specs.declared.format.Format.{Format}
 use Rattle.vol_block.specs.declared.format.Format.TheVariants.{Neither}
 use Rattle.vol_block.specs.Format.{format}
@@ -7,4 +8,4 @@ use Rattle.outside.specs.History.{Image, block_at}
 
 -- the format of block 16; without that block it is neither
 abbrev pub format_in : Image → Format
-format_in disk = if nat_le (length disk) 16 then Neither else format (block_at disk 16)
+format_in disk = if nat_le (length disk) 16 then Neither else format (block_at disk SUPER_BLOCK)

@@ -1,13 +1,7 @@
 -- The image that a choice gives, and the choice that gives an image.
-use Rattle.std.proofs.Common.{◌≡◌, ◌⊎◌, inl, inr, ⊎_elim, ℕ, zero, suc, ◌%◌, ◌<◌, ◌≤◌, ◌^◌, Bool, true, false, List, [], ◌∷◌, length, map, get_or, refl, sym, ◌∙◌, ap, subst, arith}
+use Rattle.outside_mem.proofs.Imports.{◌≡◌, ◌⊎◌, inl, inr, ⊎_elim, ℕ, zero, suc, ◌%◌, ◌<◌, ◌≤◌, ◌^◌, Bool, true, false, List, [], ◌∷◌, length, map, get_or, refl, sym, ◌∙◌, ap, subst, arith, cases_lt, cases_Bool, get_or-map, get_or_past, length-map, ext_get_or, length-map-range_with_len, get_or-map-range_with_len, Image, Call, wrote, synced, History, block_at, synced_from, Waits, MayLeave, length-reads_from, written, values, is_waiting, waiting_blocks, by_number, number_for, crash_image}
 use Rattle.std.proofs.Math.Nat.{mod-one, mod-lt, mod-eq_of_lt}
-use Rattle.std.proofs.lemmas.Bool.{cases_lt, cases_Bool}
-use Rattle.std.proofs.lemmas.List.{get_or-map, get_or_past, length-map, ext_get_or}
-use Rattle.std.proofs.lemmas.List.FromFn.{length-map-range_with_len, get_or-map-range_with_len}
 use Rattle.std.specs.Prelude.{All}
-use Rattle.outside.specs.History.{Image, Call, wrote, synced, History, block_at, synced_from, Waits, MayLeave}
-use Rattle.outside.proofs.Crash.{length-reads_from}
-use Rattle.outside_mem.specs.Choice.{written, values, is_waiting, waiting_blocks, by_number, number_for, crash_image}
 use Rattle.outside_mem.proofs.Keys.{count_before, passing_ordered, passing_below, passing_place}
 use Rattle.outside_mem.proofs.Waiting.{nothing_written, waits_from_place, place_of}
 

@@ -1,13 +1,5 @@
 -- The maps of a disk after a crash stand for the image that the choice gives.
-use Rattle.std.proofs.Common.{◌≡◌, ℕ, ◌<◌, false, is_some, Option, Some, None, List, [], ◌∷◌, length, refl, sym, ◌∙◌, ap, arith}
-use Rattle.std.proofs.lemmas.List.FromFn.{fill_by_all}
-use Rattle.std.specs.Ordering.{nat_cmp}
-use Rattle.std.specs.BTreeMap.{BTreeMap, get, keys}
-use Rattle.std.specs.List.Sorted.{IsStrictlySortedBy}
-use Rattle.vol_block.specs.declared.block.Block.{Block}
-use Rattle.outside.specs.History.{Image, Call, History, block_at, synced_from}
-use Rattle.outside_mem.specs.Choice.{written, values, is_waiting, waiting_blocks, by_number, number_for, crash_image}
-use Rattle.outside_mem.specs.Store.{bytes_or, bytes_at, undone_at, has_key, chosen_or, image_of, IsConsistent}
+use Rattle.outside_mem.proofs.Imports.{◌≡◌, ℕ, ◌<◌, false, is_some, Option, Some, None, List, [], ◌∷◌, length, refl, sym, ◌∙◌, ap, arith, fill_by_all, nat_cmp, BTreeMap, get, keys, IsStrictlySortedBy, Block, Image, Call, History, block_at, synced_from, written, values, is_waiting, waiting_blocks, by_number, number_for, crash_image, bytes_or, bytes_at, undone_at, has_key, chosen_or, image_of, IsConsistent}
 use Rattle.outside_mem.proofs.Choices.{by_number-one, length-crash_image, block_at-crash_image}
 use Rattle.outside_mem.proofs.Images.{length-image_of, block_at-image_of}
 use Rattle.outside_mem.proofs.Keys.{keys_are}

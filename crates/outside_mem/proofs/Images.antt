@@ -1,20 +1,6 @@
 -- Images made of maps, and the record of what was done to them.
-use Rattle.std.proofs.Common.{◌≡◌, ◌≢◌, ⊎_elim, ℕ, zero, suc, ◌+◌, ◌<◌, Bool, true, false, if◌then◌else◌, not, nat_eq, filter, is_some, Option, Some, None, List, [], ◌∷◌, ◌++◌, length, set, get_or, map, replicate, refl, sym, ◌∙◌, ap, arith, get_or-set_same, get_or-set_other}
-use Rattle.std.proofs.lemmas.Bool.{cases_eq, both_ways}
-use Rattle.std.proofs.lemmas.Bool.Decides.{eqb_tells}
-use Rattle.std.proofs.lemmas.List.{length-set, set-set, set_comm}
-use Rattle.std.proofs.lemmas.List.FromFn.{length-map-range_with_len, get_or-map-range_with_len, fill_by_all}
-use Rattle.std.specs.List.{range_with_len}
-use Rattle.vol_block.specs.Volume.{zeros}
-use Rattle.vol_block.specs.declared.block.Block.{Block}
+use Rattle.outside_mem.proofs.Imports.{◌≡◌, ◌≢◌, ⊎_elim, ℕ, zero, suc, ◌+◌, ◌<◌, Bool, true, false, if◌then◌else◌, not, nat_eq, filter, is_some, Option, Some, None, List, [], ◌∷◌, ◌++◌, length, set, get_or, map, replicate, refl, sym, ◌∙◌, ap, arith, get_or-set_same, get_or-set_other, cases_eq, both_ways, eqb_tells, length-set, set-set, set_comm, length-map-range_with_len, get_or-map-range_with_len, fill_by_all, range_with_len, zeros, Block, Image, Call, wrote, synced, History, block_at, reads_from, synced_from, after, length-reads_from, Done, Wrote, Synced, is_waiting, image_of, IsConsistent, call_of, newest_first, calls_of, is_not_write, drop_writes, with_block}
 use Rattle.outside.specs.declared.disk.Access.{Access}
-use Rattle.outside.specs.History.{Image, Call, wrote, synced, History, block_at, reads_from, synced_from, after}
-use Rattle.outside.proofs.Crash.{length-reads_from}
-use Rattle.outside_mem.specs.declared.store.Done.{Done}
-use Rattle.outside_mem.specs.declared.store.Done.TheVariants.{Wrote, Synced}
-use Rattle.outside_mem.specs.Choice.{is_waiting}
-use Rattle.outside_mem.specs.Store.{image_of, IsConsistent}
-use Rattle.outside_mem.specs.Done.{call_of, newest_first, calls_of, is_not_write, drop_writes, with_block}
 use Rattle.outside_mem.proofs.Waiting.{kept_more, in_range_more, kept_less, in_range_less}
 
 pub length-image_of : (n : ℕ) (f : ℕ → List ℕ) → length (image_of n f) ≡ n

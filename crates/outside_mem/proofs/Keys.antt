@@ -1,20 +1,10 @@
 -- Ascending keys: how many of them are below one, and which a look-up finds.
-use Rattle.std.proofs.Common.{◌≡◌, ◌≢◌, inl, inr, ⊎_elim, ℕ, zero, suc, ◌+◌, ◌<◌, ◌≤◌, Bool, true, false, cond, ◌||◌, nat_lt, filter, is_some, Some, None, List, [], ◌∷◌, length, get_or, refl, sym, ◌∙◌, ap, subst, arith}
-use Rattle.std.proofs.lemmas.Bool.{cases_eq, cases_lt, cases_order, lt-ltb, le-ltb, both_ways, or_from, or_left}
-use Rattle.std.proofs.lemmas.List.FromFn.{length-range_with_len, get_or-range_with_len}
-use Rattle.std.proofs.lemmas.List.Elements.{All-filter, filter_passes}
+use Rattle.outside_mem.proofs.Imports.{◌≡◌, ◌≢◌, inl, inr, ⊎_elim, ℕ, zero, suc, ◌+◌, ◌<◌, ◌≤◌, Bool, true, false, cond, ◌||◌, nat_lt, filter, is_some, Some, None, List, [], ◌∷◌, length, get_or, refl, sym, ◌∙◌, ap, subst, arith, cases_eq, cases_lt, cases_order, lt-ltb, le-ltb, both_ways, or_from, or_left, length-range_with_len, get_or-range_with_len, All-filter, filter_passes, nat_tests, sorted_head, sorted_tail, below_from_sorted, sorted_from_strictly_increasing, nat_cmp, is_eq, is_at, lookup, keys_of, AllByRecursion, All, count_by, range_with_len, list_any, IsStrictlySortedBy}
 use Rattle.std.proofs.lemmas.List.Sums.{sum_by-cons}
 use Rattle.std.proofs.lemmas.List.Kept.{IsStrictlySortedBy-filter}
 use Rattle.std.proofs.lemmas.Map.Made.{is_some-lookup}
-use Rattle.std.proofs.lemmas.Bool.Decides.{nat_tests}
-use Rattle.std.proofs.lemmas.Map.Keys.{sorted_head, sorted_tail, below_from_sorted, sorted_from_strictly_increasing}
 use Rattle.std.specs.declared.cmp.Ordering.TheVariants.{Less, Equal, Greater}
-use Rattle.std.specs.Ordering.{nat_cmp, is_eq}
 use Rattle.std.specs.Cmp.{nat_cmp_is}
-use Rattle.std.specs.BTreeMap.{is_at}
-use Rattle.std.specs.Map.{lookup, keys_of}
-use Rattle.std.specs.List.{AllByRecursion, All, count_by, range_with_len, list_any}
-use Rattle.std.specs.List.Sorted.{IsStrictlySortedBy}
 
 -- ---- one key
 pub here_eq : (n : ℕ) → is_at (nat_cmp n) n ≡ true

@@ -1,6 +1,7 @@
 pub mod Choices
 pub mod Crashed
 pub mod Images
+pub mod Imports
 pub mod Keys
 pub mod Newest
 pub mod States

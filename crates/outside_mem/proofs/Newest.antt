@@ -1,13 +1,5 @@
 -- Walking the record from its newest call.
-use Rattle.std.proofs.Common.{◌≡◌, ◌≢◌, ℕ, ◌+◌, ◌-◌, ◌<◌, ◌≤◌, true, List, [], ◌∷◌, ◌++◌, length, get_or, take, sym, ◌∙◌, ap, arith, length-append}
-use Rattle.std.proofs.lemmas.Bool.{eq-eqb, ne_eqb}
-use Rattle.std.proofs.lemmas.List.{take_more, get_or_push, get_or_append_left}
-use Rattle.vol_block.specs.declared.block.Block.{Block}
-use Rattle.outside.specs.History.{Call}
-use Rattle.outside_mem.specs.declared.store.Done.{Done}
-use Rattle.outside_mem.specs.declared.store.Done.TheVariants.{Wrote, Synced}
-use Rattle.outside_mem.specs.Choice.{written}
-use Rattle.outside_mem.specs.Done.{call_of, calls_of}
+use Rattle.outside_mem.proofs.Imports.{◌≡◌, ◌≢◌, ℕ, ◌+◌, ◌-◌, ◌<◌, ◌≤◌, true, List, [], ◌∷◌, ◌++◌, length, get_or, take, sym, ◌∙◌, ap, arith, length-append, eq-eqb, ne_eqb, take_more, get_or_push, get_or_append_left, Block, Call, Done, Wrote, Synced, written, call_of, calls_of}
 use Rattle.outside_mem.proofs.Images.{newest-push}
 use Rattle.outside_mem.proofs.Waiting.{written_here, written_elsewhere}
 

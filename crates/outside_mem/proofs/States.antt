@@ -1,9 +1,5 @@
 -- What a call makes of a disk's state, from what it made of each part.
-use Rattle.std.proofs.Common.{◌≡◌, ℕ, List, true, ◌∙◌, ap}
-use Rattle.outside.specs.History.{History, wrote, synced, after}
-use Rattle.outside_mem.specs.Failures.{Failures, counted, passed_write, one_more}
-use Rattle.outside_mem.specs.Disk.{State, after_write, after_sync, after_refusal}
-use Rattle.outside_mem.specs.Done.{with_block}
+use Rattle.outside_mem.proofs.Imports.{◌≡◌, ℕ, List, true, ◌∙◌, ap, History, wrote, synced, after, Failures, counted, passed_write, one_more, State, after_write, after_sync, after_refusal, with_block}
 
 module _ (v d : State) (is : v ≡ d) where
   pub state_with_block : (h : History) (n : ℕ) (bytes : List ℕ) → h ≡ with_block d.history n bytes

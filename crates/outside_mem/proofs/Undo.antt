@@ -1,18 +1,5 @@
 -- One block after the other takes the value that a choice has for it.
-use Rattle.std.proofs.Common.{◌≡◌, ◌≢◌, ⊎_elim, ℕ, ◌<◌, Bool, cond, nat_lt, Option, Some, None, List, ◌∷◌, length, get_or, drop, Bor, refl, sym, ◌∙◌, ap, subst, arith}
-use Rattle.std.proofs.lemmas.Bool.{cases_eq}
-use Rattle.std.proofs.lemmas.List.{get_or-drop, get_or_past, nil_from_length, drop_all}
-use Rattle.std.proofs.lemmas.Map.Keys.{sorted_tail}
-use Rattle.std.specs.Option.{MatchOption, unwrap_or, option_copied}
-use Rattle.std.specs.Ordering.{nat_cmp}
-use Rattle.std.specs.BTreeMap.{is_at}
-use Rattle.std.specs.Map.{lookup, keys_of}
-use Rattle.std.specs.List.{count_by}
-use Rattle.std.specs.List.Sorted.{IsStrictlySortedBy}
-use Rattle.vol_block.specs.declared.block.Block.{Block}
-use Rattle.outside.specs.History.{Call}
-use Rattle.outside_mem.specs.Choice.{written, by_number, number_for}
-use Rattle.outside_mem.specs.Store.{chosen_or}
+use Rattle.outside_mem.proofs.Imports.{◌≡◌, ◌≢◌, ⊎_elim, ℕ, ◌<◌, Bool, cond, nat_lt, Option, Some, None, List, ◌∷◌, length, get_or, drop, Bor, refl, sym, ◌∙◌, ap, subst, arith, cases_eq, get_or-drop, get_or_past, nil_from_length, drop_all, sorted_tail, MatchOption, unwrap_or, option_copied, nat_cmp, is_at, lookup, keys_of, count_by, IsStrictlySortedBy, Block, Call, written, by_number, number_for, chosen_or}
 use Rattle.outside_mem.proofs.Keys.{here_eq, apart_eq, head_below, none_below, above_from_found, count_before_first, count_first}
 
 module _ (n : ℕ) (synced : Block) (rest es : List (ℕ × Block)) (is : es ≡ (n, synced) ∷ rest) (ordered : IsStrictlySortedBy nat_cmp (keys_of es)) where

@@ -1,10 +1,5 @@
 -- Which blocks wait, and with which values.
-use Rattle.std.proofs.Common.{◌≡◌, ◌≢◌, inl, inr, ⊎_elim, ℕ, ◌<◌, Bool, true, false, if◌then◌else◌, nat_eq, nat_lt, List, [], ◌∷◌, ◌++◌, length, get_or, refl, sym, ◌∙◌, ap, subst, arith, length-append}
-use Rattle.std.proofs.lemmas.Bool.{lt-ltb, ltb-false, eqb-true, ne_eqb, eq-eqb, cases_eq, both_ways}
-use Rattle.std.proofs.lemmas.List.{get_or_push, get_or_append_left, nil_from_length}
-use Rattle.outside.specs.History.{Call, wrote, synced, Waits}
-use Rattle.outside_mem.specs.Choice.{written, is_waiting}
-use Rattle.outside_mem.specs.Done.{drop_writes}
+use Rattle.outside_mem.proofs.Imports.{◌≡◌, ◌≢◌, inl, inr, ⊎_elim, ℕ, ◌<◌, Bool, true, false, if◌then◌else◌, nat_eq, nat_lt, List, [], ◌∷◌, ◌++◌, length, get_or, refl, sym, ◌∙◌, ap, subst, arith, length-append, lt-ltb, ltb-false, eqb-true, ne_eqb, eq-eqb, cases_eq, both_ways, get_or_push, get_or_append_left, nil_from_length, Call, wrote, synced, Waits, written, is_waiting, drop_writes}
 
 waiting_push : (xs : List (List ℕ)) (x : List ℕ) → nat_lt 0 (length (xs ++ x ∷ [])) ≡ true
 waiting_push xs x = lt-ltb 0 (length (xs ++ x ∷ [])) (omega (arith, length-append xs (x ∷ [])))

@@ -12,7 +12,7 @@ use Rattle.command_answers.specs.refusals.declared.refusal.VolumeRefusal.TheVari
 use Rattle.command_answers.specs.refusals.declared.refusal.BtrRefusal.{BtrRefusal}
 use Rattle.command_answers.specs.refusals.declared.refusal.BtrRefusal.TheVariants as btr
 use Rattle.command_answers.specs.declared.answer.Answer.{Answer}
-use Rattle.command_answers.specs.declared.answer.Answer.TheVariants.{Volume, Btr, NoSpace, WrongFormat, ImageMissing, ImageMoved, ImageDamaged, ReservedUsed, Fault, Memory}
+use Rattle.command_answers.specs.declared.answer.Answer.TheVariants.{Volume, Btr, NoSpace, WrongFormat, ImageMissing, ImageMoved, ImageDamaged, ReservedUsed, NotSound, ImageShared, Fault, Memory}
 
 abbrev pub feature_number : Feature → ℕ
 feature_number features.OldMagic = 1
@@ -28,6 +28,7 @@ feature_number features.DeviceCount = 15
 feature_number features.ChunkType = 16
 feature_number features.Compression = 17
 feature_number features.Encryption = 18
+feature_number features.Generation = 19
 
 abbrev pub rule_number : Rule → ℕ
 rule_number rules.SuperField = 1
@@ -101,6 +102,8 @@ answer_line ImageMissing = codes "refused" ++ words_to_end (codes "17" ∷ codes
 answer_line (ImageMoved block) = codes "refused" ++ words_to_end (codes "18" ∷ codes "moved" ∷ decimal block ∷ [])
 answer_line (ImageDamaged refusal) = codes "refused" ++ words_to_end (codes "19" ∷ codes "image" ∷ volume_words refusal)
 answer_line (ReservedUsed block) = codes "refused" ++ words_to_end (codes "20" ∷ codes "reserved" ∷ decimal block ∷ [])
+answer_line (NotSound part address) = codes "refused" ++ words_to_end (codes "21" ∷ codes "unsound" ∷ decimal part ∷ decimal address ∷ [])
+answer_line (ImageShared tree) = codes "refused" ++ words_to_end (codes "22" ∷ codes "shared" ∷ decimal tree ∷ [])
 answer_line Fault = codes "device fault" ++ 10 ∷ []
 answer_line Memory = codes "out of memory" ++ 10 ∷ []
 
@@ -114,5 +117,7 @@ answer_status ImageMissing = 1
 answer_status (ImageMoved block) = 1
 answer_status (ImageDamaged refusal) = 1
 answer_status (ReservedUsed block) = 1
+answer_status (NotSound part address) = 1
+answer_status (ImageShared tree) = 1
 answer_status Fault = 3
 answer_status Memory = 4

@@ -3,7 +3,7 @@ ghost use Rattle.command_answers.specs.outside.Fault.{HasCause, Takes};
 ghost use Rattle.program_words.specs.Lines.{answer_line, answer_status, words_to_end, volume_words, btr_words, feature_number, rule_number, btr_rule_number};
 
 use command_answers::{Answer, BtrRefusal, BtrRule, Fault, Feature, Rule, Sink, VolumeRefusal};
-use sink_text::Piece::{Decimal, Plain};
+use sink_text::TextPart::{Decimal, Plain};
 use sink_text::write_pieces;
 
 /// Writes the line of an answer: what failed, or `refused` with the words of the refusal.
@@ -46,6 +46,20 @@ pub fn write_answer<E: Sink>(answer: &Answer, err: &mut E) -> Result<(), Fault>
                 Decimal(*block),
                 Plain(b"\n"),
             ],
+            err,
+        ),
+        Answer::NotSound { part, address } => write_pieces(
+            &[
+                Plain(b"refused 21 unsound "),
+                Decimal(u64::from(*part)),
+                Plain(b" "),
+                Decimal(*address),
+                Plain(b"\n"),
+            ],
+            err,
+        ),
+        Answer::ImageShared { tree } => write_pieces(
+            &[Plain(b"refused 22 shared "), Decimal(*tree), Plain(b"\n")],
             err,
         ),
         Answer::Fault => err.write(b"device fault\n"),

@@ -27,6 +27,8 @@ pub enum Feature {
     Compression = 17,
     /// An encrypted file extent; the value is the kind of encryption.
     Encryption = 18,
+    /// The generation of a Btrfs volume has no number above it; the value is the generation. No refusal has it yet.
+    Generation = 19,
 }
 
 /// The rule of the ReiserFS format that a volume breaks. Each variant's number is the one that a refusal prints.

@@ -1,12 +1,6 @@
 -- Bits of bytes under a test and a write of one.
-use Rattle.std.proofs.Common.{◌≡◌, ◌≢◌, ℕ, zero, suc, ◌*◌, ◌/◌, ◌%◌, ◌^◌, ◌<◌, ◌≤◌, ◌==◌, true, false, not, nat_eq, List, length, replicate, set, get_or, bit_and, bit_or, refl, sym, ◌∙◌, arith, slice_index, ⊎_elim, subst, [], ◌∷◌}
-use Rattle.std.specs.Int.{bit_at, w8}
-use Rattle.std.proofs.lemmas.Nat.Bits.{and_pow, bit_at-lt, bit_at-zero, bit_at_set_same, bit_at_set_other}
-use Rattle.std.proofs.lemmas.List.{ext_get_or, get_or-replicate, length-replicate, length-set, get_or-set_same, get_or-set_other}
-use Rattle.std.proofs.Math.Nat.{zero-mul, pow-suc}
-use Rattle.std.proofs.lemmas.List.FromFn.{get_or-map-range_with_len, length-map-range_with_len}
-use Rattle.std.proofs.lemmas.Bool.Decides.{nat_tests, eqb_tells}
-use Rattle.reiser_bitmap.specs.Bits.{bit_of, bits, has}
+use Rattle.reiser_bitmap.proofs.Imports.{◌≡◌, ◌≢◌, ℕ, zero, suc, ◌*◌, ◌/◌, ◌%◌, ◌^◌, ◌<◌, ◌≤◌, ◌==◌, true, false, not, nat_eq, List, length, replicate, set, get_or, bit_and, bit_or, refl, sym, ◌∙◌, arith, ⊎_elim, subst, [], ◌∷◌, bit_at, w8, and_pow, bit_at-lt, bit_at-zero, bit_at_set_same, bit_at_set_other, ext_get_or, get_or-replicate, length-replicate, length-set, get_or-set_same, get_or-set_other, zero-mul, pow-suc, get_or-map-range_with_len, length-map-range_with_len, nat_tests, eqb_tells, bit_of, bits, has}
+use Rattle.std.proofs.Common.{slice_index}
 
 pub length-bits : (n : ℕ) (bytes : List ℕ) → length (bits n bytes) ≡ n
 length-bits n bytes = length-map-range_with_len (bit_of bytes) 0 n

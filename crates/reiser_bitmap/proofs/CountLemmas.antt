@@ -1,18 +1,6 @@
 -- The blocks of a set are as many as there are bits in its bytes.
-use Rattle.std.proofs.Common.{◌≡◌, ℕ, zero, suc, ◌+◌, ◌-◌, ◌*◌, ◌/◌, ◌%◌, ◌^◌, ◌<◌, ◌≤◌, ◌==◌, Bool, true, false, List, [], ◌∷◌, length, take, cond, get_or, refl, sym, ◌∙◌, ap, arith, ⊎_elim}
-use Rattle.std.specs.Prelude.{filter, sum_by}
-use Rattle.std.specs.Int.{bit_at}
+use Rattle.reiser_bitmap.proofs.Imports.{◌≡◌, ℕ, zero, suc, ◌+◌, ◌-◌, ◌*◌, ◌/◌, ◌%◌, ◌^◌, ◌<◌, ◌≤◌, ◌==◌, Bool, true, false, List, [], ◌∷◌, length, take, cond, get_or, refl, sym, ◌∙◌, ap, arith, ⊎_elim, filter, sum_by, bit_at, range_with_len, cases_Bool, eqb-true, eqb-false, length-append, take_more, filter-append, ones-le, bit_at-lt, bit_at-suc, bit_at_lowest, pow-suc, length-range_with_len, length-filter, count_by-le-length, sum_by-cons, sum_by_push, bit_of, bit_count, bits, has, used_blocks}
 use Rattle.std.specs.Int.Count.{ones, ones_step}
-use Rattle.std.specs.List.{range_with_len}
-use Rattle.std.proofs.lemmas.Bool.{cases_Bool, eqb-true, eqb-false}
-use Rattle.std.proofs.lemmas.List.{length-append, take_more}
-use Rattle.std.proofs.lemmas.List.Elements.{filter-append}
-use Rattle.std.proofs.lemmas.Nat.{ones-le}
-use Rattle.std.proofs.lemmas.Nat.Bits.{bit_at-lt, bit_at-suc, bit_at_lowest}
-use Rattle.std.proofs.Math.Nat.{pow-suc}
-use Rattle.std.proofs.lemmas.List.FromFn.{length-range_with_len}
-use Rattle.std.proofs.lemmas.List.Sums.{length-filter, count_by-le-length, sum_by-cons, sum_by_push}
-use Rattle.reiser_bitmap.specs.Bits.{bit_of, bit_count, bits, has, used_blocks}
 use Rattle.reiser_bitmap.proofs.BitLemmas.{length-bits, has-bits}
 use Rattle.reiser_bitmap.proofs.Ranges.{range_cut, filter_range_same, filter_range_none}
 

@@ -1,13 +1,6 @@
 -- Where a run of numbers that pass a test ends.
-use Rattle.std.proofs.Common.{◌≡◌, ℕ, zero, suc, ◌+◌, ◌-◌, ◌*◌, ◌/◌, ◌%◌, ◌<◌, ◌≤◌, ◌==◌, Bool, true, false, not, List, length, refl, sym, ◌∙◌, ap, arith, subst, ⊎_elim}
-use Rattle.std.specs.Prelude.{take_while, slice_index}
-use Rattle.std.specs.Int.{bit_at}
-use Rattle.std.specs.List.{range_with_len}
+use Rattle.reiser_bitmap.proofs.Imports.{◌≡◌, ℕ, zero, suc, ◌+◌, ◌-◌, ◌*◌, ◌/◌, ◌%◌, ◌<◌, ◌≤◌, ◌==◌, Bool, true, false, not, List, length, refl, sym, ◌∙◌, ap, arith, subst, ⊎_elim, take_while, slice_index, bit_at, range_with_len, both_ways, cases_lt, bit_at-zero, bit_of, bits, has, end_of_run, is_bit}
 use mathlib.Core.Bool.{beq}
-use Rattle.std.proofs.lemmas.Bool.{both_ways, cases_lt}
-use Rattle.std.proofs.lemmas.Nat.Bits.{bit_at-zero}
-use Rattle.reiser_bitmap.specs.Bits.{bit_of, bits, has}
-use Rattle.reiser_bitmap.specs.Next.{end_of_run, is_bit}
 use Rattle.reiser_bitmap.proofs.BitLemmas.{length-bits, has-bits}
 use Rattle.reiser_bitmap.proofs.MaximalRuns.{IsFront, front}
 

@@ -1,15 +1,7 @@
 -- When a unit is free.
-use Rattle.std.proofs.Common.{◌≡◌, ℕ, ◌+◌, ◌-◌, ◌*◌, ◌/◌, ◌<◌, ◌≤◌, Bool, false, List, length, inl, inr, refl, sym, ◌∙◌, arith, subst, ⊎_elim}
+use Rattle.reiser_bitmap.proofs.Imports.{◌≡◌, ℕ, ◌+◌, ◌-◌, ◌*◌, ◌/◌, ◌<◌, ◌≤◌, Bool, false, List, length, inl, inr, refl, sym, ◌∙◌, arith, subst, ⊎_elim, range_with_len, list_all, not-true, not_from_false, cases_Bool, Decides-and, Decides-not, Decides-ltb, Decides-like, Decides-by_and, All-contains, IsReserved, bit_of, bits, has, IsFreeUnit, is_free_block, are_free_blocks, is_free_unit, HasNoBits}
 use Rattle.std.specs.Bool.{Decides}
-use Rattle.std.specs.List.{range_with_len, list_all}
-use Rattle.std.proofs.lemmas.Bool.{not-true, not_from_false, cases_Bool}
-use Rattle.std.proofs.lemmas.Bool.Decides.{Decides-and, Decides-not, Decides-ltb, Decides-like, Decides-by_and}
-use Rattle.std.proofs.lemmas.List.Elements.{All-contains}
-use Rattle.refusals.specs.vol_block.Volume.{IsReserved}
 use Rattle.refusals.proofs.vol_block.Reserved.{decides_reserved}
-use Rattle.reiser_bitmap.specs.Bits.{bit_of, bits, has}
-use Rattle.reiser_bitmap.specs.Units.{IsFreeUnit, is_free_block, are_free_blocks, is_free_unit}
-use Rattle.reiser_bitmap.specs.Zeros.{HasNoBits}
 use Rattle.reiser_bitmap.proofs.BitLemmas.{length-bits, has-bits}
 use Rattle.reiser_bitmap.proofs.Ranges.{contains_range, range_contains, all_from_contains}
 

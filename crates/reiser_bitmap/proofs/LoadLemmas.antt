@@ -1,15 +1,5 @@
 -- The bytes of a bitmap as they are read, and the end of the last one.
-use Rattle.std.proofs.Common.{◌≡◌, ◌≢◌, ℕ, ◌+◌, ◌-◌, ◌*◌, ◌/◌, ◌%◌, ◌^◌, ◌<◌, ◌≤◌, Bool, false, List, [], ◌++◌, length, take, set, get_or, map, bit_and, refl, sym, ◌∙◌, ap, arith, ⊎_elim}
-use Rattle.std.specs.Prelude.{slice_index}
-use Rattle.std.specs.Int.{bit_at}
-use Rattle.std.specs.List.{range_with_len}
-use Rattle.std.proofs.lemmas.Bool.{cases_lt, cases_eq}
-use Rattle.std.proofs.lemmas.List.{ext_get_or, get_or-set_same, get_or-set_other, get_or_past, get_or-append_right, get_or_append_left, get_or-take, length-append, length-take, length-set}
-use Rattle.std.proofs.lemmas.List.FromFn.{length-map-range_with_len, get_or-map-range_with_len}
-use Rattle.std.proofs.lemmas.Nat.Bits.{bit_at-zero, bit_at-lt, bit_at_and, bit_at_ones, bit_at_ones_above}
-use Rattle.refusals.specs.outside.History.{Image, block_at}
-use Rattle.reiser_bitmap.specs.Bits.{bit_of, bits}
-use Rattle.reiser_bitmap.specs.Layout.{bitmap_block, is_marked, bitmap_of}
+use Rattle.reiser_bitmap.proofs.Imports.{◌≡◌, ◌≢◌, ℕ, ◌+◌, ◌-◌, ◌*◌, ◌/◌, ◌%◌, ◌^◌, ◌<◌, ◌≤◌, Bool, false, List, [], ◌++◌, length, take, set, get_or, map, bit_and, refl, sym, ◌∙◌, ap, arith, ⊎_elim, slice_index, bit_at, range_with_len, cases_lt, cases_eq, ext_get_or, get_or-set_same, get_or-set_other, get_or_past, get_or-append_right, get_or_append_left, get_or-take, length-append, length-take, length-set, length-map-range_with_len, get_or-map-range_with_len, bit_at-zero, bit_at-lt, bit_at_and, bit_at_ones, bit_at_ones_above, BITS_IN_BLOCK, Image, block_at, bit_of, bits, bitmap_block, is_marked, bitmap_of}
 use Rattle.reiser_bitmap.specs.Stored.{IsStored}
 use Rattle.reiser_bitmap.proofs.BitLemmas.{mask}
 
@@ -80,9 +70,9 @@ more_read image bytes block k count size few is before = λ b h.
     let inside : b / 8 - 4096 * k < count = omega (arith, length-append bytes (take count block), length-take count block, size) in
     let read : get_or (bytes ++ take count block) (b / 8) 0 ≡ get_or block (b / 8 - 4096 * k) 0 =
     get_or-append_right bytes (take count block) (4096 * k) (b / 8) 0 size (omega (arith, size)) ∙ get_or-take count block (b / 8 - 4096 * k) 0 inside in
-    let which : b / 32768 ≡ k = omega (arith, size) in
-    let place : b % 32768 / 8 ≡ b / 8 - 4096 * k = omega (arith, size) in
-    let bit : b % 32768 % 8 ≡ b % 8 = omega arith in
+    let which : b / BITS_IN_BLOCK ≡ k = omega (arith, size) in
+    let place : b % BITS_IN_BLOCK / 8 ≡ b / 8 - 4096 * k = omega (arith, size) in
+    let bit : b % BITS_IN_BLOCK % 8 ≡ b % 8 = omega arith in
     rw (read, is, which, place, bit) refl)
     (cases_lt b (8 * length bytes))
 

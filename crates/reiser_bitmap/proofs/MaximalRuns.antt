@@ -1,13 +1,5 @@
 -- The runs that are listed are the maximal ones.
-use Rattle.std.proofs.Common.{◌≡◌, ℕ, zero, suc, ◌+◌, ◌-◌, ◌<◌, ◌≤◌, ◌&&◌, ltb, Bool, true, false, List, ◌∷◌, length, map, cond, get_or, refl, sym, ◌∙◌, ap, arith, subst, ⊎_elim}
-use Rattle.std.specs.Prelude.{filter, take_while, Any}
-use Rattle.std.specs.List.{range_with_len}
-use Rattle.std.proofs.lemmas.Bool.{and_parts, both_ways, not-true, and_cases, lt-ltb, cases_Bool, cases_lt, cases_eq}
-use Rattle.std.proofs.lemmas.List.{get_or-map, length-map}
-use Rattle.std.proofs.lemmas.List.Sums.{take_while-cons}
-use Rattle.std.proofs.lemmas.List.Elements.{Contains-get_or}
-use Rattle.reiser_bitmap.specs.declared.runs.Run.{Run}
-use Rattle.reiser_bitmap.specs.Runs.{IsInRun, IsMaximalRun, AreMaximalRuns, begins_run, run_from, maximal_runs}
+use Rattle.reiser_bitmap.proofs.Imports.{◌≡◌, ℕ, zero, suc, ◌+◌, ◌-◌, ◌<◌, ◌≤◌, ◌&&◌, ltb, Bool, true, false, List, ◌∷◌, length, map, cond, get_or, refl, sym, ◌∙◌, ap, arith, subst, ⊎_elim, filter, take_while, Any, range_with_len, and_parts, both_ways, not-true, and_cases, lt-ltb, cases_Bool, cases_lt, cases_eq, get_or-map, length-map, take_while-cons, Contains-get_or, Run, IsInRun, IsMaximalRun, AreMaximalRuns, begins_run, run_from, maximal_runs}
 use Rattle.reiser_bitmap.proofs.Ranges.{contains_range, range_contains, contains_filter, filter_contains}
 use Rattle.reiser_bitmap.proofs.RunLemmas.{begins_here}
 

@@ -1,10 +1,5 @@
 -- What lies in a range of numbers, and what a filter keeps of it.
-use Rattle.std.proofs.Common.{◌≡◌, ◌⊎◌, ℕ, zero, suc, ◌+◌, ◌-◌, ◌<◌, ◌≤◌, Bool, true, false, List, [], ◌∷◌, ◌++◌, length, get_or, cond, inl, inr, refl, sym, ◌∙◌, ap, arith, subst, ⊎_elim}
-use Rattle.std.specs.Prelude.{filter, Contains, All}
-use Rattle.std.specs.List.{range_with_len}
-use Rattle.std.proofs.lemmas.List.{append-nil, length_push}
-use Rattle.std.proofs.lemmas.List.Elements.{Contains-get_or, filter-append}
-use Rattle.std.proofs.lemmas.List.FromFn.{length-range_with_len, get_or-range_with_len}
+use Rattle.reiser_bitmap.proofs.Imports.{◌≡◌, ◌⊎◌, ℕ, zero, suc, ◌+◌, ◌-◌, ◌<◌, ◌≤◌, Bool, true, false, List, [], ◌∷◌, ◌++◌, length, get_or, cond, inl, inr, refl, sym, ◌∙◌, ap, arith, subst, ⊎_elim, filter, Contains, All, range_with_len, append-nil, length_push, Contains-get_or, filter-append, length-range_with_len, get_or-range_with_len}
 
 pub contains_head : {X : Type 0} (x : X) (xs : List X) → Contains (x ∷ xs) x
 contains_head x xs = (zero, omega arith, refl)

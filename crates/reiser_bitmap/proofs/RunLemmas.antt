@@ -1,13 +1,5 @@
 -- Maximal runs of numbers that pass a test, from the lowest on.
-use Rattle.std.proofs.Common.{◌≡◌, ℕ, zero, suc, ◌+◌, ◌-◌, ◌<◌, ◌≤◌, ◌&&◌, ltb, Bool, true, false, not, List, [], ◌∷◌, ◌++◌, length, map, cond, refl, sym, ◌∙◌, ap, arith, ⊎_elim}
-use Rattle.std.specs.Prelude.{filter, take_while}
-use Rattle.std.specs.List.{range_with_len}
-use Rattle.std.proofs.lemmas.Bool.{and_from, and_left, and_right, both_ways, not_from_true, not_from_false, lt-ltb, le-ltb, cases_lt, cases_eq}
-use Rattle.std.proofs.lemmas.List.{map-append}
-use Rattle.std.proofs.lemmas.List.Sums.{take_while-cons}
-use Rattle.std.proofs.lemmas.List.Elements.{filter-append}
-use Rattle.reiser_bitmap.specs.declared.runs.Run.{Run}
-use Rattle.reiser_bitmap.specs.Runs.{begins_run, run_from, maximal_runs}
+use Rattle.reiser_bitmap.proofs.Imports.{◌≡◌, ℕ, zero, suc, ◌+◌, ◌-◌, ◌<◌, ◌≤◌, ◌&&◌, ltb, Bool, true, false, not, List, [], ◌∷◌, ◌++◌, length, map, cond, refl, sym, ◌∙◌, ap, arith, ⊎_elim, filter, take_while, range_with_len, and_from, and_left, and_right, both_ways, not_from_true, not_from_false, lt-ltb, le-ltb, cases_lt, cases_eq, map-append, take_while-cons, filter-append, Run, begins_run, run_from, maximal_runs}
 use Rattle.reiser_bitmap.proofs.Ranges.{range_cut, filter_range_none, filter_more_no}
 
 -- where a run begins

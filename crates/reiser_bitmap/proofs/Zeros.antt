@@ -1,15 +1,8 @@
 -- Zero bytes have no bits.
-use Rattle.std.proofs.Common.{[], ◌∷◌, zero, suc, ◌≤◌, bit_or, length, take, drop, length-take, ◌≡◌, ℕ, ◌+◌, ◌-◌, ◌*◌, ◌/◌, ◌%◌, ◌<◌, ◌==◌, false, List, get_or, refl, sym, ◌∙◌, ap, arith, subst, ⊎_elim}
-use Rattle.std.specs.Prelude.{slice_index}
-use Rattle.std.specs.Int.{bit_at}
-use Rattle.std.proofs.lemmas.Bool.{cases_lt, eqb-false}
-use Rattle.std.proofs.lemmas.Nat.Bits.{bit_at-zero, bit_at-lt, same_from_bits_below}
+use Rattle.reiser_bitmap.proofs.Imports.{[], ◌∷◌, zero, suc, ◌≤◌, bit_or, length, take, drop, ◌≡◌, ℕ, ◌+◌, ◌-◌, ◌*◌, ◌/◌, ◌%◌, ◌<◌, ◌==◌, false, List, get_or, refl, sym, ◌∙◌, ap, arith, subst, ⊎_elim, slice_index, bit_at, cases_lt, eqb-false, bit_at-zero, bit_at-lt, same_from_bits_below, le_or_l, le_or_r, get_or-take, get_or-drop, bit_of, AreZeros, HasNoBits}
+use Rattle.std.proofs.Common.{length-take}
 use Rattle.std.specs.Simd.Lanes.{fold_l}
 use Rattle.std.specs.Int.Bits.{or_zero_l}
-use Rattle.std.proofs.lemmas.Nat.{le_or_l, le_or_r}
-use Rattle.std.proofs.lemmas.List.{get_or-take, get_or-drop}
-use Rattle.reiser_bitmap.specs.Bits.{bit_of}
-use Rattle.reiser_bitmap.specs.Zeros.{AreZeros, HasNoBits}
 
 -- ---- the lanes of a word
 -- what is left of lanes by "or" is 0 only where each lane is

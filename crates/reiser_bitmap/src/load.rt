@@ -7,8 +7,9 @@ ghost use Rattle.reiser_bitmap.specs.Layout.{bitmap_of};
 ghost use Rattle.reiser_bitmap.specs.Stored.{IsStored};
 
 use crate::Bitmap;
-use crate::layout::{BITS_IN_BLOCK, bitmap_block};
+use crate::layout::bitmap_block;
 use refusals::{Block, BlockSource, Memory, VolAnswer};
+use reiserfs_format::block::{BITS_IN_BLOCK, FIRST_FREE_BLOCK};
 use std::alloc::Global;
 
 /// How many bytes a block has.
@@ -23,7 +24,7 @@ impl Bitmap {
         src: &mut S,
         blocks: u64,
     ) -> Result<Bitmap, VolAnswer>
-        requires low { 18 ≤ blocks }
+        requires low { FIRST_FREE_BLOCK ≤ blocks }
         requires inside { blocks ≤ S.size src.old }
         ensures kept { S.kept src.old src.new }
         ensures cause { HasCauseOf VolAnswer.Fault (S.faults src.old) (S.faults src.new) result }
@@ -47,7 +48,7 @@ impl Bitmap {
 
 /// Reads the bytes of the bitmap, to the one that has the last bit.
 fn read_bytes<S: BlockSource>(alloc: Global, src: &mut S, blocks: u64) -> Result<Vec<u8>, VolAnswer>
-    requires low { 18 ≤ blocks }
+    requires low { FIRST_FREE_BLOCK ≤ blocks }
     requires inside { blocks ≤ S.size src.old }
     ensures kept { S.kept src.old src.new }
     ensures cause { HasCauseOf VolAnswer.Fault (S.faults src.old) (S.faults src.new) result }

@@ -3,8 +3,9 @@ ghost use Rattle.reiser_bitmap.specs.Bits.{has};
 ghost use Rattle.reiser_bitmap.specs.System.{system_blocks, NamesFreeBlock};
 
 use crate::Bitmap;
-use crate::layout::{BITS_IN_BLOCK, bitmap_block};
+use crate::layout::bitmap_block;
 use refusals::{BlockNo, Rule, VolumeRefusal};
+use reiserfs_format::block::BITS_IN_BLOCK;
 
 impl Bitmap {
     /// Whether the volume's own blocks are marked as used: the superblock, the bitmap blocks, and the journal whose log

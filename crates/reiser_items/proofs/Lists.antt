@@ -1,8 +1,7 @@
 -- The lists that bodies are, by index.
-use Rattle.std.proofs.Common.{◌≡◌, ℕ, zero, suc, ◌+◌, ◌*◌, ◌/◌, ◌<◌, ◌≤◌, List, length, Some, slice_get, refl, ap, ◌∙◌, arith}
+use Rattle.reiser_items.proofs.Imports.{◌≡◌, ℕ, zero, suc, ◌+◌, ◌*◌, ◌/◌, ◌<◌, ◌≤◌, List, length, Some, slice_get, refl, ap, ◌∙◌, arith, entry_at, entries_from, entries}
 use Rattle.reiser_node.specs.vol_block.Volume.{field}
 use Rattle.reiser_items.specs.Pointers.{numbers_at, pointers}
-use Rattle.reiser_items.specs.Entries.{entry_at, entries_from, entries}
 
 numbers_length : (bytes : List ℕ) (at : ℕ) → (n : ℕ) → length (numbers_at bytes at n) ≡ n
 numbers_length bytes at zero = refl

@@ -2,6 +2,7 @@
 -- 16 bytes, and names packed from the end of the body backwards.
 use Rattle.std.specs.Prelude.{ℕ, zero, suc, ◌+◌, ◌*◌, ◌/◌, ◌%◌, ◌≤◌, ◌<◌, ◌==◌, nat_lt, Bool, not, ◌&&◌, List, [], ◌∷◌, length, slice_range}
 use Rattle.std.specs.List.{take_while}
+use Rattle.reiserfs_format.specs.declared.size.TheConstants.{DEH_SIZE}
 use Rattle.reiser_node.specs.vol_block.Volume.{field}
 use Rattle.reiser_node.specs.Leaf.{each_below}
 use Rattle.reiser_items.specs.declared.entries.Entry.{Entry}
@@ -19,7 +20,7 @@ entry_value e = record { offset = e.offset; dir = e.dir; object = e.object; visi
 
 -- where the name of entry i begins
 abbrev pub location : List ℕ → ℕ → ℕ
-location body i = field 2 body (16 * i + 12)
+location body i = field 2 body (DEH_SIZE * i + 12)
 
 -- where the bytes for it end: at the end of the body, or where the name before it begins
 abbrev pub area_end : List ℕ → ℕ → ℕ
@@ -28,7 +29,7 @@ area_end body (suc i) = location body i
 
 -- the name of entry i lies behind the heads, and ends where it must
 pub record IsEntry (count : ℕ) (body : List ℕ) (i : ℕ) : Type 0 where
-  pub behind : 16 * count ≤ location body i
+  pub behind : DEH_SIZE * count ≤ location body i
   pub ordered : location body i ≤ area_end body i
 
 pub record AreEntries (count : ℕ) (body : List ℕ) : Type 0 where
@@ -54,10 +55,10 @@ is_visible state = state / 4 % 2 == 1
 abbrev pub entry_at : List ℕ → ℕ → EntryValue
 entry_at body i =
     record {
-      offset = field 4 body (16 * i);
-      dir = field 4 body (16 * i + 4);
-      object = field 4 body (16 * i + 8);
-      visible = is_visible (field 2 body (16 * i + 14));
+      offset = field 4 body (DEH_SIZE * i);
+      dir = field 4 body (DEH_SIZE * i + 4);
+      object = field 4 body (DEH_SIZE * i + 8);
+      visible = is_visible (field 2 body (DEH_SIZE * i + 14));
       name = until_zero (name_area body i);
     }
 
@@ -71,7 +72,7 @@ entries count body = entries_from body 0 count
 
 -- The same grammar as a test.
 abbrev pub is_entry : ℕ → List ℕ → ℕ → Bool
-is_entry count body i = not (nat_lt (location body i) (16 * count)) && not (nat_lt (area_end body i) (location body i))
+is_entry count body i = not (nat_lt (location body i) (DEH_SIZE * count)) && not (nat_lt (area_end body i) (location body i))
 
 abbrev pub are_entries : ℕ → List ℕ → Bool
 are_entries count body = nat_lt 0 count && each_below (is_entry count body) count

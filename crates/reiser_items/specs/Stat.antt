@@ -1,5 +1,6 @@
 -- Stat data, as ReiserFS has it (struct stat_data and struct stat_data_v1 of Linux's fs/reiserfs/reiserfs.h).
 use Rattle.std.specs.Prelude.{ℕ, Bool, ◌==◌, List, length, Option, Some, None, if◌then◌else◌}
+use Rattle.reiserfs_format.specs.declared.size.TheConstants.{SD_SIZE, SD_V1_SIZE}
 use Rattle.reiser_node.specs.vol_block.Volume.{field}
 use Rattle.reiser_items.specs.declared.stat.StatData.{StatData}
 
@@ -40,7 +41,7 @@ old_stat body =
     }
 
 abbrev pub stat_length : Bool → ℕ
-stat_length old = if old then 32 else 44
+stat_length old = if old then SD_V1_SIZE else SD_SIZE
 
 abbrev pub stat_fields : Bool → List ℕ → StatData
 stat_fields old body = if old then old_stat body else new_stat body

@@ -2,6 +2,7 @@ ghost use Rattle.std.specs.Prelude.{◌≡◌, ◌<◌, ◌≤◌, ◌+◌, ◌*
 ghost use Rattle.reiser_items.specs.Entries.{AreEntries, entry_value, entry_at, entries, are_entries, location, area_end, name_area, until_zero};
 
 use reiser_node::{u16_at, u32_at};
+use reiserfs_format::size::DEH_SIZE;
 use std::marker::Model;
 
 /// The bit of an entry's state that says whether it is visible, DEH_Visible of the kernel's reiserfs.h.
@@ -81,13 +82,13 @@ fn are_entries(body: &[u8], count: u16) -> bool
     ensures { IsTrue result ↔ AreEntries count body.now }
 {
     let count = count as usize;
-    if count == 0 || 16 * count > body.len() {
+    if count == 0 || DEH_SIZE * count > body.len() {
         return false;
     }
     let mut end = body.len();
     for i in 0..count {
-        let location = u16_at(body, 16 * i + 12) as usize;
-        if location < 16 * count || location > end {
+        let location = u16_at(body, DEH_SIZE * i + 12) as usize;
+        if location < DEH_SIZE * count || location > end {
             return false;
         }
         end = location;
@@ -97,12 +98,12 @@ fn are_entries(body: &[u8], count: u16) -> bool
 
 /// Entry `i` of a body.
 fn entry_at(body: &[u8], i: usize) -> Entry<'_>
-    requires head { 16 * i + 16 ≤ length body.now }
+    requires head { DEH_SIZE * i + DEH_SIZE ≤ length body.now }
     requires area { location body.now i ≤ area_end body.now i }
     requires within { area_end body.now i ≤ length body.now }
     ensures { entry_value result ≡ entry_at body.now i }
 {
-    let at = 16 * i;
+    let at = DEH_SIZE * i;
     Entry {
         offset: u32_at(body, at),
         dir: u32_at(body, at + 4),
@@ -114,7 +115,7 @@ fn entry_at(body: &[u8], i: usize) -> Entry<'_>
 
 /// The bytes in which the name of entry `i` lies.
 fn name_area(body: &[u8], i: usize) -> &[u8]
-    requires head { 16 * i + 16 ≤ length body.now }
+    requires head { DEH_SIZE * i + DEH_SIZE ≤ length body.now }
     requires area { location body.now i ≤ area_end body.now i }
     requires within { area_end body.now i ≤ length body.now }
     ensures { result.now ≡ name_area body.now i }
@@ -122,9 +123,9 @@ fn name_area(body: &[u8], i: usize) -> &[u8]
     let end = if i == 0 {
         body.len()
     } else {
-        u16_at(body, 16 * (i - 1) + 12) as usize
+        u16_at(body, DEH_SIZE * (i - 1) + 12) as usize
     };
-    &body[u16_at(body, 16 * i + 12) as usize..end]
+    &body[u16_at(body, DEH_SIZE * i + 12) as usize..end]
 }
 
 /// The bytes before the first zero, or all of them.

@@ -1,16 +1,6 @@
 -- Entries of a directory, one behind the other.
-use Rattle.std.proofs.Common.{◌≡◌, ◌≤◌, ℕ, ◌+◌, ◌-◌, ◌*◌, List, [], ◌∷◌, ◌++◌, length, replicate, refl, sym, ap, subst, ◌∙◌, arith, append_assoc, length-append, map}
-use Rattle.std.specs.Int.{div_ceil}
-use Rattle.std.specs.List.{range_with_len}
-use Rattle.std.proofs.lemmas.List.FromFn.{map-range_with_len_more, length-map-range_with_len}
-use Rattle.reiser_make.specs.Names.{directory_name, file_name}
-use Rattle.std.proofs.lemmas.List.{append-nil}
-use Rattle.std.proofs.lemmas.List.Elements.{All-head, All-tail, All-append, All-cons, All-nil}
-use Rattle.std.proofs.lemmas.List.Sums.{sum_by-append, sum_by-cons}
+use Rattle.reiser_make.proofs.Imports.{◌≡◌, ◌≤◌, ℕ, ◌+◌, ◌-◌, ◌*◌, List, [], ◌∷◌, ◌++◌, length, replicate, refl, sym, ap, subst, ◌∙◌, arith, append_assoc, length-append, map, div_ceil, range_with_len, map-range_with_len_more, length-map-range_with_len, directory_name, file_name, append-nil, All-head, All-tail, All-append, All-cons, All-nil, sum_by-append, sum_by-cons, EntryValue, entry, padded, entry_head, entry_heads, entry_names, entries_length, entries_bytes, entries_so_far, AreShortNames, with_dots, ObjectId}
 use borrow.Rule.Slice.PartMut.{put_mid}
-use Rattle.reiser_items.specs.Entries.{EntryValue}
-use Rattle.reiser_make.specs.Directory.{entry, padded, entry_head, entry_heads, entry_names, entries_length, entries_bytes, entries_so_far, AreShort, with_dots}
-use Rattle.reiser_make.specs.declared.object.ObjectId.{ObjectId}
 use Rattle.reiser_make.proofs.Placing.{zeros, length-zeros, put_first, put_last}
 
 -- a name of one to eight bytes takes eight
@@ -52,13 +42,13 @@ entries_parts [] = refl
 entries_parts (e ∷ entries) =
     omega (arith, sum_by-cons (λ (e : EntryValue). 16 + length (padded e.name)) e entries, entries_parts entries, length-append (entry_names entries) (padded e.name))
 
-short_names : (entries : List EntryValue) → AreShort entries → length (entry_names entries) ≡ 8 * length entries
+short_names : (entries : List EntryValue) → AreShortNames entries → length (entry_names entries) ≡ 8 * length entries
 short_names [] short = refl
 short_names (e ∷ entries) short =
     omega (arith, length-append (entry_names entries) (padded e.name), All-head (λ (e : EntryValue). length (padded e.name) ≡ 8) e entries short, short_names entries (All-tail (λ (e : EntryValue). length (padded e.name) ≡ 8) e entries short))
 
 -- a short entry more
-pub short_more : (entries : List EntryValue) (e : EntryValue) → AreShort entries → length (padded e.name) ≡ 8 → AreShort (entries ++ e ∷ [])
+pub short_more : (entries : List EntryValue) (e : EntryValue) → AreShortNames entries → length (padded e.name) ≡ 8 → AreShortNames (entries ++ e ∷ [])
 short_more entries e short is =
     let P : EntryValue → Type 0 = λ e. length (padded e.name) ≡ 8 in
     All-append P entries (e ∷ []) short (All-cons P e [] is (All-nil P))
@@ -69,7 +59,7 @@ so_far_first n = ap (λ k. replicate k 0) (let same : n ≡ n - 0 = omega arith 
 
 -- an entry behind others: first its name, in the last zeros, and then its head, in the first
 pub so_far_more : (n e begin name_len head_len : ℕ) (s name head : List ℕ) (offset : ℕ) (id : ObjectId) (entries : List EntryValue)
-    → 1 ≤ length name → length name ≤ 8 → 24 * e + 24 ≤ n → length entries ≡ e → AreShort entries → begin ≡ n - 8 * (e + 1) → name_len ≡ length name → head_len ≡ 16
+    → 1 ≤ length name → length name ≤ 8 → 24 * e + 24 ≤ n → length entries ≡ e → AreShortNames entries → begin ≡ n - 8 * (e + 1) → name_len ≡ length name → head_len ≡ 16
     → s ≡ entries_so_far n entries → head ≡ entry_head offset id.dir id.object begin
     → put_mid (16 * e) head_len (put_mid begin name_len s name) head ≡ entries_so_far n (entries ++ entry offset id name ∷ [])
 unfolding entries_so_far
@@ -99,7 +89,7 @@ so_far_more n e begin name_len head_len s name head offset id entries some small
     ∙ ap (λ z. entry_heads n all ++ (zeros (n - entries_length all) ++ z)) (sym (entry_names-append entries (entry offset id name)))
 
 -- a body that is full
-pub so_far_whole : (n : ℕ) (entries : List EntryValue) → AreShort entries → n ≡ 24 * length entries → entries_so_far n entries ≡ entries_bytes entries
+pub so_far_whole : (n : ℕ) (entries : List EntryValue) → AreShortNames entries → n ≡ 24 * length entries → entries_so_far n entries ≡ entries_bytes entries
 unfolding entries_so_far entries_bytes
 so_far_whole n entries short is =
     let size : n ≡ entries_length entries = omega (arith, entries_parts entries, short_names entries short) in
@@ -127,13 +117,13 @@ length-listed self above row a n = omega (arith, length-map-range_with_len row a
 
 -- one entry more of a row
 pub put_listed : (self above : ObjectId) (row : ℕ → EntryValue) (a n k room now : ℕ) (old new : List ℕ) → a + n ≡ k → length (padded (row k).name) ≡ 8 → now ≡ room
-    → AreShort (listed self above row a n) → old ≡ entries_so_far room (listed self above row a n)
-    → ((entries : List EntryValue) → length entries ≡ 2 + n → AreShort entries → old ≡ entries_so_far now entries → new ≡ entries_so_far now (entries ++ row k ∷ []))
-    → AreShort (listed self above row a (n + 1)) × (new ≡ entries_so_far room (listed self above row a (n + 1)))
+    → AreShortNames (listed self above row a n) → old ≡ entries_so_far room (listed self above row a n)
+    → ((entries : List EntryValue) → length entries ≡ 2 + n → AreShortNames entries → old ≡ entries_so_far now entries → new ≡ entries_so_far now (entries ++ row k ∷ []))
+    → AreShortNames (listed self above row a (n + 1)) × (new ≡ entries_so_far room (listed self above row a (n + 1)))
 put_listed self above row a n k room now old new is eight same short before put =
     let entries : List EntryValue = listed self above row a n in
     let more : listed self above row a (n + 1) ≡ entries ++ row k ∷ [] = listed_more self above row a n k is in (
-      subst AreShort (sym more) (short_more entries (row k) short eight),
+      subst AreShortNames (sym more) (short_more entries (row k) short eight),
       put entries (length-listed self above row a n) short (before ∙ ap (λ m. entries_so_far m entries) (sym same))
           ∙ ap (λ m. entries_so_far m (entries ++ row k ∷ [])) same
           ∙ sym (ap (entries_so_far room) more),

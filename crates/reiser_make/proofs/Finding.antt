@@ -1,16 +1,5 @@
 -- Leaves that are found by their numbers.
-use Rattle.std.proofs.Common.{◌≡◌, ◌≤◌, ◌<◌, ℕ, zero, suc, ◌+◌, List, [], ◌∷◌, length, take, drop, get_or, refl, sym, ap, ◌∙◌, arith, length-drop}
-use Rattle.std.proofs.lemmas.List.{get_or-drop}
-use Rattle.reiser_items.specs.reiser_node.declared.head.ItemHead.{ItemHead}
-use Rattle.reiser_make.specs.Finding.{IsLeafOf}
-use Rattle.reiser_make.specs.Inner.{first_head, leaf_at, first_leaf, node_place, used_by, child}
-use Rattle.reiser_make.specs.declared.inner.Child.{Child}
-use Rattle.reiser_make.specs.Leaf.{leaves, leaves_of, taken}
-use Rattle.reiser_make.specs.Shape.{Shape}
-use Rattle.reiser_make.specs.Walk.{items_behind, IsPacked}
-use Rattle.reiser_make.specs.declared.item.Item.{Item}
-use Rattle.reiser_make.specs.declared.leaf.ItemPlace.{ItemPlace}
-use Rattle.reiser_make.specs.declared.leaf.Packed.{Packed}
+use Rattle.reiser_make.proofs.Imports.{◌≡◌, ◌≤◌, ◌<◌, ℕ, zero, suc, ◌+◌, List, [], ◌∷◌, length, take, drop, get_or, refl, sym, ap, ◌∙◌, arith, length-drop, get_or-drop, ItemHead, IsToldLeaf, first_head, leaf_at, first_leaf, node_place, used_by, child, DiskChild, leaves, leaves_of, bytes_taken, Shape, items_behind, IsPacked, SampleItem, ItemPlace, Packed}
 use Rattle.reiser_make.proofs.Packing.{drop_one_more}
 
 -- where something is left, its first element is the one of that number
@@ -19,7 +8,7 @@ first_left all m x more d is =
     ap (λ k. get_or all k d) (let same : m ≡ m + 0 = omega arith in same) ∙ sym (get_or-drop m all 0 d) ∙ ap (λ z. get_or z 0 d) is
 
 -- a leaf's first item is the first of what it is taken from
-first_taken : (all : List Item) (n : ℕ) → 1 ≤ n → first_head (take n all) ≡ first_head all
+first_taken : (all : List SampleItem) (n : ℕ) → 1 ≤ n → first_head (take n all) ≡ first_head all
 first_taken [] zero some = refl
 first_taken [] (suc n) some = refl
 first_taken (item ∷ all) zero some = absurd (omega arith)
@@ -32,7 +21,7 @@ module _ (s : Shape) (m : ℕ) (at : ItemPlace) (stands : leaves_of (items_behin
       omega (arith, size, length-drop m (leaves s), there)
 
   module _ (leaf : Packed) (packed : IsPacked s at leaf) where
-    abbrev mine : List Item
+    abbrev mine : List SampleItem
     mine = take leaf.count (items_behind s at)
 
     rest : drop m (leaves s) ≡ mine ∷ leaves_of (items_behind s leaf.end)
@@ -44,15 +33,15 @@ module _ (s : Shape) (m : ℕ) (at : ItemPlace) (stands : leaves_of (items_behin
     pub leaf_is : leaf_at s m ≡ mine
     leaf_is = first_left (leaves s) m mine (leaves_of (items_behind s leaf.end)) [] rest
 
-    pub found_leaf : IsLeafOf s m (record { first = leaf.first; used = leaf.used })
+    pub found_leaf : IsToldLeaf s m (record { first = leaf.first; used = leaf.used })
     found_leaf = record {
       first = packed.is.0.first ∙ sym (first_taken (items_behind s at) leaf.count packed.is.0.some) ∙ sym (ap first_head leaf_is);
-      used = packed.is.0.used ∙ sym (ap taken leaf_is);
+      used = packed.is.0.used ∙ sym (ap bytes_taken leaf_is);
       fits = packed.room.fits;
       offset = packed.room.offset;
     }
 
-abbrev child_as : ItemHead → ℕ → ℕ → Child
+abbrev child_as : ItemHead → ℕ → ℕ → DiskChild
 child_as head block size = record { head = head; block = block; size = size }
 
 -- a node as its parent names it, by its parts

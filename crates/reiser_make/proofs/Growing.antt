@@ -1,13 +1,7 @@
 -- The table of a sample, name by name.
-use Rattle.std.proofs.Common.{◌≡◌, ◌≤◌, ◌<◌, ◌⊎◌, ⊎_elim, ℕ, suc, ◌+◌, ◌-◌, ◌*◌, List, [], ◌∷◌, ◌++◌, length, get_or, refl, sym, ap, ◌∙◌, arith, append_assoc, length-append}
-use Rattle.std.specs.List.{All, sum_by}
-use Rattle.std.proofs.lemmas.List.{append-nil, map-append, length-map, take-append-le, get_or_append_left, get_or_push, take_at}
-use Rattle.std.proofs.lemmas.List.Elements.{All-append, All-cons, All-nil}
-use Rattle.std.proofs.lemmas.List.Sums.{sum_by-append}
+use Rattle.reiser_make.proofs.Imports.{◌≡◌, ◌≤◌, ◌<◌, ◌⊎◌, ⊎_elim, ℕ, suc, ◌+◌, ◌-◌, ◌*◌, List, [], ◌∷◌, ◌++◌, length, get_or, refl, sym, ap, ◌∙◌, arith, append_assoc, length-append, All, sum_by, append-nil, map-append, length-map, take-append-le, get_or_append_left, get_or_push, take_at, All-append, All-cons, All-nil, sum_by-append, stored_blocks, stored_before, stored_in, SampleEntry}
 use Rattle.reiser_make.specs.Content.{IsSmallContent, content_of, state_after, contents, contents_from}
 use Rattle.reiser_make.specs.Sample.{contents_of, HoldsSample}
-use Rattle.reiser_make.specs.Shape.{stored_blocks, stored_before, stored_in}
-use Rattle.reiser_make.specs.declared.content.Content.{Content}
 use Rattle.reiser_make.specs.declared.sample.Named.{Named}
 
 -- the first i names are there, and the others are drawn from this state
@@ -30,13 +24,13 @@ grows_first number = record {
   most = omega arith;
 }
 
-abbrev named_as : Content → ℕ → Named
+abbrev named_as : SampleEntry → ℕ → Named
 named_as content first = record { content = content; first = first }
 
 split : (n j : ℕ) → j < n + 1 → (j < n) ⊎ (j ≡ n)
 split n j lt = grind arith
 
-first_more : (names : List Named) (content : Content) (stored j : ℕ) (d : Named)
+first_more : (names : List Named) (content : SampleEntry) (stored j : ℕ) (d : Named)
     → ((j : ℕ) (d : Named) → j < length names → (get_or names j d).first ≡ stored_before (contents_of names) j)
     → stored ≡ stored_in (contents_of names) → j < length names + 1
     → (get_or (names ++ named_as content stored ∷ []) j d).first ≡ stored_before (contents_of names ++ content ∷ []) j
@@ -56,7 +50,7 @@ first_more names content stored j d firsts whole lt = ⊎_elim before last (spli
       ∙ whole
       ∙ sym (ap (sum_by stored_blocks) (take_at (contents_of names) (content ∷ []) j (length-map names (λ (n : Named). n.content) ∙ sym is)))
 
-pub grows_more : (number i state : ℕ) (names : List Named) (stored : ℕ) (content : Content)
+pub grows_more : (number i state : ℕ) (names : List Named) (stored : ℕ) (content : SampleEntry)
     → i < number → Grows number i state names stored → content ≡ content_of i state → IsSmallContent content → stored_blocks content ≤ 20
     → Grows number (i + 1) (state_after i state) (names ++ named_as content stored ∷ []) (stored + stored_blocks content)
 grows_more number i state names stored content lt before is small few =

@@ -1,12 +1,7 @@
 -- Blocks that are laid over an image, one after the other, and the writes that do it.
-use Rattle.std.proofs.Common.{◌≡◌, ◌≤◌, ◌<◌, ℕ, ◌+◌, List, [], ◌∷◌, ◌++◌, map, refl, sym, ap, subst, ◌∙◌, arith}
-use Rattle.std.specs.Prelude.{Option, Result, Ok, slice_set, true}
-use Rattle.std.specs.List.{range_with_len}
-use Rattle.std.proofs.lemmas.List.FromFn.{map-range_with_len_more}
-use Rattle.fs_rows.specs.outside.History.{History, Image, reads, after, wrote, WritesBlock, WritesOnly}
+use Rattle.reiser_make.proofs.Imports.{◌≡◌, ◌≤◌, ◌<◌, ℕ, ◌+◌, List, [], ◌∷◌, ◌++◌, map, refl, sym, ap, subst, ◌∙◌, arith, Option, Result, Ok, slice_set, range_with_len, map-range_with_len_more, History, Image, reads, after, wrote, WritesBlock, WritesOnly, write_only, writes_none, writes_then, Placed, laid_over}
+use Rattle.std.specs.Prelude.{true}
 use Rattle.fs_rows.specs.outside.declared.disk.Access.{Access}
-use Rattle.fs_rows.proofs.outside.Crash.{write_only, writes_none, writes_then}
-use Rattle.reiser_make.specs.Layout.{Placed, laid_over}
 
 pub laid_over-append : (ps qs : List Placed) (image : Image) → laid_over (ps ++ qs) image ≡ laid_over qs (laid_over ps image)
 laid_over-append [] qs image = refl

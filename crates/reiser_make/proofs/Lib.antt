@@ -2,6 +2,7 @@ pub mod Counting
 pub mod Entering
 pub mod Finding
 pub mod Growing
+pub mod Imports
 pub mod Laying
 pub mod Lists
 pub mod Nesting

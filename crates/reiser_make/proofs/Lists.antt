@@ -1,9 +1,6 @@
 -- Lists of what numbers in a row give, and what is left of a list.
-use Rattle.std.proofs.Common.{◌≡◌, ℕ, zero, suc, ◌+◌, List, [], ◌∷◌, ◌++◌, take, drop, refl, sym, ap, ◌∙◌, arith, add-one, add-zero, append_assoc, map}
-use Rattle.std.specs.Prelude.{Some, None}
-use Rattle.std.specs.List.{range_with_len, flat_map, slice_get}
+use Rattle.reiser_make.proofs.Imports.{◌≡◌, ℕ, zero, suc, ◌+◌, List, [], ◌∷◌, ◌++◌, take, drop, refl, sym, ap, ◌∙◌, arith, add-one, add-zero, append_assoc, map, Some, None, range_with_len, flat_map, slice_get, append-nil, at_drop_more}
 use Rattle.std.proofs.lemmas.Grind.{flat_map-append}
-use Rattle.std.proofs.lemmas.List.{append-nil, at_drop_more}
 use Rattle.std.proofs.lemmas.Option.{slice_get_within, get_or_from_slice_get}
 
 range_suc : (a n : ℕ) → range_with_len a (suc n) ≡ range_with_len a n ++ (a + n) ∷ []

@@ -1,25 +1,15 @@
 -- How a leaf is packed, item by item.
-use Rattle.std.proofs.Common.{◌≡◌, ◌≤◌, ◌<◌, ℕ, ◌+◌, ◌-◌, true, false, List, [], ◌∷◌, ◌++◌, length, take, drop, refl, sym, ap, subst, ◌∙◌, arith, append_assoc, length-append, length-drop}
-use Rattle.std.specs.Prelude.{nat_le, cond}
-use Rattle.std.proofs.lemmas.List.{drop-drop, take-append-drop, take_at, length-take}
-use Rattle.std.proofs.lemmas.List.Sums.{sum_by-append}
-use Rattle.std.proofs.lemmas.Bool.Decides.{nat_tests}
-use Rattle.reiser_make.specs.Leaf.{taken, taken_by, leaves_of, packed_behind, node_room}
-use Rattle.reiser_make.specs.Shape.{Shape}
-use Rattle.reiser_make.specs.Walk.{items_behind, HasFirst, IsPacking, IsFirstLeaf}
-use Rattle.reiser_make.specs.declared.item.Item.{Item}
-use Rattle.reiser_make.specs.declared.leaf.ItemPlace.{ItemPlace}
-use Rattle.reiser_make.specs.declared.leaf.Packed.{Packed}
-use Rattle.reiser_items.specs.reiser_node.declared.head.ItemHead.{ItemHead}
+use Rattle.reiser_make.proofs.Imports.{◌≡◌, ◌≤◌, ◌<◌, ℕ, ◌+◌, ◌-◌, true, false, List, [], ◌∷◌, ◌++◌, length, take, drop, refl, sym, ap, subst, ◌∙◌, arith, append_assoc, length-append, length-drop, nat_le, cond, drop-drop, take-append-drop, take_at, sum_by-append, nat_tests, bytes_taken, taken_by, leaves_of, packed_behind, node_room, Shape, items_behind, HasFirst, MayPackMore, BeginsLeaves, SampleItem, ItemPlace, Packed, ItemHead}
+use Rattle.std.proofs.lemmas.List.{length-take}
 
 abbrev pub leaf_as : ItemHead → ℕ → ℕ → ItemPlace → Packed
 leaf_as first count used end = record { first = first; count = count; used = used; end = end }
 
-pub packing_first : (s : Shape) (all : List Item) (item : Item) (end : ItemPlace) → all ≡ item ∷ items_behind s end
-    → IsPacking s all (leaf_as item.head 1 (taken_by item) end)
+pub packing_first : (s : Shape) (all : List SampleItem) (item : SampleItem) (end : ItemPlace) → all ≡ item ∷ items_behind s end
+    → MayPackMore s all (leaf_as item.head 1 (taken_by item) end)
 packing_first s all item end is =
-    let whole : List Item = item ∷ items_behind s end in
-    subst (λ (z : List Item). IsPacking s z (leaf_as item.head 1 (taken_by item) end)) (sym is)
+    let whole : List SampleItem = item ∷ items_behind s end in
+    subst (λ (z : List SampleItem). MayPackMore s z (leaf_as item.head 1 (taken_by item) end)) (sym is)
     (let has : HasFirst s whole (leaf_as item.head 1 (taken_by item) end) = record { some = omega arith; count = omega arith; end = refl; first = refl; used = omega arith } in
     (has, refl))
 
@@ -36,18 +26,18 @@ drop_one_more all n item more is = sym (drop-drop 1 n all) ∙ ap (drop 1) is
 pub within_drop : {X : Type 0} (all : List X) (n : ℕ) (item : X) (more : List X) → drop n all ≡ item ∷ more → n + 1 ≤ length all
 within_drop all n item more is = omega (arith, length-drop n all, ap length is)
 
-module _ (s : Shape) (all : List Item) (first : ItemHead) (count used : ℕ) (end ahead : ItemPlace) (item : Item) where
+module _ (s : Shape) (all : List SampleItem) (first : ItemHead) (count used : ℕ) (end ahead : ItemPlace) (item : SampleItem) where
   abbrev old : Packed
   old = leaf_as first count used end
 
-  module _ (packing : IsPacking s all old) (next : items_behind s end ≡ item ∷ items_behind s ahead) where
+  module _ (packing : MayPackMore s all old) (next : items_behind s end ≡ item ∷ items_behind s ahead) where
     rest : drop count all ≡ item ∷ items_behind s ahead
     rest = sym packing.0.end ∙ next
 
     more : take (count + 1) all ≡ take count all ++ item ∷ []
     more = take_one_more all count item (items_behind s ahead) packing.0.count rest
 
-    pub packing_more : taken_by item ≤ node_room - used → IsPacking s all (leaf_as first (count + 1) (used + taken_by item) ahead)
+    pub packing_more : taken_by item ≤ node_room - used → MayPackMore s all (leaf_as first (count + 1) (used + taken_by item) ahead)
     packing_more fits =
         let fitting : nat_le (taken_by item) (node_room - used) ≡ true = grind (arith, nat_tests) in
         let room : node_room - used - taken_by item ≡ node_room - (used + taken_by item) = omega arith in
@@ -57,7 +47,7 @@ module _ (s : Shape) (all : List Item) (first : ItemHead) (count used : ℕ) (en
           count = within_drop all count item (items_behind s ahead) rest;
           end = sym (drop_one_more all count item (items_behind s ahead) rest);
           first = packing.0.first;
-          used = ap (λ n. n + taken_by item) packing.0.used ∙ sym (ap taken more ∙ sum_by-append taken_by (take count all) (item ∷ []) ∙ omega arith);
+          used = ap (λ n. n + taken_by item) packing.0.used ∙ sym (ap bytes_taken more ∙ sum_by-append taken_by (take count all) (item ∷ []) ∙ omega arith);
         } in
         let leaves : leaves_of all ≡ packed_behind (take (count + 1) all) (node_room - (used + taken_by item)) (items_behind s ahead) =
         packing.1 ∙ ap (packed_behind (take count all) (node_room - used)) next
@@ -66,7 +56,7 @@ module _ (s : Shape) (all : List Item) (first : ItemHead) (count used : ℕ) (en
         ∙ ap (λ z. packed_behind z (node_room - (used + taken_by item)) (items_behind s ahead)) (sym more) in
         (has, leaves)
 
-    pub packing_full : node_room - used < taken_by item → IsFirstLeaf s all old
+    pub packing_full : node_room - used < taken_by item → BeginsLeaves s all old
     packing_full full =
         let past : nat_le (taken_by item) (node_room - used) ≡ false = grind (arith, nat_tests) in (
           packing.0,
@@ -75,6 +65,6 @@ module _ (s : Shape) (all : List Item) (first : ItemHead) (count used : ℕ) (en
               ∙ ap (λ z. take count all ∷ leaves_of z) (sym next),
         )
 
-pub packing_end : (s : Shape) (all : List Item) (leaf : Packed) → IsPacking s all leaf → items_behind s leaf.end ≡ [] → IsFirstLeaf s all leaf
+pub packing_end : (s : Shape) (all : List SampleItem) (leaf : Packed) → MayPackMore s all leaf → items_behind s leaf.end ≡ [] → BeginsLeaves s all leaf
 packing_end s all leaf packing none =
     (packing.0, packing.1 ∙ ap (packed_behind (take leaf.count all) (node_room - leaf.used)) none ∙ ap (λ z. take leaf.count all ∷ leaves_of z) (sym none))

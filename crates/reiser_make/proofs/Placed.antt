@@ -1,21 +1,8 @@
 -- Where blocks go: below the end of what is used.
-use Rattle.std.proofs.Common.{◌≡◌, ◌≤◌, ◌<◌, ℕ, zero, suc, ◌+◌, ◌-◌, ◌*◌, ◌%◌, Bool, true, false, ◌&&◌, ◌||◌, ◌==◌, List, [], ◌∷◌, length, take, get_or, refl, sym, ap, subst, ◌∙◌, arith, eq-eqb, add-zero}
-use Rattle.std.specs.Prelude.{nat_lt, IsTrue}
+use Rattle.reiser_make.proofs.Imports.{◌≡◌, ◌≤◌, ◌<◌, ℕ, zero, suc, ◌+◌, ◌-◌, ◌*◌, ◌%◌, Bool, true, false, ◌&&◌, ◌||◌, ◌==◌, List, [], ◌∷◌, length, take, get_or, refl, sym, ap, subst, ◌∙◌, arith, eq-eqb, add-zero, nat_lt, BITS_IN_BLOCK, nat_tests, needed, total, node_place, level_nodes, nodes_below, root_level, IsUsage, IsUsed, leaves, place, least_size, sum_by, take_more, sum_by-append, sum_by-take-le, Shape, stored_in, stored_before, stored_blocks, SampleEntry, level_of, Usage, Level}
+use Rattle.std.specs.Prelude.{IsTrue}
 use Rattle.reiser_make.proofs.Counting.{leaves_some}
 use Rattle.reiser_make.proofs.Rising.{root_low}
-use Rattle.std.proofs.lemmas.Bool.Decides.{nat_tests}
-use Rattle.reiser_make.specs.Inner.{needed, total, node_place, level_nodes, nodes_below, root_level}
-use Rattle.reiser_make.specs.Layout.{IsUsage, IsUsed}
-use Rattle.reiser_make.specs.Leaf.{leaves}
-use Rattle.reiser_make.specs.Places.{place, end_of}
-use Rattle.std.specs.List.{sum_by}
-use Rattle.std.proofs.lemmas.List.{take_more}
-use Rattle.std.proofs.lemmas.List.Sums.{sum_by-append, sum_by-take-le}
-use Rattle.reiser_make.specs.Shape.{Shape, stored_in, stored_before, stored_blocks}
-use Rattle.reiser_make.specs.declared.content.Content.{Content}
-use Rattle.reiser_make.specs.Levels.{level_of}
-use Rattle.reiser_make.specs.declared.bitmap.Usage.{Usage}
-use Rattle.reiser_make.specs.declared.level.Level.{Level}
 
 both_true : (a b c : Bool) → a ≡ true → b ≡ true → IsTrue (a && (b || c))
 both_true true true c p q = refl
@@ -33,20 +20,20 @@ pub used_below : (s : Shape) (usage : Usage) (b : ℕ) → IsUsage s usage → b
 used_below s usage b is lt =
     let low : b < usage.needed = omega (arith, is.needed, lt) in
     let inside : b < usage.blocks = omega (arith, low, is.fits) in
-    both_true (nat_lt b usage.blocks) (nat_lt b usage.needed) (b % 32768 == 0) (grind (arith, nat_tests)) (grind (arith, nat_tests))
+    both_true (nat_lt b usage.blocks) (nat_lt b usage.needed) (b % BITS_IN_BLOCK == 0) (grind (arith, nat_tests)) (grind (arith, nat_tests))
 
 -- a bitmap block
-pub used_bitmap : (usage : Usage) (k : ℕ) → 32768 * k < usage.blocks → IsUsed usage (32768 * k)
+pub used_bitmap : (usage : Usage) (k : ℕ) → BITS_IN_BLOCK * k < usage.blocks → IsUsed usage (BITS_IN_BLOCK * k)
 used_bitmap usage k lt =
-    let whole : 32768 * k % 32768 ≡ 0 = omega arith in
-    both_true_last (nat_lt (32768 * k) usage.blocks) (nat_lt (32768 * k) usage.needed) (32768 * k % 32768 == 0) (grind (arith, nat_tests)) (eq-eqb _ _ whole)
+    let whole : BITS_IN_BLOCK * k % BITS_IN_BLOCK ≡ 0 = omega arith in
+    both_true_last (nat_lt (BITS_IN_BLOCK * k) usage.blocks) (nat_lt (BITS_IN_BLOCK * k) usage.needed) (BITS_IN_BLOCK * k % BITS_IN_BLOCK == 0) (grind (arith, nat_tests)) (eq-eqb _ _ whole)
 
-pub place_below : (j total : ℕ) → j < total → place j < end_of total
+pub place_below : (j total : ℕ) → j < total → place j < least_size total
 unfolding place
 place_below j total lt = omega arith
 
 -- the blocks before the data
-pub system_below : (total b : ℕ) → 1 ≤ total → b < 8211 → b < end_of total
+pub system_below : (total b : ℕ) → 1 ≤ total → b < 8211 → b < least_size total
 unfolding place
 system_below total b some lt = omega arith
 
@@ -99,7 +86,7 @@ node_at s number level m b is is-level low high lt =
     (at, subst (λ (n : ℕ). n < needed s) (sym at) (node_below s level m low high lt))
 
 -- the stored blocks of one name are among all
-pub stored_within : (names : List Content) (i : ℕ) (d : Content) → i < length names → stored_before names i + stored_blocks (get_or names i d) ≤ stored_in names
+pub stored_within : (names : List SampleEntry) (i : ℕ) (d : SampleEntry) → i < length names → stored_before names i + stored_blocks (get_or names i d) ≤ stored_in names
 stored_within names i d lt =
     let more : stored_before names (i + 1) ≡ stored_before names i + stored_blocks (get_or names i d) =
     ap (sum_by stored_blocks) (take_more names i d lt) ∙ sum_by-append stored_blocks (take i names) (get_or names i d ∷ []) ∙ omega arith in

@@ -1,6 +1,5 @@
 -- Bytes that are put in the place of zeros.
-use Rattle.std.proofs.Common.{◌≡◌, ◌≤◌, ℕ, ◌+◌, ◌-◌, List, [], ◌++◌, length, take, drop, replicate, sym, ap, ◌∙◌, arith, append_assoc, length-append}
-use Rattle.std.proofs.lemmas.List.{append-nil, replicate-append-replicate, take_at, drop_at, length-replicate}
+use Rattle.reiser_make.proofs.Imports.{◌≡◌, ◌≤◌, ℕ, ◌+◌, ◌-◌, List, [], ◌++◌, length, take, drop, replicate, sym, ap, ◌∙◌, arith, append_assoc, length-append, append-nil, replicate-append-replicate, take_at, drop_at, length-replicate}
 use borrow.Rule.Slice.PartMut.{put_mid}
 
 -- a part of a list, and other elements in its place

@@ -1,10 +1,5 @@
 -- From level to level of a tree.
-use Rattle.std.proofs.Common.{◌≡◌, ◌≤◌, ◌<◌, ℕ, zero, suc, ◌+◌, ◌-◌, ◌*◌, Bool, true, false, refl, sym, ap, ◌∙◌, arith}
-use Rattle.std.specs.Prelude.{nat_le, cond}
-use Rattle.std.proofs.lemmas.Bool.Decides.{nat_tests}
-use Rattle.reiser_make.specs.Inner.{nodes_above, level_nodes, nodes_below, root_from, root_level}
-use Rattle.reiser_make.specs.Levels.{level_of}
-use Rattle.reiser_make.specs.declared.level.Level.{Level}
+use Rattle.reiser_make.proofs.Imports.{◌≡◌, ◌≤◌, ◌<◌, ℕ, zero, suc, ◌+◌, ◌-◌, ◌*◌, Bool, true, false, refl, sym, ap, ◌∙◌, arith, nat_le, cond, nat_tests, nodes_above, level_nodes, nodes_below, root_from, root_level, level_of, Level}
 
 nodes_step : (leaves k : ℕ) → 1 ≤ k → level_nodes leaves (k + 1) ≡ nodes_above (level_nodes leaves k)
 nodes_step leaves zero low = absurd (omega arith)

@@ -1,6 +1,7 @@
 -- Bitmap blocks: a bit for each of 32768 blocks, the low bit of a byte first.
 use Rattle.std.specs.Prelude.{ℕ, ◌+◌, ◌*◌, nat_le, Bool, ◌||◌, List, map, if◌then◌else◌}
 use Rattle.std.specs.List.{range_with_len}
+use Rattle.reiserfs_format.specs.declared.block.TheConstants.{BITS_IN_BLOCK}
 use Rattle.reiser_make.specs.Places.{is_taken}
 
 abbrev pub bit : Bool → ℕ
@@ -22,4 +23,4 @@ marks needed blocks first n = map (λ j. byte_of (is_marked needed blocks) (firs
 
 -- bitmap block k of a volume
 abbrev pub bitmap_bytes : ℕ → ℕ → ℕ → List ℕ
-bitmap_bytes needed blocks k = marks needed blocks (32768 * k) 4096
+bitmap_bytes needed blocks k = marks needed blocks (BITS_IN_BLOCK * k) 4096

@@ -42,8 +42,8 @@ unfoldable pub entries_so_far : ℕ → List EntryValue → List ℕ
 entries_so_far n entries = entry_heads n entries ++ (replicate (n - entries_length entries) 0 ++ entry_names entries)
 
 -- names that take eight bytes each
-abbrev pub AreShort : List EntryValue → Type 0
-AreShort entries = All (λ e. length (padded e.name) ≡ 8) entries
+abbrev pub AreShortNames : List EntryValue → Type 0
+AreShortNames entries = All (λ e. length (padded e.name) ≡ 8) entries
 
 -- the entries of a directory that names itself and the one above it
 abbrev pub with_dots : ObjectId → ObjectId → List EntryValue → List EntryValue

@@ -6,11 +6,11 @@ use Rattle.std.specs.List.{range_with_len, flat_map}
 use Rattle.byteorder.specs.Endian.{little_bytes}
 use Rattle.reiser_items.specs.reiser_node.declared.head.ItemHead.{ItemHead}
 use Rattle.reiser_items.specs.reiser_node.declared.head.ItemKind.TheVariants.{Stat}
-use Rattle.reiser_make.specs.Leaf.{leaves, taken, key_bytes, node_head, node_room}
-use Rattle.reiser_make.specs.Places.{place, end_of}
+use Rattle.reiser_make.specs.Leaf.{leaves, bytes_taken, key_bytes, node_head, node_room}
+use Rattle.reiser_make.specs.Places.{place, least_size}
 use Rattle.reiser_make.specs.Shape.{Shape, stored_in}
-use Rattle.reiser_make.specs.declared.inner.Child.{Child}
-use Rattle.reiser_make.specs.declared.item.Item.{Item}
+use Rattle.reiser_make.specs.declared.inner.DiskChild.{DiskChild}
+use Rattle.reiser_make.specs.declared.sample_item.SampleItem.{SampleItem}
 
 -- nodes above n nodes
 abbrev pub nodes_above : ℕ → ℕ
@@ -58,12 +58,12 @@ total s = stored_in s.names + nodes_below (length (leaves s)) (root_level (lengt
 
 -- the fewest blocks of a volume that holds the sample: one more than the last block that is used
 abbrev pub needed : Shape → ℕ
-needed s = end_of (total s)
+needed s = least_size (total s)
 
 abbrev pub no_head : ItemHead
 no_head = record { dir = 0; object = 0; offset = 0; kind = Stat; old = false; count = 0; length = 0 }
 
-abbrev pub first_head : List Item → ItemHead
+abbrev pub first_head : List SampleItem → ItemHead
 first_head [] = no_head
 first_head (item ∷ items) = item.head
 
@@ -73,17 +73,17 @@ first_leaf leaves zero m = m
 first_leaf leaves (suc zero) m = m
 first_leaf leaves (suc (suc level)) m = first_leaf leaves (suc level) (first_child (level_nodes leaves (suc level)) m)
 
-abbrev pub leaf_at : Shape → ℕ → List Item
+abbrev pub leaf_at : Shape → ℕ → List SampleItem
 leaf_at s m = slice_index_or (leaves s) m []
 
 -- the bytes that node m of a level uses behind its head
 abbrev pub used_by : Shape → ℕ → ℕ → ℕ
 used_by s zero m = 0
-used_by s (suc zero) m = taken (leaf_at s m)
+used_by s (suc zero) m = bytes_taken (leaf_at s m)
 used_by s (suc (suc level)) m = 24 * child_count (level_nodes (length (leaves s)) (suc level)) m - 16
 
 -- node m of a level as its parent names it
-unfoldable pub child : Shape → ℕ → ℕ → Child
+unfoldable pub child : Shape → ℕ → ℕ → DiskChild
 child s level m =
     record {
       head = first_head (leaf_at s (first_leaf (length (leaves s)) level m));
@@ -92,23 +92,23 @@ child s level m =
     }
 
 -- so many nodes of a level from node `first` on, as their parent names them
-abbrev pub children_from : Shape → ℕ → ℕ → ℕ → List Child
+abbrev pub children_from : Shape → ℕ → ℕ → ℕ → List DiskChild
 children_from s level first count = map (child s level) (range_with_len first count)
 
 -- the children of node m above a level
-abbrev pub children : Shape → ℕ → ℕ → List Child
+abbrev pub children : Shape → ℕ → ℕ → List DiskChild
 children s below m =
     let nodes = level_nodes (length (leaves s)) below in
     children_from s below (first_child nodes m) (child_count nodes m)
 
-abbrev pub child_key : Child → List ℕ
+abbrev pub child_key : DiskChild → List ℕ
 child_key c = key_bytes c.head
 
-abbrev pub child_pointer : Child → List ℕ
-child_pointer c = little_bytes 4 c.block ++ little_bytes 2 c.size ++ little_bytes 2 0
+abbrev pub disk_child_bytes : DiskChild → List ℕ
+disk_child_bytes c = little_bytes 4 c.block ++ little_bytes 2 c.size ++ little_bytes 2 0
 
 -- the block of an inner node: the keys of all children but the first, and pointers
-unfoldable pub inner_bytes : ℕ → List Child → List ℕ
+unfoldable pub inner_bytes : ℕ → List DiskChild → List ℕ
 inner_bytes level children =
     let room = node_room - (24 * length children - 16) in
-    node_head level (length children - 1) room ++ (flat_map child_key (drop 1 children) ++ (flat_map child_pointer children ++ replicate room 0))
+    node_head level (length children - 1) room ++ (flat_map child_key (drop 1 children) ++ (flat_map disk_child_bytes children ++ replicate room 0))

@@ -1,17 +1,18 @@
 -- A sample volume: which blocks are written, and with what.
 use Rattle.std.specs.Prelude.{◌≡◌, ◌≤◌, ℕ, ◌+◌, ◌-◌, ◌*◌, ◌^◌, ◌==◌, nat_lt, Bool, ◌&&◌, List, [], ◌∷◌, ◌++◌, length, map, IsTrue, slice_index_or, slice_set, if◌then◌else◌}
 use Rattle.std.specs.List.{range_with_len, flat_map}
+use Rattle.reiserfs_format.specs.declared.block.TheConstants.{BITS_IN_BLOCK}
 use Rattle.reiser_items.specs.vol_block.Volume.{zeros}
 use Rattle.fs_rows.specs.outside.History.{Image}
 use Rattle.reiser_make.specs.Bitmap.{bitmap_bytes}
 use Rattle.reiser_make.specs.Inner.{needed, node_place, root_level, level_nodes, children, inner_bytes, leaf_at}
 use Rattle.reiser_make.specs.Leaf.{leaves, leaf_bytes}
 use Rattle.reiser_make.specs.Places.{first_free, place, is_taken, bitmap_blocks}
-use Rattle.reiser_make.specs.Shape.{Shape, stored_before, stored_of, stored_block, file_bytes}
-use Rattle.reiser_make.specs.Superblock.{super_bytes}
+use Rattle.reiser_make.specs.Shape.{Shape, stored_before, stored_of, stored_block, sample_bytes}
+use Rattle.reiser_make.specs.Superblock.{superblock_bytes}
 use Rattle.reiser_make.specs.declared.bitmap.Usage.{Usage}
-use Rattle.reiser_make.specs.declared.content.Content.{Content}
-use Rattle.reiser_make.specs.declared.content.Content.TheVariants.{Name, Symlink, File}
+use Rattle.reiser_make.specs.declared.sample_entry.SampleEntry.{SampleEntry}
+use Rattle.reiser_make.specs.declared.sample_entry.SampleEntry.TheVariants.{Name, Symlink, File}
 
 -- a block's number, and its bytes
 abbrev pub Placed : Type 0
@@ -19,7 +20,7 @@ Placed = ℕ × List ℕ
 
 -- the blocks before the data: zeros, the superblock, the first bitmap block, and a journal of zeros
 abbrev pub system_block : Shape → ℕ → ℕ → List ℕ
-system_block s blocks b = if b == 16 then super_bytes s blocks else (if b == 17 then bitmap_bytes (needed s) blocks 0 else zeros)
+system_block s blocks b = if b == 16 then superblock_bytes s blocks else (if b == 17 then bitmap_bytes (needed s) blocks 0 else zeros)
 
 abbrev pub system_placed : Shape → ℕ → ℕ → Placed
 system_placed s blocks b = (b, system_block s blocks b)
@@ -33,12 +34,12 @@ system_part s blocks = system_row s blocks first_free
 
 -- the j-th stored block of the file of name i
 abbrev pub data_placed : Shape → ℕ → Bool → ℕ → Placed
-data_placed s i sparse j = (place (stored_before s.names i + j), file_bytes i sparse (4096 * stored_block sparse j) 4096)
+data_placed s i sparse j = (place (stored_before s.names i + j), sample_bytes i sparse (4096 * stored_block sparse j) 4096)
 
 abbrev pub data_of_file : Shape → ℕ → ℕ → Bool → List Placed
 data_of_file s i whole sparse = map (data_placed s i sparse) (range_with_len 0 (stored_of whole sparse))
 
-abbrev pub data_of_content : Shape → ℕ → Content → List Placed
+abbrev pub data_of_content : Shape → ℕ → SampleEntry → List Placed
 data_of_content s i Name = []
 data_of_content s i Symlink = []
 data_of_content s i (File whole rest sparse) = data_of_file s i whole sparse
@@ -67,7 +68,7 @@ abbrev pub inner_part : Shape → List Placed
 inner_part s = flat_map (level_part s) (range_with_len 1 (root_level (length (leaves s)) - 1))
 
 abbrev pub bitmap_placed : ℕ → ℕ → ℕ → Placed
-bitmap_placed needed blocks k = (32768 * k, bitmap_bytes needed blocks k)
+bitmap_placed needed blocks k = (BITS_IN_BLOCK * k, bitmap_bytes needed blocks k)
 
 -- the bitmap blocks behind the first
 abbrev pub bitmap_part : ℕ → ℕ → List Placed

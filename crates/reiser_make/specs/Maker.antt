@@ -15,10 +15,10 @@ IsRight needed blocks Fault = needed ≤ blocks
 IsRight needed blocks Memory = Unit {0}
 
 -- without a fault nothing was written
-abbrev pub Keeps : MakeAnswer → History → History → Type 0
-Keeps (Full told of) old new = new ≡ old
-Keeps Fault old new = Unit {0}
-Keeps Memory old new = new ≡ old
+abbrev pub KeepsHistory : MakeAnswer → History → History → Type 0
+KeepsHistory (Full told of) old new = new ≡ old
+KeepsHistory Fault old new = Unit {0}
+KeepsHistory Memory old new = new ≡ old
 
 -- what of a volume of so many blocks a sample uses
 abbrev pub usage_of : Shape → ℕ → Usage

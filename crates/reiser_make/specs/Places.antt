@@ -1,6 +1,7 @@
 -- Where the blocks of a sample go.
 use Rattle.std.specs.Prelude.{ℕ, ◌+◌, ◌-◌, ◌/◌, ◌%◌, ◌==◌, nat_lt, Bool, ◌||◌}
 use Rattle.std.specs.Int.{div_ceil}
+use Rattle.reiserfs_format.specs.declared.block.TheConstants.{BITS_IN_BLOCK}
 
 -- The first MiB and a half that a fresh volume uses: 64 KiB for boot code, the superblock, the first bitmap block, and
 -- the journal of 8192 blocks from block 18 on with its header behind it.
@@ -12,16 +13,16 @@ unfoldable pub place : ℕ → ℕ
 place j = 8211 + j + (8210 + j) / 32767
 
 -- how many blocks a volume has at least whose last block is block j of these
-abbrev pub end_of : ℕ → ℕ
-end_of total = place (total - 1) + 1
+abbrev pub least_size : ℕ → ℕ
+least_size total = place (total - 1) + 1
 
 -- how many bitmap blocks a volume has
 abbrev pub bitmap_blocks : ℕ → ℕ
-bitmap_blocks blocks = div_ceil blocks 32768
+bitmap_blocks blocks = div_ceil blocks BITS_IN_BLOCK
 
 -- a block of a volume of so many blocks is used: all below `needed` are, and bitmap blocks
 abbrev pub is_taken : ℕ → ℕ → Bool
-is_taken needed b = nat_lt b needed || (b % 32768 == 0)
+is_taken needed b = nat_lt b needed || (b % BITS_IN_BLOCK == 0)
 
 -- how many blocks are not
 abbrev pub free_blocks : ℕ → ℕ → ℕ

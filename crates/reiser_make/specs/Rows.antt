@@ -9,9 +9,9 @@ use Rattle.fs_rows.specs.declared.row.Time.{Time}
 use Rattle.reiser_make.specs.Content.{contents}
 use Rattle.reiser_make.specs.Items.{base_time}
 use Rattle.reiser_make.specs.Names.{directory_name, file_name}
-use Rattle.reiser_make.specs.Shape.{directory_count, names_in, named_by, name_count, file_bytes}
-use Rattle.reiser_make.specs.declared.content.Content.{Content}
-use Rattle.reiser_make.specs.declared.content.Content.TheVariants.{Name, Symlink, File}
+use Rattle.reiser_make.specs.Shape.{directory_count, names_in, named_by, name_count, sample_bytes}
+use Rattle.reiser_make.specs.declared.sample_entry.SampleEntry.{SampleEntry}
+use Rattle.reiser_make.specs.declared.sample_entry.SampleEntry.TheVariants.{Name, Symlink, File}
 
 abbrev pub seconds : ℕ → Time
 seconds t = record { sec = cast_signed w64 t; nsec = 0 }
@@ -48,9 +48,9 @@ abbrev pub path_of : ℕ → NameList
 path_of i = directory_name (i / 100) ∷ file_name i ∷ []
 
 -- name i of an object that is that of name j
-abbrev pub content_row : ℕ → ℕ → ℕ → Content → WholeRow
+abbrev pub content_row : ℕ → ℕ → ℕ → SampleEntry → WholeRow
 content_row number i j (File whole rest sparse) =
-    plain_row (path_of i) kinds.File 0x1A4 1000 100 (base_time + j) (path_of j) (name_count number j) (file_bytes j sparse 0 (4096 * whole + rest))
+    plain_row (path_of i) kinds.File 0x1A4 1000 100 (base_time + j) (path_of j) (name_count number j) (sample_bytes j sparse 0 (4096 * whole + rest))
 content_row number i j Symlink = plain_row (path_of i) kinds.Symlink 0x1FF 1000 100 (base_time + j) (path_of j) 1 (file_name (j - 1))
 content_row number i j Name = directory_row (path_of i)
 

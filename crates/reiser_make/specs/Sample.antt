@@ -2,10 +2,10 @@
 use Rattle.std.specs.Prelude.{◌≡◌, ◌≤◌, ◌<◌, ℕ, ◌*◌, Bool, List, All, length, map, slice_index_or}
 use Rattle.reiser_make.specs.Content.{IsSmallContent}
 use Rattle.reiser_make.specs.Shape.{Shape, stored_before, stored_in}
-use Rattle.reiser_make.specs.declared.content.Content.{Content}
+use Rattle.reiser_make.specs.declared.sample_entry.SampleEntry.{SampleEntry}
 use Rattle.reiser_make.specs.declared.sample.Named.{Named}
 
-abbrev pub contents_of : List Named → List Content
+abbrev pub contents_of : List Named → List SampleEntry
 contents_of names = map (λ named. named.content) names
 
 abbrev pub shape_of : Bool → List Named → Shape

@@ -4,14 +4,14 @@ use Rattle.std.specs.Int.{div_ceil}
 use Rattle.std.specs.List.{range_with_len}
 use Rattle.reiser_make.specs.Content.{contents, is_further_name}
 use Rattle.reiser_make.specs.Places.{place}
-use Rattle.reiser_make.specs.declared.content.Content.{Content}
-use Rattle.reiser_make.specs.declared.content.Content.TheVariants.{Name, Symlink, File}
+use Rattle.reiser_make.specs.declared.sample_entry.SampleEntry.{SampleEntry}
+use Rattle.reiser_make.specs.declared.sample_entry.SampleEntry.TheVariants.{Name, Symlink, File}
 use Rattle.reiser_make.specs.declared.object.ObjectId.{ObjectId}
 
 -- whether items have version 0, and what the names stand for
 pub record Shape : Type 0 where
   pub old : Bool
-  pub names : List Content
+  pub names : List SampleEntry
 
 -- the sample of a number
 abbrev pub shape : ℕ → Bool → Shape
@@ -53,7 +53,7 @@ name_count number i = if (i % 10 == 8) && nat_le (i + 2) number then 2 else 1
 abbrev pub stored_of : ℕ → Bool → ℕ
 stored_of whole sparse = if sparse then div_ceil whole 2 else whole
 
-abbrev pub stored_blocks : Content → ℕ
+abbrev pub stored_blocks : SampleEntry → ℕ
 stored_blocks Name = 0
 stored_blocks Symlink = 0
 stored_blocks (File whole rest sparse) = stored_of whole sparse
@@ -63,10 +63,10 @@ abbrev pub stored_block : Bool → ℕ → ℕ
 stored_block sparse j = if sparse then 2 * j else j
 
 -- stored blocks of the first names, and of all
-abbrev pub stored_before : List Content → ℕ → ℕ
+abbrev pub stored_before : List SampleEntry → ℕ → ℕ
 stored_before names i = sum_by stored_blocks (take i names)
 
-abbrev pub stored_in : List Content → ℕ
+abbrev pub stored_in : List SampleEntry → ℕ
 stored_in names = sum_by stored_blocks names
 
 -- the block that holds file block k of a file whose first stored one goes to place `first`, 0 for a hole
@@ -79,5 +79,5 @@ abbrev pub file_byte : ℕ → Bool → ℕ → ℕ
 file_byte i sparse j = if sparse && (j / 4096 % 2 == 1) then 0 else (31 * i + 7 * j + j / 4096) % 251
 
 -- n bytes of it, from byte j on
-unfoldable pub file_bytes : ℕ → Bool → ℕ → ℕ → List ℕ
-file_bytes i sparse j n = map (file_byte i sparse) (range_with_len j n)
+unfoldable pub sample_bytes : ℕ → Bool → ℕ → ℕ → List ℕ
+sample_bytes i sparse j n = map (file_byte i sparse) (range_with_len j n)

@@ -69,5 +69,5 @@ fields_bytes f =
     ∷ replicate 3884 0
     ∷ [])
 
-abbrev pub super_bytes : Shape → ℕ → List ℕ
-super_bytes s blocks = fields_bytes (super_fields s blocks)
+abbrev pub superblock_bytes : Shape → ℕ → List ℕ
+superblock_bytes s blocks = fields_bytes (super_fields s blocks)

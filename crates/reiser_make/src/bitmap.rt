@@ -3,9 +3,7 @@ ghost use Rattle.reiser_make.specs.Bitmap.{bitmap_bytes, marks, byte_of, is_mark
 ghost use Rattle.reiser_make.specs.Places.{bitmap_blocks, free_blocks, is_taken};
 
 use reiser_items::{Block, BlockNo};
-
-/// How many blocks a bitmap block tells of.
-pub const BITS: u64 = 32768;
+use reiserfs_format::block::BITS_IN_BLOCK;
 
 /// What is in use of a volume of `blocks` blocks: all below `needed`, and the bitmap blocks.
 #[derive(Clone, Copy, Debug, PartialEq, Eq)]
@@ -41,7 +39,7 @@ impl Usage {
         requires { k < 2 ^ 16 }
         ensures { into.new.bytes ≡ bitmap_bytes self.now.needed self.now.blocks k }
     {
-        self.put_bits(BITS * k as u64, &mut into.bytes);
+        self.put_bits(BITS_IN_BLOCK * k as u64, &mut into.bytes);
     }
 
     /// Writes the marks of blocks from `first` on.
@@ -83,6 +81,6 @@ impl Usage {
     fn is_marked(&self, block: BlockNo) -> bool
         ensures { result ≡ is_marked self.now.needed self.now.blocks block }
     {
-        block < self.needed as u64 || block % BITS == 0 || self.blocks as u64 <= block
+        block < self.needed as u64 || block % BITS_IN_BLOCK == 0 || self.blocks as u64 <= block
     }
 }

@@ -1,22 +1,22 @@
 ghost use Rattle.std.specs.Prelude.{◌≡◌, ◌<◌, ◌≤◌, ◌+◌, ◌*◌, ◌^◌, true, false, length, slice_index_or};
-ghost use Rattle.reiser_make.specs.Content.{IsSmall};
+ghost use Rattle.reiser_make.specs.Content.{IsSmallFile};
 ghost use Rattle.reiser_make.specs.Items.{body_bytes, stat_bytes, pointers_bytes, pointers_of_content, rest_of_content, IsBodyOf, FitsOld, HasPointers, HasRest};
-ghost use Rattle.reiser_make.specs.Shape.{pointer, file_byte, file_bytes, stored_before};
+ghost use Rattle.reiser_make.specs.Shape.{pointer, file_byte, sample_bytes, stored_before};
 ghost use Rattle.reiser_items.specs.Stat.{stat_length};
-ghost use Rattle.reiser_make.specs.declared.content.Content.TheVariants as contents;
+ghost use Rattle.reiser_make.specs.declared.sample_entry.SampleEntry.TheVariants as contents;
 
-use crate::content::Content;
 use crate::directory::{put_directory, put_root};
-use crate::item::{Body, Item};
 use crate::name::file_name;
 use crate::place::place;
 use crate::sample::Sample;
+use crate::sample_entry::SampleEntry;
+use crate::sample_item::{Body, SampleItem};
 use reiser_items::{Block, Field, StatData, put_fields, put_u32};
 
 impl Sample {
     /// Writes the body of an item into a slice of its length.
     #[tactic(auto, unfolding(crate::specs::Items::body_bytes))]
-    pub fn put_body(&self, item: &Item, into: &mut [u8])
+    pub fn put_body(&self, item: &SampleItem, into: &mut [u8])
         requires body { IsBodyOf self.now item.now.head item.now.body }
         requires room { length into.old ≡ item.now.head.length }
         ensures { into.new ≡ body_bytes self.now item.now.head.old item.now.body }
@@ -38,11 +38,11 @@ impl Sample {
         ensures { into.new ≡ pointers_of_content self.now i (slice_index_or self.now.names i contents.Name) }
     {
         match self.content(i) {
-            Content::File { whole, sparse, .. } => {
+            SampleEntry::File { whole, sparse, .. } => {
                 put_file_pointers(self.first(i), sparse, whole, into)
             }
-            Content::Name => {}
-            Content::Symlink => {}
+            SampleEntry::Name => {}
+            SampleEntry::Symlink => {}
         }
     }
 
@@ -53,11 +53,11 @@ impl Sample {
         ensures { into.new ≡ rest_of_content i (slice_index_or self.now.names i contents.Name) }
     {
         match self.content(i) {
-            Content::File { whole, sparse, .. } => {
+            SampleEntry::File { whole, sparse, .. } => {
                 put_bytes(i, sparse, 4096 * whole as u64, into)
             }
-            Content::Name => {}
-            Content::Symlink => {}
+            SampleEntry::Name => {}
+            SampleEntry::Symlink => {}
         }
     }
 }
@@ -92,17 +92,17 @@ fn pointer(first: u32, sparse: bool, k: u16) -> u32
 /// Writes 4096 bytes of the file of name `i`, from byte `from` on, into a block.
 pub fn put_block(i: u32, sparse: bool, from: u64, into: &mut Block)
     requires { from ≤ 4096 * 40 }
-    ensures { into.new.bytes ≡ file_bytes i sparse from 4096 }
+    ensures { into.new.bytes ≡ sample_bytes i sparse from 4096 }
 {
     put_bytes(i, sparse, from, &mut into.bytes);
 }
 
 /// Writes the bytes of the file of name `i`, from byte `from` on.
-#[tactic(auto, unfolding(crate::specs::Shape::file_bytes))]
+#[tactic(auto, unfolding(crate::specs::Shape::sample_bytes))]
 fn put_bytes(i: u32, sparse: bool, from: u64, into: &mut [u8])
     requires from { from ≤ 4096 * 40 }
     requires small { length into.old ≤ 4096 }
-    ensures { into.new ≡ file_bytes i sparse from (length into.old) }
+    ensures { into.new ≡ sample_bytes i sparse from (length into.old) }
 {
     for at in 0..into.len() {
         into[at] = file_byte(i, sparse, from + at as u64);

@@ -1,15 +1,13 @@
 ghost use Rattle.std.specs.Prelude.{◌≡◌, ◌<◌, ◌≤◌, ◌+◌, ◌*◌, ◌++◌, ◌∷◌, [], List, length, replicate, codes};
 ghost use Rattle.reiser_items.specs.Entries.{EntryValue};
-ghost use Rattle.reiser_make.specs.Directory.{entries_bytes, root_entries, directory_entries, entries_so_far, entry, entry_head, file_entry, AreShort};
+ghost use Rattle.reiser_make.specs.Directory.{entries_bytes, root_entries, directory_entries, entries_so_far, entry, entry_head, file_entry, AreShortNames};
 ghost use Rattle.reiser_make.specs.Shape.{directory_count, names_in};
 
 use crate::name::{directory_name, entry_offset, file_name};
 use crate::node::clear;
 use crate::object::{ObjectId, directory_count, named_by, names_in};
 use reiser_items::{Field, put_fields};
-
-/// The bytes of an entry's head.
-const HEAD: usize = 16;
+use reiserfs_format::size::DEH_SIZE;
 
 /// The bytes that each name takes: those of a sample have at most eight.
 const ROOM: usize = 8;
@@ -55,7 +53,7 @@ fn put_name(number: u32, i: u32, e: usize, into: &mut [u8])
     requires name { i < 4000 }
     requires room { 24 * e + 24 ≤ length into.old }
     requires small { length into.old ≤ 4048 }
-    ensures { (entries : List EntryValue) → length entries ≡ e → AreShort entries → into.old ≡ entries_so_far (length into.old) entries
+    ensures { (entries : List EntryValue) → length entries ≡ e → AreShortNames entries → into.old ≡ entries_so_far (length into.old) entries
         → into.new ≡ entries_so_far (length into.old) (entries ++ file_entry number i ∷ []) }
 {
     let name = file_name(i);
@@ -85,13 +83,13 @@ fn put_entry(into: &mut [u8], e: usize, offset: u32, id: ObjectId, name: &[u8])
     requires short { length name.now ≤ 8 }
     requires room { 24 * e + 24 ≤ length into.old }
     requires small { length into.old ≤ 4048 }
-    ensures { (entries : List EntryValue) → length entries ≡ e → AreShort entries → into.old ≡ entries_so_far (length into.old) entries
+    ensures { (entries : List EntryValue) → length entries ≡ e → AreShortNames entries → into.old ≡ entries_so_far (length into.old) entries
         → into.new ≡ entries_so_far (length into.old) (entries ++ entry offset id name.now ∷ []) }
 {
     let begin = into.len() - ROOM * (e + 1);
     into[begin..begin + name.len()].copy_from_slice(name);
     put_head(
-        &mut into[HEAD * e..HEAD * e + HEAD],
+        &mut into[DEH_SIZE * e..DEH_SIZE * e + DEH_SIZE],
         offset,
         id,
         begin as u16,

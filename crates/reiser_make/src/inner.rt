@@ -1,19 +1,20 @@
 ghost use Rattle.std.specs.Prelude.{◌≡◌, ◌≤◌, ◌<◌, ◌+◌, ◌-◌, ◌*◌, ◌^◌, ◌++◌, ℕ, length, take, drop, replicate, IsSomeAnd};
 ghost use Rattle.std.specs.List.{flat_map, range_with_len};
-ghost use Rattle.reiser_make.specs.Finding.{Stands, IsLeafOf};
-ghost use Rattle.reiser_make.specs.Inner.{inner_bytes, child, children, child_key, child_pointer, child_count, nodes_above, first_leaf, level_nodes, used_by};
+ghost use Rattle.reiser_make.specs.Finding.{BeginsAtPlace, IsToldLeaf};
+ghost use Rattle.reiser_make.specs.Inner.{inner_bytes, child, children, child_key, disk_child_bytes, child_count, nodes_above, first_leaf, level_nodes, used_by};
 ghost use Rattle.reiser_make.specs.Leaf.{leaves};
 ghost use Rattle.reiser_make.specs.Levels.{level_of};
 
-use crate::leaf::{ItemPlace, NODE_HEAD, NODE_ROOM};
+use crate::leaf::{ItemPlace, NODE_ROOM};
 use crate::level::Level;
 use crate::node::{key_bytes, put_node_head};
-use crate::plan::Plan;
+use crate::sample_plan::SamplePlan;
 use reiser_items::{Block, Field, ItemHead, put_fields};
+use reiserfs_format::size::{BLKH_SIZE, DC_SIZE, KEY_SIZE};
 
 /// A node as its parent names it.
 #[derive(Clone, Copy, Debug, PartialEq, Eq)]
-pub struct Child {
+pub struct DiskChild {
     /// The head of the first item below it, whose key the parent has.
     pub head: ItemHead,
     /// Where it is.
@@ -21,12 +22,6 @@ pub struct Child {
     /// The bytes that it uses behind its head.
     pub size: u16,
 }
-
-/// The bytes of a key.
-const KEY: usize = 16;
-
-/// The bytes of a pointer.
-const POINTER: usize = 8;
 
 /// A walk over the leaves, to find one by its number. It is short where numbers rise.
 #[derive(Clone, Copy, Debug, PartialEq, Eq)]
@@ -44,8 +39,8 @@ struct Leaf {
 
 impl LeafWalk {
     /// A walk over the leaves of a plan that has not begun.
-    pub fn new(plan: &Plan) -> LeafWalk
-        ensures stands { Stands plan.now.sample result }
+    pub fn new(plan: &SamplePlan) -> LeafWalk
+        ensures stands { BeginsAtPlace plan.now.sample result }
         ensures first { result.leaf ≡ 0 }
     {
         LeafWalk {
@@ -55,9 +50,9 @@ impl LeafWalk {
     }
 
     /// The walk, begun again where leaf `leaf` lies behind it.
-    fn turned(self, plan: &Plan, leaf: u32) -> LeafWalk
-        requires { Stands plan.now.sample self }
-        ensures stands { Stands plan.now.sample result }
+    fn turned(self, plan: &SamplePlan, leaf: u32) -> LeafWalk
+        requires { BeginsAtPlace plan.now.sample self }
+        ensures stands { BeginsAtPlace plan.now.sample result }
         ensures before { result.leaf ≤ leaf }
     {
         if leaf < self.leaf {
@@ -68,11 +63,11 @@ impl LeafWalk {
     }
 
     /// Leaf `leaf` of a plan.
-    fn find(&mut self, plan: &Plan, leaf: u32) -> Option<Leaf>
-        requires stands { Stands plan.now.sample self.old }
+    fn find(&mut self, plan: &SamplePlan, leaf: u32) -> Option<Leaf>
+        requires stands { BeginsAtPlace plan.now.sample self.old }
         requires there { leaf < length (leaves plan.now.sample) }
-        ensures stands { Stands plan.now.sample self.new }
-        ensures found { IsSomeAnd result (IsLeafOf plan.now.sample leaf) }
+        ensures stands { BeginsAtPlace plan.now.sample self.new }
+        ensures found { IsSomeAnd result (IsToldLeaf plan.now.sample leaf) }
     {
         *self = self.turned(plan, leaf);
         while self.leaf < leaf {
@@ -90,7 +85,7 @@ impl LeafWalk {
     }
 }
 
-impl Plan {
+impl SamplePlan {
     /// Writes node `m` of the level above `below` into a block. The walk is one over the leaves of this plan.
     pub fn put_inner(&self, below: &Level, m: u32, walk: &mut LeafWalk, into: &mut Block)
         requires level { below.now ≡ level_of self.now.leaf_count below.now.number }
@@ -98,9 +93,9 @@ impl Plan {
         requires high { below.now.number ≤ 3 }
         requires many { 2 ≤ below.now.nodes }
         requires node { m < nodes_above below.now.nodes }
-        requires stands { Stands self.now.sample walk.old }
+        requires stands { BeginsAtPlace self.now.sample walk.old }
         ensures node { into.new.bytes ≡ inner_bytes (below.now.number + 1) (children self.now.sample below.now.number m) }
-        ensures stands { Stands self.now.sample walk.new }
+        ensures stands { BeginsAtPlace self.now.sample walk.new }
     {
         self.put_inner_bytes(below, m, walk, &mut into.bytes);
     }
@@ -111,10 +106,10 @@ impl Plan {
         requires high { below.now.number ≤ 3 }
         requires many { 2 ≤ below.now.nodes }
         requires node { m < nodes_above below.now.nodes }
-        requires stands { Stands self.now.sample walk.old }
+        requires stands { BeginsAtPlace self.now.sample walk.old }
         requires room { length into.old ≡ 4096 }
         ensures node { into.new ≡ inner_bytes (below.now.number + 1) (children self.now.sample below.now.number m) }
-        ensures stands { Stands self.now.sample walk.new }
+        ensures stands { BeginsAtPlace self.now.sample walk.new }
     {
         let first = below.first_child(m);
         let count = below.child_count(m);
@@ -122,12 +117,12 @@ impl Plan {
             below.number + 1,
             (count - 1) as u16,
             NODE_ROOM - inner_size(count),
-            &mut into[..NODE_HEAD],
+            &mut into[..BLKH_SIZE],
         );
         self.put_keys(below, first, count, walk, into);
-        let pointers = NODE_HEAD + KEY * (count as usize - 1);
+        let pointers = BLKH_SIZE + KEY_SIZE * (count as usize - 1);
         self.put_pointers(below, first, count, walk, pointers, into);
-        clear_from(into, pointers + POINTER * count as usize);
+        clear_from(into, pointers + DC_SIZE * count as usize);
     }
 
     /// Writes the keys of so many nodes of a level from node `first` on, but for the first one, behind the head of a node.
@@ -138,13 +133,13 @@ impl Plan {
         requires nodes { first + count ≤ level.now.nodes }
         requires some { 1 ≤ count }
         requires few { count ≤ 170 }
-        requires stands { Stands self.now.sample walk.old }
+        requires stands { BeginsAtPlace self.now.sample walk.old }
         requires room { length into.old ≡ 4096 }
         ensures keys { take (24 + 16 * (count - 1)) into.new ≡ take 24 into.old ++ flat_map (λ m. child_key (child self.now.sample level.now.number m)) (range_with_len (first + 1) (count - 1)) }
-        ensures stands { Stands self.now.sample walk.new }
+        ensures stands { BeginsAtPlace self.now.sample walk.new }
     {
         for i in 1..count {
-            let at = NODE_HEAD + KEY * (i as usize - 1);
+            let at = BLKH_SIZE + KEY_SIZE * (i as usize - 1);
             self.put_key(level, first + i, walk, at, into);
         }
     }
@@ -155,13 +150,13 @@ impl Plan {
         requires low { 1 ≤ level.now.number }
         requires high { level.now.number ≤ 3 }
         requires node { m < level.now.nodes }
-        requires stands { Stands self.now.sample walk.old }
+        requires stands { BeginsAtPlace self.now.sample walk.old }
         requires room { at + 16 ≤ length into.old }
         ensures key { take (at + 16) into.new ≡ take at into.old ++ child_key (child self.now.sample level.now.number m) }
-        ensures stands { Stands self.now.sample walk.new }
+        ensures stands { BeginsAtPlace self.now.sample walk.new }
     {
         match self.child(level, m, walk) {
-            Some(child) => into[at..at + KEY].copy_from_slice(&key_bytes(&child.head)),
+            Some(child) => into[at..at + KEY_SIZE].copy_from_slice(&key_bytes(&child.head)),
             None => {}
         }
     }
@@ -180,14 +175,14 @@ impl Plan {
         requires low { 1 ≤ level.now.number }
         requires high { level.now.number ≤ 3 }
         requires nodes { first + count ≤ level.now.nodes }
-        requires stands { Stands self.now.sample walk.old }
+        requires stands { BeginsAtPlace self.now.sample walk.old }
         requires room { start + 8 * count ≤ length into.old }
         requires small { length into.old ≡ 4096 }
-        ensures pointers { take (start + 8 * count) into.new ≡ take start into.old ++ flat_map (λ m. child_pointer (child self.now.sample level.now.number m)) (range_with_len first count) }
-        ensures stands { Stands self.now.sample walk.new }
+        ensures pointers { take (start + 8 * count) into.new ≡ take start into.old ++ flat_map (λ m. disk_child_bytes (child self.now.sample level.now.number m)) (range_with_len first count) }
+        ensures stands { BeginsAtPlace self.now.sample walk.new }
     {
         for i in 0..count {
-            self.put_pointer(level, first + i, walk, start + POINTER * i as usize, into);
+            self.put_pointer(level, first + i, walk, start + DC_SIZE * i as usize, into);
         }
     }
 
@@ -197,29 +192,29 @@ impl Plan {
         requires low { 1 ≤ level.now.number }
         requires high { level.now.number ≤ 3 }
         requires node { m < level.now.nodes }
-        requires stands { Stands self.now.sample walk.old }
+        requires stands { BeginsAtPlace self.now.sample walk.old }
         requires room { at + 8 ≤ length into.old }
-        ensures pointer { take (at + 8) into.new ≡ take at into.old ++ child_pointer (child self.now.sample level.now.number m) }
-        ensures stands { Stands self.now.sample walk.new }
+        ensures pointer { take (at + 8) into.new ≡ take at into.old ++ disk_child_bytes (child self.now.sample level.now.number m) }
+        ensures stands { BeginsAtPlace self.now.sample walk.new }
     {
         match self.child(level, m, walk) {
-            Some(child) => put_child_pointer(&child, &mut into[at..at + POINTER]),
+            Some(child) => put_child_pointer(&child, &mut into[at..at + DC_SIZE]),
             None => {}
         }
     }
 
     /// Node `m` of a level as its parent names it.
-    fn child(&self, level: &Level, m: u32, walk: &mut LeafWalk) -> Option<Child>
+    fn child(&self, level: &Level, m: u32, walk: &mut LeafWalk) -> Option<DiskChild>
         requires level { level.now ≡ level_of self.now.leaf_count level.now.number }
         requires low { 1 ≤ level.now.number }
         requires high { level.now.number ≤ 3 }
         requires node { m < level.now.nodes }
-        requires stands { Stands self.now.sample walk.old }
+        requires stands { BeginsAtPlace self.now.sample walk.old }
         ensures child { IsSomeAnd result (λ c. (c ≡ child self.now.sample level.now.number m) × (c.head.offset < 2 ^ 32)) }
-        ensures stands { Stands self.now.sample walk.new }
+        ensures stands { BeginsAtPlace self.now.sample walk.new }
     {
         let leaf = walk.find(self, self.first_leaf(level.number, m))?;
-        Some(Child {
+        Some(DiskChild {
             head: leaf.first,
             block: self.node_place(level, m),
             size: self.size_of(level.number, m, leaf.used),
@@ -269,9 +264,9 @@ fn inner_size(children: u32) -> u16
     (24 * children as u16).saturating_sub(16)
 }
 
-fn put_child_pointer(child: &Child, into: &mut [u8])
+fn put_child_pointer(child: &DiskChild, into: &mut [u8])
     requires { length into.old ≡ 8 }
-    ensures { into.new ≡ child_pointer child.now }
+    ensures { into.new ≡ disk_child_bytes child.now }
 {
     put_fields(
         into,

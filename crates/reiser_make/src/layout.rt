@@ -23,20 +23,21 @@ ghost use Rattle.reiser_make.specs.Levels.{level_of};
 ghost use Rattle.reiser_make.specs.Shape.{stored_block, stored_before, stored_of, stored_in};
 ghost use Rattle.reiser_make.specs.Walk.{items_behind};
 
-use crate::bitmap::{BITS, Usage};
+use crate::bitmap::Usage;
 use crate::body::put_block;
-use crate::content::Content;
 use crate::inner::LeafWalk;
 use crate::leaf::ItemPlace;
 use crate::level::Level;
 use crate::place::{FIRST, place};
-use crate::plan::Plan;
 use crate::sample::stored_of;
+use crate::sample_entry::SampleEntry;
+use crate::sample_plan::SamplePlan;
 use fs_rows::{Access, Disk, Fault};
 use reiser_items::Block;
+use reiserfs_format::block::BITS_IN_BLOCK;
 
 /// Writes all blocks of a sample volume, each once, and no other one.
-pub fn write_volume<D: Disk>(plan: &Plan, usage: &Usage, disk: &mut D) -> Result<(), Fault>
+pub fn write_volume<D: Disk>(plan: &SamplePlan, usage: &Usage, disk: &mut D) -> Result<(), Fault>
     requires usage { IsUsage plan.now.sample usage.now }
     requires open { D.opened disk.old ≡ Some Access.Write }
     requires inside { usage.now.blocks ≤ D.size disk.old }
@@ -55,7 +56,7 @@ pub fn write_volume<D: Disk>(plan: &Plan, usage: &Usage, disk: &mut D) -> Result
 }
 
 /// Writes the blocks before the data: zeros for boot code, the superblock, the first bitmap block, and an empty journal.
-fn write_system<D: Disk>(plan: &Plan, usage: &Usage, disk: &mut D) -> Result<(), Fault>
+fn write_system<D: Disk>(plan: &SamplePlan, usage: &Usage, disk: &mut D) -> Result<(), Fault>
     requires usage { IsUsage plan.now.sample usage.now }
     requires open { D.opened disk.old ≡ Some Access.Write }
     requires inside { usage.now.blocks ≤ D.size disk.old }
@@ -74,7 +75,7 @@ fn write_system<D: Disk>(plan: &Plan, usage: &Usage, disk: &mut D) -> Result<(),
 }
 
 /// Writes block `b` of those before the data into a block.
-fn put_system(plan: &Plan, usage: &Usage, b: u32, into: &mut Block)
+fn put_system(plan: &SamplePlan, usage: &Usage, b: u32, into: &mut Block)
     requires { IsUsage plan.now.sample usage.now }
     ensures { into.new.bytes ≡ system_block plan.now.sample usage.now.blocks b }
 {
@@ -88,7 +89,7 @@ fn put_system(plan: &Plan, usage: &Usage, b: u32, into: &mut Block)
 }
 
 /// Writes the whole blocks of all files.
-fn write_data<D: Disk>(plan: &Plan, usage: &Usage, disk: &mut D) -> Result<(), Fault>
+fn write_data<D: Disk>(plan: &SamplePlan, usage: &Usage, disk: &mut D) -> Result<(), Fault>
     requires usage { IsUsage plan.now.sample usage.now }
     requires open { D.opened disk.old ≡ Some Access.Write }
     requires inside { usage.now.blocks ≤ D.size disk.old }
@@ -105,7 +106,7 @@ fn write_data<D: Disk>(plan: &Plan, usage: &Usage, disk: &mut D) -> Result<(), F
 }
 
 /// Writes the whole blocks of the file of name `i`, if it has any.
-fn write_file<D: Disk>(plan: &Plan, usage: &Usage, i: u32, disk: &mut D) -> Result<(), Fault>
+fn write_file<D: Disk>(plan: &SamplePlan, usage: &Usage, i: u32, disk: &mut D) -> Result<(), Fault>
     requires usage { IsUsage plan.now.sample usage.now }
     requires name { i < length plan.now.sample.names }
     requires open { D.opened disk.old ≡ Some Access.Write }
@@ -117,15 +118,17 @@ fn write_file<D: Disk>(plan: &Plan, usage: &Usage, i: u32, disk: &mut D) -> Resu
     ensures cause { HasCause (D.faults disk.old) (D.faults disk.new) result }
 {
     match plan.sample.content(i) {
-        Content::File { whole, sparse, .. } => write_blocks(plan, usage, i, whole, sparse, disk),
-        Content::Name => Ok(()),
-        Content::Symlink => Ok(()),
+        SampleEntry::File { whole, sparse, .. } => write_blocks(
+            plan, usage, i, whole, sparse, disk,
+        ),
+        SampleEntry::Name => Ok(()),
+        SampleEntry::Symlink => Ok(()),
     }
 }
 
 /// Writes so many whole blocks of the file of name `i`, but for its holes.
 fn write_blocks<D: Disk>(
-    plan: &Plan,
+    plan: &SamplePlan,
     usage: &Usage,
     i: u32,
     whole: u16,
@@ -161,7 +164,7 @@ fn stored_block(sparse: bool, j: u16) -> u64
 }
 
 /// Writes the leaves.
-fn write_leaves<D: Disk>(plan: &Plan, usage: &Usage, disk: &mut D) -> Result<(), Fault>
+fn write_leaves<D: Disk>(plan: &SamplePlan, usage: &Usage, disk: &mut D) -> Result<(), Fault>
     requires usage { IsUsage plan.now.sample usage.now }
     requires open { D.opened disk.old ≡ Some Access.Write }
     requires inside { usage.now.blocks ≤ D.size disk.old }
@@ -182,7 +185,7 @@ fn write_leaves<D: Disk>(plan: &Plan, usage: &Usage, disk: &mut D) -> Result<(),
 }
 
 /// Writes the leaf that begins at a place into a block, and moves the place behind it.
-fn put_next_leaf(plan: &Plan, at: &mut ItemPlace, into: &mut Block)
+fn put_next_leaf(plan: &SamplePlan, at: &mut ItemPlace, into: &mut Block)
     ensures bytes { (m : ℕ) → m < length (leaves plan.now.sample) → leaves_of (items_behind plan.now.sample at.old) ≡ drop m (leaves plan.now.sample)
         → into.new.bytes ≡ leaf_bytes plan.now.sample (leaf_at plan.now.sample m) }
     ensures stands { (m : ℕ) → m < length (leaves plan.now.sample) → leaves_of (items_behind plan.now.sample at.old) ≡ drop m (leaves plan.now.sample)
@@ -198,7 +201,7 @@ fn put_next_leaf(plan: &Plan, at: &mut ItemPlace, into: &mut Block)
 }
 
 /// Writes the levels above the leaves.
-fn write_inner<D: Disk>(plan: &Plan, usage: &Usage, disk: &mut D) -> Result<(), Fault>
+fn write_inner<D: Disk>(plan: &SamplePlan, usage: &Usage, disk: &mut D) -> Result<(), Fault>
     requires usage { IsUsage plan.now.sample usage.now }
     requires open { D.opened disk.old ≡ Some Access.Write }
     requires inside { usage.now.blocks ≤ D.size disk.old }
@@ -218,7 +221,7 @@ fn write_inner<D: Disk>(plan: &Plan, usage: &Usage, disk: &mut D) -> Result<(), 
 
 /// Writes the nodes above a level.
 fn write_level<D: Disk>(
-    plan: &Plan,
+    plan: &SamplePlan,
     usage: &Usage,
     below: &Level,
     disk: &mut D,
@@ -263,7 +266,7 @@ fn write_bitmaps<D: Disk>(usage: &Usage, disk: &mut D) -> Result<(), Fault>
     let mut block = Block::zero();
     for k in 1..usage.bitmap_blocks() {
         usage.put_bitmap(k, &mut block);
-        disk.write(BITS * k as u64, &block)?;
+        disk.write(BITS_IN_BLOCK * k as u64, &block)?;
     }
     Ok(())
 }

@@ -1,24 +1,19 @@
 ghost use Rattle.std.specs.Prelude.{◌≡◌, ◌<◌, ◌≤◌, ◌+◌, ◌*◌, ◌∷◌, ◌++◌, [], List, length, take, false, IfSome, MatchOption};
 ghost use Rattle.std.specs.Bool.{OnTrue};
 ghost use Rattle.reiser_make.specs.Items.{items, IsSampleItem};
-ghost use Rattle.reiser_make.specs.Leaf.{leaves, leaf_bytes, leaf_contents, bodies, taken, taken_by};
-ghost use Rattle.reiser_make.specs.Walk.{items_behind, IsPacking, IsFirstLeaf, HasRoom, IsPacked, HasPut, NextFits};
-ghost use Rattle.reiser_make.specs.declared.item.Item.{Item as ItemOf};
+ghost use Rattle.reiser_make.specs.Leaf.{leaves, leaf_bytes, leaf_contents, bodies, bytes_taken, taken_by};
+ghost use Rattle.reiser_make.specs.Walk.{items_behind, MayPackMore, BeginsLeaves, HasLeafRoom, IsPacked, HasPutItems, NextFits};
+ghost use Rattle.reiser_make.specs.declared.sample_item.SampleItem.{SampleItem as SampleItemOf};
 
-use crate::item::Item;
 use crate::node::{clear, put_head, put_node_head};
 use crate::object::object_count;
 use crate::sample::Sample;
+use crate::sample_item::SampleItem;
 use reiser_items::{Block, ItemHead};
-
-/// The bytes of a node's head.
-pub const NODE_HEAD: usize = 24;
+use reiserfs_format::size::{BLKH_SIZE, IH_SIZE};
 
 /// The bytes of a node behind its head.
 pub const NODE_ROOM: u16 = 4072;
-
-/// The bytes of an item's head.
-const ITEM_HEAD: usize = 24;
 
 /// A place in the list of items: before item `part` of an object.
 #[derive(Clone, Copy, Debug, PartialEq, Eq)]
@@ -51,7 +46,7 @@ impl ItemPlace {
 
 impl Sample {
     /// The item behind a place, which moves behind it; None where there is none.
-    fn next_item(&self, at: &mut ItemPlace) -> Option<Item>
+    fn next_item(&self, at: &mut ItemPlace) -> Option<SampleItem>
         ensures next { MatchOption result (items_behind self.now at.old ≡ []) (λ item. items_behind self.now at.old ≡ item ∷ items_behind self.now at.new) }
         ensures right { IfSome result (IsSampleItem self.now) }
     {
@@ -91,10 +86,10 @@ impl Sample {
 
     /// Adds the next item to a leaf, and answers whether there is one and the leaf had room for it.
     fn add_next(&self, leaf: &mut Packed) -> bool
-        requires { HasRoom leaf.old }
-        ensures room { HasRoom leaf.new }
-        ensures more { (all : List ItemOf) → IsPacking self.now all leaf.old → OnTrue result (IsPacking self.now all leaf.new) }
-        ensures done { (all : List ItemOf) → IsPacking self.now all leaf.old → result ≡ false → IsFirstLeaf self.now all leaf.new }
+        requires { HasLeafRoom leaf.old }
+        ensures room { HasLeafRoom leaf.new }
+        ensures more { (all : List SampleItemOf) → MayPackMore self.now all leaf.old → OnTrue result (MayPackMore self.now all leaf.new) }
+        ensures done { (all : List SampleItemOf) → MayPackMore self.now all leaf.old → result ≡ false → BeginsLeaves self.now all leaf.new }
         ensures fewer { OnTrue result (length (items_behind self.now leaf.new.end) < length (items_behind self.now leaf.old.end)) }
     {
         let mut ahead = leaf.end;
@@ -141,15 +136,15 @@ impl Sample {
         requires room { length into.old ≡ 4096 }
         ensures { into.new ≡ leaf_bytes self.now (take leaf.now.count (items_behind self.now at)) }
     {
-        put_node_head(1, leaf.count, NODE_ROOM - leaf.used, &mut into[..NODE_HEAD]);
-        self.put_items(at, leaf.count, &mut into[NODE_HEAD..]);
+        put_node_head(1, leaf.count, NODE_ROOM - leaf.used, &mut into[..BLKH_SIZE]);
+        self.put_items(at, leaf.count, &mut into[BLKH_SIZE..]);
     }
 
     /// Writes so many items from a place on into the bytes of a leaf behind its head.
     fn put_items(&self, at: ItemPlace, count: u16, behind: &mut [u8])
         requires room { length behind.old ≡ 4072 }
         requires count { count ≤ length (items_behind self.now at) }
-        requires fits { taken (take count (items_behind self.now at)) ≤ 4072 }
+        requires fits { bytes_taken (take count (items_behind self.now at)) ≤ 4072 }
         ensures { behind.new ≡ leaf_contents self.now (take count (items_behind self.now at)) }
     {
         clear(behind);
@@ -166,7 +161,7 @@ impl Sample {
         requires room { length behind.old ≡ 4072 }
         requires within { low ≤ 4072 }
         requires fits { NextFits (items_behind self.now at.old) i low }
-        ensures { (all : List ItemOf) → i < length all → HasPut self.now all i at.old low behind.old → HasPut self.now all (i + 1) at.new result behind.new }
+        ensures { (all : List SampleItemOf) → i < length all → HasPutItems self.now all i at.old low behind.old → HasPutItems self.now all (i + 1) at.new result behind.new }
     {
         match self.next_item(at) {
             Some(item) => self.put_item(&item, i, low, behind),
@@ -176,30 +171,30 @@ impl Sample {
 
     /// Writes an item behind the `i` items of a leaf whose bodies begin at byte `low` behind the leaf's head, and answers
     /// where they begin then.
-    fn put_item(&self, item: &Item, i: usize, low: usize, behind: &mut [u8]) -> usize
+    fn put_item(&self, item: &SampleItem, i: usize, low: usize, behind: &mut [u8]) -> usize
         requires right { IsSampleItem self.now item.now }
         requires room { length behind.old ≡ 4072 }
         requires heads { 24 * i + 24 + item.now.head.length ≤ low }
         requires within { low ≤ 4072 }
         ensures begin { result + item.now.head.length ≡ low }
-        ensures bytes { (items : List ItemOf) → length items ≡ i → low + length (bodies self.now items) ≡ 4072 → taken items + low ≡ 4072 + 24 * i
+        ensures bytes { (items : List SampleItemOf) → length items ≡ i → low + length (bodies self.now items) ≡ 4072 → bytes_taken items + low ≡ 4072 + 24 * i
             → behind.old ≡ leaf_contents self.now items → behind.new ≡ leaf_contents self.now (items ++ item.now ∷ []) }
-        ensures bodies { (items : List ItemOf) → low + length (bodies self.now items) ≡ 4072 → result + length (bodies self.now (items ++ item.now ∷ [])) ≡ 4072 }
+        ensures bodies { (items : List SampleItemOf) → low + length (bodies self.now items) ≡ 4072 → result + length (bodies self.now (items ++ item.now ∷ [])) ≡ 4072 }
     {
         let begin = low - item.head.length as usize;
         self.put_body(item, &mut behind[begin..low]);
-        let at = ITEM_HEAD * i;
+        let at = IH_SIZE * i;
         put_head(
             &item.head,
-            (NODE_HEAD + begin) as u16,
-            &mut behind[at..at + ITEM_HEAD],
+            (BLKH_SIZE + begin) as u16,
+            &mut behind[at..at + IH_SIZE],
         );
         begin
     }
 }
 
 /// The bytes that an item takes, with its head.
-fn taken_by(item: &Item) -> u16
+fn taken_by(item: &SampleItem) -> u16
     requires { item.now.head.length ≤ 4048 }
     ensures { result ≡ taken_by item.now }
 {

@@ -7,11 +7,9 @@
 
 mod bitmap;
 mod body;
-mod content;
 mod directory;
 mod draw;
 mod inner;
-mod item;
 mod layout;
 mod leaf;
 mod level;
@@ -20,8 +18,10 @@ mod name;
 mod node;
 mod object;
 mod place;
-mod plan;
 mod sample;
+mod sample_entry;
+mod sample_item;
+mod sample_plan;
 mod superblock;
 
 pub use maker::{MakeAnswer, make, make_old};

@@ -3,12 +3,12 @@ ghost use Rattle.fs_rows.specs.outside.Fault.{HasCauseOf};
 ghost use Rattle.fs_rows.specs.outside.History.{reads, WritesOnly};
 ghost use Rattle.reiser_make.specs.Inner.{needed};
 ghost use Rattle.reiser_make.specs.Layout.{IsUsed, laid_over, volume_blocks};
-ghost use Rattle.reiser_make.specs.Maker.{IsRight, Keeps, usage_of};
+ghost use Rattle.reiser_make.specs.Maker.{IsRight, KeepsHistory, usage_of};
 ghost use Rattle.reiser_make.specs.Shape.{shape};
 
 use crate::bitmap::Usage;
 use crate::layout::write_volume;
-use crate::plan::Plan;
+use crate::sample_plan::SamplePlan;
 use fs_rows::{Access, Disk, Fault, Memory};
 use std::alloc::Global;
 use thiserror::Error;
@@ -69,7 +69,7 @@ pub fn make<D: Disk>(
     ensures enough { OnOk result (needed (shape number false) ≤ blocks) }
     ensures only { IsTrue D.tells → WritesOnly (λ b _. IsUsed (usage_of (shape number false) blocks) b) (D.history disk.old) (D.history disk.new) }
     ensures written { IsTrue D.tells → OnOk result (reads (D.history disk.new) ≡ laid_over (volume_blocks (shape number false) blocks) (reads (D.history disk.old))) }
-    ensures unchanged { IsTrue D.tells → IfErr result (λ answer. Keeps answer (D.history disk.old) (D.history disk.new)) }
+    ensures unchanged { IsTrue D.tells → IfErr result (λ answer. KeepsHistory answer (D.history disk.old) (D.history disk.new)) }
     ensures cause { HasCauseOf MakeAnswer.Fault (D.faults disk.old) (D.faults disk.new) result }
 {
     make_version(alloc, number, false, blocks, disk)
@@ -92,7 +92,7 @@ pub fn make_old<D: Disk>(
     ensures enough { OnOk result (needed (shape number true) ≤ blocks) }
     ensures only { IsTrue D.tells → WritesOnly (λ b _. IsUsed (usage_of (shape number true) blocks) b) (D.history disk.old) (D.history disk.new) }
     ensures written { IsTrue D.tells → OnOk result (reads (D.history disk.new) ≡ laid_over (volume_blocks (shape number true) blocks) (reads (D.history disk.old))) }
-    ensures unchanged { IsTrue D.tells → IfErr result (λ answer. Keeps answer (D.history disk.old) (D.history disk.new)) }
+    ensures unchanged { IsTrue D.tells → IfErr result (λ answer. KeepsHistory answer (D.history disk.old) (D.history disk.new)) }
     ensures cause { HasCauseOf MakeAnswer.Fault (D.faults disk.old) (D.faults disk.new) result }
 {
     make_version(alloc, number, true, blocks, disk)
@@ -115,10 +115,10 @@ fn make_version<D: Disk>(
     ensures enough { OnOk result (needed (shape number old) ≤ blocks) }
     ensures only { IsTrue D.tells → WritesOnly (λ b _. IsUsed (usage_of (shape number old) blocks) b) (D.history disk.old) (D.history disk.new) }
     ensures written { IsTrue D.tells → OnOk result (reads (D.history disk.new) ≡ laid_over (volume_blocks (shape number old) blocks) (reads (D.history disk.old))) }
-    ensures unchanged { IsTrue D.tells → IfErr result (λ answer. Keeps answer (D.history disk.old) (D.history disk.new)) }
+    ensures unchanged { IsTrue D.tells → IfErr result (λ answer. KeepsHistory answer (D.history disk.old) (D.history disk.new)) }
     ensures cause { HasCauseOf MakeAnswer.Fault (D.faults disk.old) (D.faults disk.new) result }
 {
-    let plan = Plan::new(alloc, number, old)?;
+    let plan = SamplePlan::new(alloc, number, old)?;
     let usage = Usage {
         needed: plan.needed(),
         blocks: blocks as u32,

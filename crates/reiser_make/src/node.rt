@@ -3,6 +3,7 @@ ghost use Rattle.reiser_items.specs.Order.{kind_number};
 ghost use Rattle.reiser_make.specs.Leaf.{key_bytes, head_bytes, node_head, old_code, place_bytes, version};
 
 use reiser_items::{Field, ItemHead, ItemKind, put_fields};
+use reiserfs_format::key::{V1_DIRECT_UNIQUENESS, V1_DIRENTRY_UNIQUENESS, V1_INDIRECT_UNIQUENESS};
 
 /// Writes zeros over bytes.
 pub fn clear(bytes: &mut [u8])
@@ -106,9 +107,9 @@ fn old_code(kind: ItemKind) -> u32
 {
     match kind {
         ItemKind::Stat => 0,
-        ItemKind::Indirect => 0xFFFF_FFFE,
-        ItemKind::Direct => 0xFFFF_FFFF,
-        ItemKind::Directory => 500,
+        ItemKind::Indirect => V1_INDIRECT_UNIQUENESS,
+        ItemKind::Direct => V1_DIRECT_UNIQUENESS,
+        ItemKind::Directory => V1_DIRENTRY_UNIQUENESS,
     }
 }
 

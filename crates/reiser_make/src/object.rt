@@ -1,7 +1,7 @@
 ghost use Rattle.std.specs.Prelude.{◌≡◌, ◌<◌, ◌≤◌, ◌^◌, ◌+◌};
 ghost use Rattle.reiser_make.specs.Shape.{root_id, above_root, directory_id, file_id, directory_count, names_in, object_count, named_by, name_count};
 
-use crate::content::is_further_name;
+use crate::sample_entry::is_further_name;
 
 /// The most names that a sample has.
 pub const MOST: u32 = 4000;

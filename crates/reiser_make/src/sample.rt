@@ -1,10 +1,10 @@
 ghost use Rattle.std.specs.Prelude.{◌≡◌, ◌≤◌, ◌<◌, ◌+◌, ◌*◌, length, slice_index_or, IfOk};
 ghost use Rattle.reiser_make.specs.Content.{IsSmallContent};
 ghost use Rattle.reiser_make.specs.Shape.{shape, stored_blocks, stored_of, stored_before, stored_in};
-ghost use Rattle.reiser_make.specs.declared.content.Content.TheVariants.{Name};
+ghost use Rattle.reiser_make.specs.declared.sample_entry.SampleEntry.TheVariants.{Name};
 
-use crate::content::Content;
 use crate::draw::Draws;
+use crate::sample_entry::SampleEntry;
 use fs_rows::Memory;
 use std::alloc::Global;
 use std::marker::Model;
@@ -12,7 +12,7 @@ use std::marker::Model;
 /// What a name stands for, and how many data blocks lie before those of this name.
 #[derive(Clone, Copy, Debug)]
 pub struct Named {
-    content: Content,
+    content: SampleEntry,
     first: u32,
 }
 
@@ -45,7 +45,7 @@ impl Sample {
         let mut draws = Draws::new(number);
         let mut stored = 0;
         for i in 0..number {
-            let content = Content::draw(i, &mut draws);
+            let content = SampleEntry::draw(i, &mut draws);
             names.push(Named {
                 content,
                 first: stored,
@@ -71,7 +71,7 @@ impl Sample {
     }
 
     /// What name `i` stands for.
-    pub fn content(&self, i: u32) -> Content
+    pub fn content(&self, i: u32) -> SampleEntry
         requires { i < length self.now.names }
         ensures content { result ≡ slice_index_or self.now.names i Name }
         ensures small { IsSmallContent result }
@@ -98,13 +98,13 @@ impl Sample {
 }
 
 /// How many whole blocks of a file are no holes.
-pub fn stored_blocks(content: Content) -> u32
+pub fn stored_blocks(content: SampleEntry) -> u32
     requires { IsSmallContent content }
     ensures stored { result ≡ stored_blocks content }
     ensures most { result ≤ 20 }
 {
     match content {
-        Content::File { whole, sparse, .. } => stored_of(whole, sparse) as u32,
+        SampleEntry::File { whole, sparse, .. } => stored_of(whole, sparse) as u32,
         _ => 0,
     }
 }

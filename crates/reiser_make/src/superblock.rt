@@ -1,11 +1,11 @@
 ghost use Rattle.std.specs.Prelude.{◌≡◌, ◌≤◌, ◌<◌, ◌^◌, length};
 ghost use Rattle.reiser_make.specs.Inner.{needed};
-ghost use Rattle.reiser_make.specs.Superblock.{super_bytes, super_fields, fields_bytes};
+ghost use Rattle.reiser_make.specs.Superblock.{superblock_bytes, super_fields, fields_bytes};
 
 use crate::bitmap::Usage;
 use crate::level::Level;
 use crate::object::directory_count;
-use crate::plan::Plan;
+use crate::sample_plan::SamplePlan;
 use reiser_items::{Block, Field, put_fields};
 
 /// What a superblock has of the volume that it begins.
@@ -27,13 +27,13 @@ pub struct SuperFields {
     pub unused_object: u32,
 }
 
-impl Plan {
+impl SamplePlan {
     /// Writes the superblock of the volume.
     pub fn put_super(&self, usage: &Usage, into: &mut Block)
         requires needed { usage.now.needed ≡ needed self.now.sample }
         requires blocks { usage.now.needed ≤ usage.now.blocks }
         requires most { usage.now.blocks ≤ 2 ^ 29 }
-        ensures { into.new.bytes ≡ super_bytes self.now.sample usage.now.blocks }
+        ensures { into.new.bytes ≡ superblock_bytes self.now.sample usage.now.blocks }
     {
         self.super_fields(usage).put(&mut into.bytes);
     }

@@ -1,7 +1,5 @@
 -- Words of another count than three order nothing.
-use Rattle.std.proofs.Common.{◌≡◌, ℕ, ◌<◌, Bool, List, [], ◌∷◌, length, map, refl, arith}
-use Rattle.std.specs.Prelude.{None}
-use Rattle.reiser_make_app.specs.Order.{three_words}
+use Rattle.reiser_make_app.proofs.Imports.{◌≡◌, ℕ, ◌<◌, Bool, List, [], ◌∷◌, length, map, refl, arith, None, three_words}
 
 pub too_few : {A : Type 0} (bytes : A → List ℕ) (old : Bool) (words : List A) → length words < 3 → None ≡ three_words old (map bytes words)
 too_few bytes old [] few = refl

@@ -1,3 +1,4 @@
 pub mod Counts
+pub mod Imports
 pub mod Making
 pub mod Outcomes

@@ -3,10 +3,10 @@ use Rattle.std.specs.Prelude.{ℕ, List, [], ◌∷◌, ◌++◌, codes, decimal
 use Rattle.program_words.specs.refusals.declared.refusal.VolumeRefusal.TheVariants as volume
 use Rattle.program_words.specs.command_answers.declared.answer.Answer.TheVariants as answers
 use Rattle.program_words.specs.Lines.{answer_line, words_to_end}
-use Rattle.reiser_make_app.specs.declared.ending.Ending.{Ending}
-use Rattle.reiser_make_app.specs.declared.ending.Ending.TheVariants.{Made, Usage, Short, Full, Fault, Memory}
+use Rattle.reiser_make_app.specs.declared.make_ending.MakeEnding.{MakeEnding}
+use Rattle.reiser_make_app.specs.declared.make_ending.MakeEnding.TheVariants.{Made, Usage, Short, Full, Fault, Memory}
 
-abbrev pub status : Ending → ℕ
+abbrev pub status : MakeEnding → ℕ
 status Made = 0
 status Usage = 2
 status (Short blocks device) = 1
@@ -25,7 +25,7 @@ short_line blocks device = answer_line (answers.Volume (volume.Short blocks devi
 abbrev pub full_line : ℕ → ℕ → List ℕ
 full_line needed blocks = codes "refused" ++ words_to_end (codes "15" ∷ codes "space" ∷ decimal needed ∷ decimal blocks ∷ [])
 
-abbrev pub error_line : Ending → List ℕ
+abbrev pub error_line : MakeEnding → List ℕ
 error_line Made = []
 error_line Usage = usage_line
 error_line (Short blocks device) = short_line blocks device

@@ -5,12 +5,12 @@
 //! is what the whole program promises.
 #![tactic(auto)]
 
-mod ending;
+mod make_ending;
 mod order;
 mod top;
 mod words;
 
-pub use ending::Ending;
+pub use make_ending::MakeEnding;
 pub use order::Order;
 pub use top::run;
 pub use words::read_words;

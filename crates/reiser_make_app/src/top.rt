@@ -1,11 +1,11 @@
 ghost use Rattle.std.specs.Prelude.{◌≡◌, ◌≢◌, ◌↔◌, ◌≤◌, ◌<◌, ◌-◌, ◌^◌, ◌⊎◌, map, Some, None, IfSome, IsTrue, IfErr, OnOk, string_bytes};
 ghost use Rattle.sink_text.specs.outside.Fault.{HasCauseOf, Rose};
 ghost use Rattle.sink_text.specs.outside.History.{reads, WritesOnly};
-ghost use Rattle.reiser_make.specs.Maker.{IsRight, Keeps};
+ghost use Rattle.reiser_make.specs.Maker.{IsRight, KeepsHistory};
 ghost use Rattle.reiser_make_app.specs.Order.{order, seen};
 ghost use Rattle.reiser_make_app.specs.Outcome.{
   needed_by,
-  HasRoom,
+  HasSampleRoom,
   HasSample,
   EndsRight,
   FitsDevice,
@@ -15,11 +15,11 @@ ghost use Rattle.reiser_make_app.specs.Outcome.{
   OnlyUsed,
   TellsFault,
   Uses,
-  Runs,
+  RunsMaker,
 };
 
 use crate::words::read_words;
-use crate::{Ending, Order};
+use crate::{MakeEnding, Order};
 use reiser_make::{MakeAnswer, make, make_old};
 use sink_text::{Access, Disk, Fault, Sink};
 use std::alloc::Global;
@@ -38,12 +38,12 @@ pub fn run<D: Disk, E: Sink>(alloc: Global, words: &[String], disk: &mut D, err:
     ensures usage { (result ≡ 2) ↔ (order (map string_bytes words.now) ≡ None) }
     ensures device { result ≡ 3 → Rose (D.faults disk.old) (D.faults disk.new) }
     ensures faultless { result ≢ 3 → D.faults disk.new ≡ D.faults disk.old }
-    ensures ends { Runs (order (map string_bytes words.now)) (D.size disk.new) result (IsTrue D.tells) (D.history disk.old) (D.history disk.new)
+    ensures ends { RunsMaker (order (map string_bytes words.now)) (D.size disk.new) result (IsTrue D.tells) (D.history disk.old) (D.history disk.new)
         (IsTrue E.tells) (E.faults err.old) (E.faults err.new) (E.taken err.old) (E.taken err.new) }
     ensures only { IsTrue D.tells → OnlyUsed (order (map string_bytes words.now)) (D.history disk.old) (D.history disk.new) }
     // Where the volume has room for the sample, and the device for the volume, and no count rose, it is made, unless memory was
     // short.
-    ensures complete { HasRoom (order (map string_bytes words.now)) (D.size disk.new) → D.faults disk.new ≡ D.faults disk.old → D.faults disk.old < 2 ^ 64 - 1
+    ensures complete { HasSampleRoom (order (map string_bytes words.now)) (D.size disk.new) → D.faults disk.new ≡ D.faults disk.old → D.faults disk.old < 2 ^ 64 - 1
         → (result ≡ 0) ⊎ (result ≡ 4) }
 {
     let ending = perform(alloc, words, disk);
@@ -52,7 +52,7 @@ pub fn run<D: Disk, E: Sink>(alloc: Global, words: &[String], disk: &mut D, err:
 }
 
 /// Makes the volume that the words order.
-fn perform<D: Disk>(alloc: Global, words: &[String], disk: &mut D) -> Ending
+fn perform<D: Disk>(alloc: Global, words: &[String], disk: &mut D) -> MakeEnding
     requires closed { D.opened disk.old ≡ None }
     requires wanted { IfSome (order (map string_bytes words.now)) (λ o. D.wants o.path Access.Write) }
     ensures right { EndsRight (order (map string_bytes words.now)) (D.size disk.new) result }
@@ -61,13 +61,13 @@ fn perform<D: Disk>(alloc: Global, words: &[String], disk: &mut D) -> Ending
     ensures cause { TellsFault result (D.faults disk.old) (D.faults disk.new) }
 {
     match read_words(words) {
-        None => Ending::Usage,
+        None => MakeEnding::Usage,
         Some(order) => make_on_path(alloc, &order, disk),
     }
 }
 
 /// Opens the device, and makes the volume on it.
-fn make_on_path<D: Disk>(alloc: Global, order: &Order<'_>, disk: &mut D) -> Ending
+fn make_on_path<D: Disk>(alloc: Global, order: &Order<'_>, disk: &mut D) -> MakeEnding
     requires closed { D.opened disk.old ≡ None }
     requires wanted { D.wants order.now.path.now Access.Write }
     ensures right { FitsDevice (seen order.now) (D.size disk.new) result }
@@ -77,12 +77,12 @@ fn make_on_path<D: Disk>(alloc: Global, order: &Order<'_>, disk: &mut D) -> Endi
 {
     match disk.open(order.path, Access::Write) {
         Ok(()) => make_on_device(alloc, order, disk),
-        Err(Fault) => Ending::Fault,
+        Err(Fault) => MakeEnding::Fault,
     }
 }
 
 /// Makes the volume on a device that is open.
-fn make_on_device<D: Disk>(alloc: Global, order: &Order<'_>, disk: &mut D) -> Ending
+fn make_on_device<D: Disk>(alloc: Global, order: &Order<'_>, disk: &mut D) -> MakeEnding
     requires open { D.opened disk.old ≡ Some Access.Write }
     ensures right { FitsDevice (seen order.now) (D.size disk.new) result }
     ensures left { IsTrue D.tells → Leaves (seen order.now) (D.history disk.old) (D.history disk.new) result }
@@ -91,16 +91,16 @@ fn make_on_device<D: Disk>(alloc: Global, order: &Order<'_>, disk: &mut D) -> En
 {
     let device = disk.len();
     if device < order.blocks {
-        return Ending::Short {
+        return MakeEnding::Short {
             blocks: order.blocks,
             device,
         };
     }
     match write_ordered(alloc, order, disk) {
-        Ok(()) => Ending::Made,
-        Err(MakeAnswer::Full { needed, blocks }) => Ending::Full { needed, blocks },
-        Err(MakeAnswer::Fault) => Ending::Fault,
-        Err(MakeAnswer::Memory) => Ending::Memory,
+        Ok(()) => MakeEnding::Made,
+        Err(MakeAnswer::Full { needed, blocks }) => MakeEnding::Full { needed, blocks },
+        Err(MakeAnswer::Fault) => MakeEnding::Fault,
+        Err(MakeAnswer::Memory) => MakeEnding::Memory,
     }
 }
 
@@ -113,7 +113,7 @@ fn write_ordered<D: Disk>(alloc: Global, order: &Order<'_>, disk: &mut D) -> Res
     ensures enough { OnOk result (needed_by (seen order.now) ≤ order.now.blocks) }
     ensures only { IsTrue D.tells → WritesOnly (λ b _. Uses (seen order.now) b) (D.history disk.old) (D.history disk.new) }
     ensures made { IsTrue D.tells → OnOk result (IsMade (seen order.now) (D.history disk.old) (D.history disk.new)) }
-    ensures unchanged { IsTrue D.tells → IfErr result (λ answer. Keeps answer (D.history disk.old) (D.history disk.new)) }
+    ensures unchanged { IsTrue D.tells → IfErr result (λ answer. KeepsHistory answer (D.history disk.old) (D.history disk.new)) }
     ensures cause { HasCauseOf MakeAnswer.Fault (D.faults disk.old) (D.faults disk.new) result }
 {
     make_ordered(alloc, order, disk)?;
@@ -131,7 +131,7 @@ fn make_ordered<D: Disk>(alloc: Global, order: &Order<'_>, disk: &mut D) -> Resu
     ensures enough { OnOk result (needed_by (seen order.now) ≤ order.now.blocks) }
     ensures only { IsTrue D.tells → WritesOnly (λ b _. Uses (seen order.now) b) (D.history disk.old) (D.history disk.new) }
     ensures written { IsTrue D.tells → OnOk result (HasSample (seen order.now) (reads (D.history disk.old)) (reads (D.history disk.new))) }
-    ensures unchanged { IsTrue D.tells → IfErr result (λ answer. Keeps answer (D.history disk.old) (D.history disk.new)) }
+    ensures unchanged { IsTrue D.tells → IfErr result (λ answer. KeepsHistory answer (D.history disk.old) (D.history disk.new)) }
     ensures cause { HasCauseOf MakeAnswer.Fault (D.faults disk.old) (D.faults disk.new) result }
 {
     if order.old {

@@ -1,29 +1,7 @@
 -- The items of a sample ascend.
-use Rattle.std.proofs.Common.{◌≡◌, ◌⊎◌, inl, inr, ℕ, zero, suc, ◌+◌, ◌-◌, ◌*◌, ◌/◌, ◌≤◌, ◌<◌, Bool, true, false, cond, ◌==◌, List, [], ◌∷◌, ◌++◌, length, map, get_or, refl, sym, ◌∙◌, ap, subst, arith, eq-eqb}
-use Rattle.std.specs.Prelude.{nat_lt}
-use Rattle.std.specs.declared.cmp.Ordering.{Ordering}
-use Rattle.std.specs.declared.cmp.Ordering.TheVariants.{Less, Equal, Greater}
-use Rattle.std.specs.Ordering.{nat_cmp, ordering_then, is_lt}
-use Rattle.std.proofs.lemmas.Bool.Decides.{nat_tests}
-use Rattle.reiser_volume.specs.reiser_items.Order.{key_order, kind_number}
-use Rattle.reiser_make.specs.Items.{items, items_from, items_of, items_of_content, directory_items, pointer_items, byte_items, item, stat_item, attributes, base_time, file_units, first_direct_of}
-use Rattle.reiser_make.specs.Shape.{Shape, shape, directory_count, names_in, object_count, root_id, directory_id, file_id, name_count, stored_of}
-use Rattle.reiser_make.specs.declared.content.Content.{Content}
-use Rattle.reiser_make.specs.declared.content.Content.TheVariants.{Name, Symlink, File}
-use Rattle.reiser_make.specs.declared.item.Body.{Body}
-use Rattle.reiser_make.specs.declared.item.Body.TheVariants.{Root, Names, Pointers, Bytes}
-use Rattle.reiser_make.specs.declared.item.Owner.TheVariants.{User}
-use Rattle.reiser_make.specs.declared.item.Item as parts
-use Rattle.reiser_make.specs.declared.object.ObjectId.{ObjectId}
-use Rattle.reiser_volume.specs.reiser_items.Stat.{stat_length}
-use Rattle.reiser_volume.specs.reiser_items.declared.stat.StatData.{StatData}
-use Rattle.reiser_volume.specs.reiser_node.declared.head.ItemHead.{ItemHead}
-use Rattle.reiser_volume.specs.reiser_node.declared.head.ItemKind.{ItemKind}
-use Rattle.reiser_volume.specs.reiser_node.declared.head.ItemKind.TheVariants.{Stat, Indirect, Direct, Directory}
-use Rattle.reiser_volume.specs.reiser_walk.Items.{Item}
-use Rattle.reiser_volume.proofs.reiser_walk.Lists.{Each, Pairs, all_pairs_from_pairs}
+use Rattle.reiser_make_laws.proofs.Imports.{◌≡◌, ◌⊎◌, inl, inr, ℕ, zero, suc, ◌+◌, ◌-◌, ◌*◌, ◌/◌, ◌≤◌, ◌<◌, Bool, true, false, cond, ◌==◌, List, [], ◌∷◌, ◌++◌, length, map, get_or, refl, sym, ◌∙◌, ap, subst, arith, eq-eqb, nat_lt, Ordering, Less, Equal, Greater, nat_cmp, ordering_then, is_lt, nat_tests, key_order, kind_number, items, items_from, items_of_name, items_of_content, directory_items, pointer_items, byte_items, item, stat_item, attributes, base_time, file_units, first_direct_of, Shape, shape, directory_count, names_in, object_count, root_id, directory_id, file_id, name_count, stored_of, SampleEntry, Name, Symlink, File, Body, Root, Names, Pointers, Bytes, User, ObjectId, stat_length, StatData, ItemHead, ItemKind, Stat, Indirect, Direct, Directory, ReiserItem, Each, Pairs, all_pairs_from_pairs, content, laid_content, SamplesAscend}
+use Rattle.reiser_make.specs.declared.sample_item.SampleItem as parts
 use Rattle.reiser_make_laws.proofs.Items.{samples_items}
-use Rattle.reiser_make_laws.specs.Walk.{content, laid_content, SamplesAscend}
 
 pub cmp_less : (x y : ℕ) → x < y → nat_cmp x y ≡ Less
 cmp_less x y lt = let is : nat_lt x y ≡ true = grind (arith, nat_tests, lt) in ap (λ b. cond b Less (cond (x == y) Equal Greater)) is
@@ -56,7 +34,7 @@ below_object_by a b (inr dir) object =
 below_object : (a b : ItemHead) → a.dir ≤ b.dir → a.object < b.object → IsBelow a b
 below_object a b dir object = below_object_by a b (grind (arith, dir)) object
 
-abbrev Under : parts.Item → parts.Item → Type 0
+abbrev Under : parts.SampleItem → parts.SampleItem → Type 0
 Under x y = IsBelow x.head y.head
 
 pub each_join : {X : Type 0} (P : X → Type 0) (xs ys : List X) → Each P xs → Each P ys → Each P (xs ++ ys)
@@ -72,18 +50,18 @@ each_to P Q f [] each = tt
 each_to P Q f (x ∷ xs) each = (f x each.0, each_to P Q f xs each.1)
 
 -- the object and the directory of an item
-pub record IsOf (dir object : ℕ) (x : parts.Item) : Type 0 where
+pub record IsOf (dir object : ℕ) (x : parts.SampleItem) : Type 0 where
   pub dir_is : x.head.dir ≡ dir
   pub object_is : x.head.object ≡ object
 
-pub either_each : (P : parts.Item → Type 0) (b : Bool) (xs ys : List parts.Item) → Each P xs → Each P ys → Each P (cond b xs ys)
+pub either_each : (P : parts.SampleItem → Type 0) (b : Bool) (xs ys : List parts.SampleItem) → Each P xs → Each P ys → Each P (cond b xs ys)
 either_each P true xs ys first second = first
 either_each P false xs ys first second = second
 
 directory_owned : (old : Bool) (id : ObjectId) (nlink count : ℕ) (body : Body) → Each (IsOf id.dir id.object) (directory_items old id nlink count body)
 directory_owned old id nlink count body = (record { dir_is = refl; object_is = refl }, (record { dir_is = refl; object_is = refl }, tt))
 
-content_owned : (s : Shape) (i : ℕ) (c : Content) → Each (IsOf (file_id (length s.names) i).dir (file_id (length s.names) i).object) (items_of_content s i c)
+content_owned : (s : Shape) (i : ℕ) (c : SampleEntry) → Each (IsOf (file_id (length s.names) i).dir (file_id (length s.names) i).object) (items_of_content s i c)
 unfolding items_of_content
 content_owned s i Name = tt
 content_owned s i Symlink = (record { dir_is = refl; object_is = refl }, (record { dir_is = refl; object_is = refl }, tt))
@@ -111,14 +89,14 @@ behind_pointers id old whole rest some = below_offset (head_of id 1 Indirect old
 directory_pairs : (old : Bool) (id : ObjectId) (nlink count : ℕ) (body : Body) → Pairs Under (directory_items old id nlink count body)
 directory_pairs old id nlink count body = ((behind_stat id old 1 Directory true count (24 * count) (omega arith), tt), (tt, tt))
 
-module _ (stat pointers rest : parts.Item) (whole : ℕ) (stat_first : Under stat pointers) (stat_before : Under stat rest) (behind : 1 ≤ whole → Under pointers rest) where
+module _ (stat pointers rest : parts.SampleItem) (whole : ℕ) (stat_first : Under stat pointers) (stat_before : Under stat rest) (behind : 1 ≤ whole → Under pointers rest) where
   file_pairs : (w r : Bool) → (whole == 0) ≡ w → Pairs Under (stat ∷ (cond w [] (pointers ∷ []) ++ cond r [] (rest ∷ [])))
   file_pairs true true is = (tt, tt)
   file_pairs true false is = ((stat_before, tt), (tt, tt))
   file_pairs false true is = ((stat_first, tt), (tt, tt))
   file_pairs false false is = ((stat_first, (stat_before, tt)), ((behind (grind (arith, nat_tests, is)), tt), (tt, tt)))
 
-content_pairs : (s : Shape) (i : ℕ) (c : Content) → Pairs Under (items_of_content s i c)
+content_pairs : (s : Shape) (i : ℕ) (c : SampleEntry) → Pairs Under (items_of_content s i c)
 unfolding items_of_content
 content_pairs s i Name = tt
 content_pairs s i Symlink = ((behind_stat (file_id (length s.names) i) s.old 1 Direct true 0 6 (omega arith), tt), (tt, tt))
@@ -132,11 +110,11 @@ content_pairs s i (File whole rest sparse) =
 abbrev pub dir_of : Shape → ℕ → ℕ
 dir_of s o = cond (o == 0) 1 (cond (nat_lt o (directory_count (length s.names) + 1)) 2 (3 + (o - directory_count (length s.names) - 1) / 100))
 
-pub record IsObject (s : Shape) (o : ℕ) (list : List parts.Item) : Type 0 where
+pub record IsObject (s : Shape) (o : ℕ) (list : List parts.SampleItem) : Type 0 where
   pub owned : Each (IsOf (dir_of s o) (2 + o)) list
   pub pairs : Pairs Under list
 
-owned_as : (d o d' o' : ℕ) (list : List parts.Item) → d ≡ d' → o ≡ o' → Each (IsOf d o) list → Each (IsOf d' o') list
+owned_as : (d o d' o' : ℕ) (list : List parts.SampleItem) → d ≡ d' → o ≡ o' → Each (IsOf d o) list → Each (IsOf d' o') list
 owned_as d o d' o' list dir object each = subst (λ n. Each (IsOf n o') list) dir (subst (λ n. Each (IsOf d n) list) object each)
 
 module _ (s : Shape) (o : ℕ) where
@@ -146,13 +124,13 @@ module _ (s : Shape) (o : ℕ) where
   abbrev i : ℕ
   i = o - directories - 1
 
-  abbrev root : List parts.Item
+  abbrev root : List parts.SampleItem
   root = directory_items s.old root_id (2 + directories) (2 + directories) Root
 
-  abbrev directory : List parts.Item
+  abbrev directory : List parts.SampleItem
   directory = directory_items s.old (directory_id (o - 1)) 2 (2 + names_in (length s.names) (o - 1)) (Names (o - 1))
 
-  abbrev named : List parts.Item
+  abbrev named : List parts.SampleItem
   named = items_of_content s i (get_or s.names i Name)
 
   object_by : (a b : Bool) → (o == 0) ≡ a → nat_lt o (directories + 1) ≡ b
@@ -169,8 +147,8 @@ module _ (s : Shape) (o : ℕ) where
       let past : directories + 1 ≤ o = grind (arith, nat_tests, is-b) in
       (owned_as (3 + i / 100) (3 + directories + i) (3 + i / 100) (2 + o) named refl (omega (arith, past)) (content_owned s i (get_or s.names i Name)), content_pairs s i (get_or s.names i Name))
 
-  pub object_is : IsObject s o (items_of s o)
-  unfolding items_of
+  pub object_is : IsObject s o (items_of_name s o)
+  unfolding items_of_name
   object_is = let both = object_by (o == 0) (nat_lt o (directories + 1)) refl refl in record { owned = both.0; pairs = both.1 }
 
 -- where the directory of an object stands among all
@@ -205,17 +183,17 @@ dirs_rise : (s : Shape) (o p : ℕ) → o < p → dir_of s o ≤ dir_of s p
 dirs_rise s o p lt = dirs_rise_by s o p lt (dir_case_by s o _ _ refl refl) (dir_case_by s p _ _ refl refl)
 
 -- an item of an object from o on
-abbrev IsLater : Shape → ℕ → parts.Item → Type 0
+abbrev IsLater : Shape → ℕ → parts.SampleItem → Type 0
 IsLater s o x = (p : ℕ) × (o ≤ p) × IsOf (dir_of s p) (2 + p) x
 
 later_each : (s : Shape) (o n : ℕ) → Each (IsLater s o) (items_from s o n)
 later_each s o zero = tt
 later_each s o (suc n) =
-    each_join (IsLater s o) (items_of s o) (items_from s (o + 1) n)
-    (each_to (IsOf (dir_of s o) (2 + o)) (IsLater s o) (λ x is. (o, omega arith, is)) (items_of s o) (object_is s o).owned)
+    each_join (IsLater s o) (items_of_name s o) (items_from s (o + 1) n)
+    (each_to (IsOf (dir_of s o) (2 + o)) (IsLater s o) (λ x is. (o, omega arith, is)) (items_of_name s o) (object_is s o).owned)
     (each_to (IsLater s (o + 1)) (IsLater s o) (λ x is. (is.0, omega (arith, is.1), is.2)) (items_from s (o + 1) n) (later_each s (o + 1) n))
 
-under_later : (s : Shape) (o : ℕ) (x y : parts.Item) → IsOf (dir_of s o) (2 + o) x → IsLater s (o + 1) y → Under x y
+under_later : (s : Shape) (o : ℕ) (x y : parts.SampleItem) → IsOf (dir_of s o) (2 + o) x → IsLater s (o + 1) y → Under x y
 under_later s o x y own later =
     below_object x.head y.head
     (omega (arith, own.dir_is, later.2.dir_is, dirs_rise s o later.0 (omega (arith, later.1))))
@@ -224,10 +202,10 @@ under_later s o x y own later =
 from_pairs : (s : Shape) (o n : ℕ) → Pairs Under (items_from s o n)
 from_pairs s o zero = tt
 from_pairs s o (suc n) =
-    pairs_append Under (items_of s o) (items_from s (o + 1) n) (object_is s o).pairs (from_pairs s (o + 1) n)
+    pairs_append Under (items_of_name s o) (items_from s (o + 1) n) (object_is s o).pairs (from_pairs s (o + 1) n)
     (each_to (IsOf (dir_of s o) (2 + o)) (λ x. Each (Under x) (items_from s (o + 1) n))
     (λ x own. each_to (IsLater s (o + 1)) (Under x) (λ y later. under_later s o x y own later) (items_from s (o + 1) n) (later_each s (o + 1) n))
-    (items_of s o) (object_is s o).owned)
+    (items_of_name s o) (object_is s o).owned)
 
 items_pairs : (s : Shape) → Pairs Under (items s)
 unfolding items
@@ -236,22 +214,22 @@ items_pairs s = from_pairs s 0 (object_count (length s.names))
 abbrev BelowContent : ItemHead × List ℕ → ItemHead × List ℕ → Type 0
 BelowContent a b = IsBelow a.0 b.0
 
-each_laid : (s : Shape) (x : parts.Item) (xs : List parts.Item) → Each (Under x) xs → Each (BelowContent (laid_content s x)) (map (laid_content s) xs)
+each_laid : (s : Shape) (x : parts.SampleItem) (xs : List parts.SampleItem) → Each (Under x) xs → Each (BelowContent (laid_content s x)) (map (laid_content s) xs)
 each_laid s x [] each = tt
 each_laid s x (y ∷ ys) each = (each.0, each_laid s x ys each.1)
 
-pairs_laid : (s : Shape) (xs : List parts.Item) → Pairs Under xs → Pairs BelowContent (map (laid_content s) xs)
+pairs_laid : (s : Shape) (xs : List parts.SampleItem) → Pairs Under xs → Pairs BelowContent (map (laid_content s) xs)
 pairs_laid s [] pairs = tt
 pairs_laid s (x ∷ xs) pairs = (each_laid s x xs pairs.0, pairs_laid s xs pairs.1)
 
-abbrev BelowItem : Item → Item → Type 0
+abbrev BelowItem : ReiserItem → ReiserItem → Type 0
 BelowItem i j = IsBelow i.head j.head
 
-each_met : (i : Item) (is : List Item) → Each (BelowContent (content i)) (map content is) → Each (BelowItem i) is
+each_met : (i : ReiserItem) (is : List ReiserItem) → Each (BelowContent (content i)) (map content is) → Each (BelowItem i) is
 each_met i [] each = tt
 each_met i (j ∷ js) each = (each.0, each_met i js each.1)
 
-pairs_met : (is : List Item) → Pairs BelowContent (map content is) → Pairs BelowItem is
+pairs_met : (is : List ReiserItem) → Pairs BelowContent (map content is) → Pairs BelowItem is
 pairs_met [] pairs = tt
 pairs_met (i ∷ is) pairs = (each_met i is pairs.0, pairs_met is pairs.1)
 

@@ -1,10 +1,5 @@
 -- Stat data that was written reads back.
-use Rattle.std.proofs.Common.{◌≡◌, ℕ, ◌^◌, ◌<◌, Bool, true, false, cond, List, drop, arith, Some}
-use Rattle.byteorder.specs.Numbers.{little_number-reads_back}
-use Rattle.reiser_volume.specs.vol_block.Volume.{field}
-use Rattle.reiser_volume.specs.reiser_items.Stat.{stat_of}
-use Rattle.reiser_volume.specs.reiser_items.declared.stat.StatData.{StatData}
-use Rattle.reiser_make.specs.Items.{stat_bytes}
+use Rattle.reiser_make_laws.proofs.Imports.{◌≡◌, ℕ, ◌^◌, ◌<◌, Bool, true, false, cond, List, drop, arith, Some, little_number-reads_back, field, stat_of, StatData, stat_bytes}
 
 -- What a reader has of it: version 0 keeps no attributes, and has one field for the device and for the units; version 1
 -- does not keep where direct bytes begin.

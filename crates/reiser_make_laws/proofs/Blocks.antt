@@ -1,15 +1,5 @@
 -- Which bytes a block has behind the laying of blocks.
-use Rattle.std.proofs.Common.{◌≡◌, ◌≢◌, ◌⊎◌, inl, inr, ℕ, zero, suc, ◌+◌, ◌-◌, ◌*◌, ◌≤◌, ◌<◌, List, [], ◌∷◌, ◌++◌, length, map, refl, sym, ◌∙◌, ap, subst, arith, slice_index_or, append_assoc}
-use Rattle.std.specs.Prelude.{slice_set}
-use Rattle.std.specs.List.{range_with_len, flat_map}
-use Rattle.std.proofs.lemmas.List.{get_or-set_same, get_or-set_other}
-use Rattle.reiser_volume.specs.outside.History.{Image, block_at}
-use Rattle.reiser_make.specs.Layout.{Placed, laid_over, volume_blocks, system_part, system_row, system_placed, system_block, data_part, data_of_name, data_of_content, data_placed, leaf_part, leaf_placed, inner_part, level_part, inner_placed, bitmap_part, bitmap_placed}
-use Rattle.reiser_make.specs.Places.{place, bitmap_blocks}
-use Rattle.reiser_make.specs.Shape.{Shape}
-use Rattle.reiser_make.specs.Inner.{needed}
-use Rattle.reiser_make.specs.declared.content.Content.{Content}
-use Rattle.reiser_make.specs.declared.content.Content.TheVariants.{Name, Symlink, File}
+use Rattle.reiser_make_laws.proofs.Imports.{◌≡◌, ◌≢◌, ◌⊎◌, inl, inr, ℕ, zero, suc, ◌+◌, ◌-◌, ◌*◌, ◌≤◌, ◌<◌, List, [], ◌∷◌, ◌++◌, length, map, refl, sym, ◌∙◌, ap, subst, arith, slice_index_or, append_assoc, slice_set, range_with_len, flat_map, get_or-set_same, get_or-set_other, BITS_IN_BLOCK, Image, block_at, Placed, laid_over, volume_blocks, system_part, system_row, system_placed, system_block, data_part, data_of_name, data_of_content, data_placed, leaf_part, leaf_placed, inner_part, level_part, inner_placed, bitmap_part, bitmap_placed, place, bitmap_blocks, Shape, needed, SampleEntry, Name, Symlink, File}
 use Rattle.reiser_make.proofs.Laying.{laid_over-append}
 
 -- no block of the list goes to b
@@ -71,7 +61,7 @@ away_place : (b j : ℕ) → b < 8211 → b ≢ place j
 unfolding place
 away_place b j low = λ same. omega (arith, low, same)
 
-away_data : (s : Shape) (i b : ℕ) (content : Content) → b < 8211 → Away b (data_of_content s i content)
+away_data : (s : Shape) (i b : ℕ) (content : SampleEntry) → b < 8211 → Away b (data_of_content s i content)
 away_data s i b Name low = tt
 away_data s i b Symlink low = tt
 away_data s i b (File whole rest sparse) low = away_row b (data_placed s i sparse) 0 _ (λ j above below. away_place b _ low)
@@ -96,8 +86,8 @@ system_is s blocks b image low inside =
     ∙ row_gives (system_placed s blocks) 0 8211 b image (omega arith) (omega (arith, low)) (λ i j lt. lt) inside
 
 -- the bitmap blocks behind the first
-pub bitmap_is : (s : Shape) (blocks k : ℕ) (image : Image) → 1 ≤ k → k < bitmap_blocks blocks → 32768 * k < length image
-    → block_at (laid_over (volume_blocks s blocks) image) (32768 * k) ≡ (bitmap_placed (needed s) blocks k).1
+pub bitmap_is : (s : Shape) (blocks k : ℕ) (image : Image) → 1 ≤ k → k < bitmap_blocks blocks → BITS_IN_BLOCK * k < length image
+    → block_at (laid_over (volume_blocks s blocks) image) (BITS_IN_BLOCK * k) ≡ (bitmap_placed (needed s) blocks k).1
 unfolding volume_blocks
 bitmap_is s blocks k image some low inside =
     let before : List Placed = system_part s blocks ++ (data_part s ++ (leaf_part s ++ inner_part s)) in
@@ -106,6 +96,6 @@ bitmap_is s blocks k image some low inside =
     sym (append_assoc (system_part s blocks) (data_part s ++ (leaf_part s ++ inner_part s)) last
     ∙ ap (λ z. system_part s blocks ++ z) (append_assoc (data_part s) (leaf_part s ++ inner_part s) last)
     ∙ ap (λ z. system_part s blocks ++ (data_part s ++ z)) (append_assoc (leaf_part s) (inner_part s) last)) in
-    ap (λ (ps : List Placed). block_at (laid_over ps image) (32768 * k)) parts
-    ∙ ap (λ (i : Image). block_at i (32768 * k)) (laid_over-append before (bitmap_part (needed s) blocks) image)
+    ap (λ (ps : List Placed). block_at (laid_over ps image) (BITS_IN_BLOCK * k)) parts
+    ∙ ap (λ (i : Image). block_at i (BITS_IN_BLOCK * k)) (laid_over-append before (bitmap_part (needed s) blocks) image)
     ∙ row_gives (bitmap_placed (needed s) blocks) 1 (bitmap_blocks blocks - 1) k (laid_over before image) some (omega (arith, low)) (λ i j lt. omega (arith, lt)) (omega (arith, inside, length-laid_over before image))

@@ -1,25 +1,11 @@
 -- Superblock and journal of a sample are those of a clean volume.
-use Rattle.std.proofs.Common.{◌≡◌, ℕ, zero, suc, ◌+◌, ◌^◌, ◌≤◌, ◌<◌, Bool, true, false, cond, List, [], ◌∷◌, length, map, drop, filter, refl, sym, ◌∙◌, ap, subst, arith}
-use Rattle.std.specs.Prelude.{nat_le}
-use Rattle.std.specs.List.{range_with_len}
-use Rattle.byteorder.specs.Numbers.{little_number-reads_back}
+use Rattle.reiser_make_laws.proofs.Imports.{◌≡◌, ℕ, zero, suc, ◌+◌, ◌^◌, ◌≤◌, ◌<◌, Bool, true, false, cond, List, [], ◌∷◌, length, map, drop, filter, refl, sym, ◌∙◌, ap, subst, arith, nat_le, range_with_len, SUPER_BLOCK, little_number-reads_back, field, zeros, Image, block_at, superblock_fields, journal_device, block_size, mount_state, checker_state, needed, root_level, root_from, nodes_above, total, volume_blocks, system_block, leaves, Shape, shape, leaves_some, node_below, system_below, total_some, root_low, nodes_some, FitsSample, made}
 use Rattle.reiser_volume.specs.vol_block.Format.{has_reiser_magic}
-use Rattle.reiser_volume.specs.vol_block.Volume.{field, zeros}
-use Rattle.reiser_volume.specs.outside.History.{Image, block_at}
 use Rattle.reiser_volume.specs.reiser_super.declared.superblock.Super.{Super}
-use Rattle.reiser_volume.specs.reiser_super.Superblock.{super_of, journal_device, block_size, mount_state, checker_state}
 use Rattle.reiser_volume.specs.reiser_super.Rules.{IsCleanSuper, IsInBounds, has_old_magic}
 use Rattle.reiser_volume.specs.reiser_super.Journal.{IsClean, pending_transactions, all_transactions, names_place, is_descriptor, log_block, transaction, last_flushed, next_place, waiting_at}
-use Rattle.reiser_make.specs.Inner.{needed, root_level, root_from, nodes_above, total}
-use Rattle.reiser_make.specs.Layout.{volume_blocks, system_block}
-use Rattle.reiser_make.specs.Leaf.{leaves}
-use Rattle.reiser_make.specs.Shape.{Shape, shape}
-use Rattle.reiser_make.specs.Superblock.{fields_bytes, super_bytes, super_fields, root_block, tree_height}
+use Rattle.reiser_make.specs.Superblock.{fields_bytes, superblock_bytes, super_fields, root_block, tree_height}
 use Rattle.reiser_make.specs.declared.superblock.SuperFields.{SuperFields}
-use Rattle.reiser_make.proofs.Counting.{leaves_some}
-use Rattle.reiser_make.proofs.Placed.{node_below, system_below, total_some}
-use Rattle.reiser_make.proofs.Rising.{root_low, nodes_some}
-use Rattle.reiser_make_laws.specs.Laws.{Fits, made}
 use Rattle.reiser_make_laws.proofs.Blocks.{system_is, length-laid_over}
 
 -- the fields that vary
@@ -65,16 +51,16 @@ root_high leaves = omega (arith, root_from_high 5 1 leaves)
 -- what of a superblock a clean volume asks for
 pub record HasFields (s : Shape) (blocks : ℕ) (bytes : List ℕ) : Type 0 where
   pub fixed_ones : HasFixed bytes
-  pub blocks_is : (super_of bytes).blocks ≡ blocks
-  pub root_is : (super_of bytes).root ≡ root_block s
-  pub height_is : (super_of bytes).height ≡ tree_height s
+  pub blocks_is : (superblock_fields bytes).blocks ≡ blocks
+  pub root_is : (superblock_fields bytes).root ≡ root_block s
+  pub height_is : (superblock_fields bytes).height ≡ tree_height s
 
 root_inside : (s : Shape) → root_block s < needed s
 root_inside s =
     let count : ℕ = length (leaves s) in
     node_below s (root_level count) 0 (root_low count) (omega arith) (omega (arith, nodes_some count (root_level count) (leaves_some s)))
 
-pub has_fields : (s : Shape) (blocks : ℕ) → needed s ≤ blocks → blocks ≤ 2 ^ 29 → HasFields s blocks (super_bytes s blocks)
+pub has_fields : (s : Shape) (blocks : ℕ) → needed s ≤ blocks → blocks ≤ 2 ^ 29 → HasFields s blocks (superblock_bytes s blocks)
 has_fields s blocks enough few =
     let f : SuperFields = super_fields s blocks in
     record {
@@ -87,7 +73,7 @@ has_fields s blocks enough few =
 clean_super : (s : Shape) (blocks device : ℕ) (bytes : List ℕ) → needed s ≤ blocks → blocks ≤ 2 ^ 29 → blocks ≤ device → HasFields s blocks bytes → IsCleanSuper bytes device
 clean_super s blocks device bytes enough few inside has =
     let long : 8210 < needed s = system_below (total s) 8210 (total_some s) (omega arith) in
-    let bounds : IsInBounds (super_of bytes) = record {
+    let bounds : IsInBounds (superblock_fields bytes) = record {
       height_low = omega (arith, has.height_is, root_low (length (leaves s)));
       height_high = omega (arith, has.height_is, root_high (length (leaves s)));
       root = omega (arith, has.root_is, has.blocks_is, root_inside s, enough);
@@ -144,25 +130,25 @@ empty_block : (s : Shape) (blocks b : ℕ) → 18 ≤ b → system_block s block
 empty_block s blocks b low = grind (arith, low)
 
 -- the superblock behind a make
-pub super_made : (number : ℕ) (old : Bool) (blocks : ℕ) (image : Image) → Fits number old blocks image
-    → HasFields (shape number old) blocks (block_at (made (shape number old) blocks image) 16)
+pub super_made : (number : ℕ) (old : Bool) (blocks : ℕ) (image : Image) → FitsSample number old blocks image
+    → HasFields (shape number old) blocks (block_at (made (shape number old) blocks image) SUPER_BLOCK)
 super_made number old blocks image fits =
     let s : Shape = shape number old in
     let long : 8210 < needed s = system_below (total s) 8210 (total_some s) (omega arith) in
-    let block : block_at (made s blocks image) 16 ≡ super_bytes s blocks = system_is s blocks 16 image (omega arith) (omega (arith, long, fits.needed_low, fits.inside)) in
+    let block : block_at (made s blocks image) SUPER_BLOCK ≡ superblock_bytes s blocks = system_is s blocks 16 image (omega arith) (omega (arith, long, fits.needed_low, fits.inside)) in
     subst (λ (bytes : List ℕ). HasFields s blocks bytes) (sym block) (has_fields s blocks fits.needed_low fits.blocks_low)
 
-pub clean : (number : ℕ) (old : Bool) (blocks : ℕ) (image : Image) → Fits number old blocks image → IsClean (made (shape number old) blocks image)
+pub clean : (number : ℕ) (old : Bool) (blocks : ℕ) (image : Image) → FitsSample number old blocks image → IsClean (made (shape number old) blocks image)
 clean number old blocks image fits =
     let s : Shape = shape number old in
     let long : 8210 < needed s = system_below (total s) 8210 (total_some s) (omega arith) in
-    let has : HasFields s blocks (block_at (made s blocks image) 16) = super_made number old blocks image fits in
+    let has : HasFields s blocks (block_at (made s blocks image) SUPER_BLOCK) = super_made number old blocks image fits in
     let device : length (made s blocks image) ≡ length image = length-laid_over (volume_blocks s blocks) image in
     record {
       superblock = clean_super s blocks (length (made s blocks image)) _ fits.needed_low fits.blocks_low (omega (arith, fits.inside, device)) has;
-      journal = no_pending (super_of (block_at (made s blocks image) 16)) (made s blocks image)
+      journal = no_pending (superblock_fields (block_at (made s blocks image) SUPER_BLOCK)) (made s blocks image)
           (λ place low.
-          let b : ℕ = (super_of (block_at (made s blocks image) 16)).journal_first + place in
+          let b : ℕ = (superblock_fields (block_at (made s blocks image) SUPER_BLOCK)).journal_first + place in
           system_is s blocks b image (omega (arith, low, has.fixed_ones.first, has.fixed_ones.size)) (omega (arith, low, has.fixed_ones.first, has.fixed_ones.size, long, fits.needed_low, fits.inside))
           ∙ empty_block s blocks b (omega (arith, has.fixed_ones.first)));
     }

@@ -1,14 +1,5 @@
 -- The rows of a sample ascend by path.
-use Rattle.std.proofs.Common.{◌≡◌, ℕ, zero, suc, ◌+◌, ◌*◌, ◌/◌, ◌≤◌, ◌<◌, List, [], ◌∷◌, get_or, refl, ◌∙◌, ap, arith}
-use Rattle.std.specs.List.{range_with_len, flat_map}
-use Rattle.std.specs.declared.cmp.Ordering.TheVariants.{Less}
-use Rattle.reiser_volume.specs.fs_rows.Rows.{NameList, WholeRow, path_cmp, AscendsByPath}
-use Rattle.reiser_make.specs.Names.{directory_name, file_name}
-use Rattle.reiser_make.specs.Rows.{directory_row, path_of}
-use Rattle.reiser_make.specs.Shape.{directory_count, names_in, named_by}
-use Rattle.reiser_make.specs.declared.content.Content.{Content}
-use Rattle.reiser_make.specs.declared.content.Content.TheVariants.{Name}
-use Rattle.reiser_volume.proofs.reiser_walk.Lists.{Each, Pairs, all_pairs_from_pairs}
+use Rattle.reiser_make_laws.proofs.Imports.{◌≡◌, ℕ, zero, suc, ◌+◌, ◌*◌, ◌/◌, ◌≤◌, ◌<◌, List, [], ◌∷◌, get_or, refl, ◌∙◌, ap, arith, range_with_len, flat_map, Less, NameList, WholeRow, path_cmp, AscendsByPath, directory_name, file_name, directory_row, path_of, directory_count, names_in, named_by, SampleEntry, Name, Each, Pairs, all_pairs_from_pairs}
 use Rattle.reiser_make_laws.proofs.Ascending.{each_to, pairs_append}
 use Rattle.reiser_make_laws.proofs.Counted.{row_by, rows_in, rows_by, own_path}
 use Rattle.reiser_make_laws.proofs.Lists.{each_row, each_rows, pairs_row}
@@ -24,7 +15,7 @@ under_by x y p q is_p is_q less = ap (λ z. path_cmp z y.path) is_p ∙ ap (path
 abbrev Begins : ℕ → WholeRow → Type 0
 Begins k row = (rest : NameList) × (row.path ≡ directory_name k ∷ rest)
 
-module _ (number : ℕ) (names : List Content) (few : number ≤ 4000) where
+module _ (number : ℕ) (names : List SampleEntry) (few : number ≤ 4000) where
   name_path : (i : ℕ) → (row_by number names i).path ≡ path_of i
   name_path i = own_path number i (named_by i) (get_or names (named_by i) Name)
 

@@ -1,51 +1,25 @@
 -- The bytes of a sample's files and the targets of its symlinks are those that were written.
-use Rattle.std.proofs.Common.{◌≡◌, ◌⊎◌, inl, inr, ℕ, zero, suc, ◌+◌, ◌-◌, ◌*◌, ◌/◌, ◌%◌, ◌≤◌, ◌<◌, Bool, true, false, cond, ◌==◌, ◌&&◌, List, [], ◌∷◌, ◌++◌, length, map, get_or, refl, sym, ◌∙◌, ap, subst, arith, Some, None, Option, eqb-true, ne_eqb, Contains}
-use Rattle.std.specs.Prelude.{nat_le, nat_lt, unwrap_or, slice_index}
-use Rattle.std.specs.List.{range_with_len}
-use Rattle.std.specs.Option.{option_or}
-use Rattle.std.proofs.lemmas.Bool.{and_from, cases_lt}
-use Rattle.std.proofs.lemmas.Bool.Decides.{nat_tests}
-use Rattle.std.proofs.lemmas.List.FromFn.{get_or-map-range_with_len}
-use Rattle.std.proofs.lemmas.List.Elements.{Contains-append_left, Contains-append_right}
-use Rattle.std.proofs.lemmas.List.Sums.{sum_by-take-le}
-use Rattle.reiser_volume.specs.outside.History.{Image, block_at}
+use Rattle.reiser_make_laws.proofs.Imports.{◌≡◌, ◌⊎◌, inl, inr, ℕ, zero, suc, ◌+◌, ◌-◌, ◌*◌, ◌/◌, ◌%◌, ◌≤◌, ◌<◌, Bool, true, false, cond, ◌==◌, ◌&&◌, List, [], ◌∷◌, ◌++◌, length, map, get_or, refl, sym, ◌∙◌, ap, subst, arith, Some, None, eqb-true, ne_eqb, Contains, nat_le, nat_lt, unwrap_or, slice_index, range_with_len, option_or, and_from, cases_lt, nat_tests, get_or-map-range_with_len, Contains-append_left, Contains-append_right, sum_by-take-le, Image, block_at, first_byte, is_covered, direct_by_kind, direct_byte, pointer_by_kind, named_block, block_byte, pointers, needed, stat_item, item, items_of_content, body_bytes, rest_of_content, Placed, volume_blocks, system_part, data_part, data_of_name, data_of_content, data_placed, leaf_part, inner_part, bitmap_part, file_name, place, Shape, shape, file_id, stored_before, stored_in, stored_of, stored_blocks, stored_block, file_byte, sample_bytes, Name, Symlink, File, Pointers, Bytes, Target, ObjectId, data_below, ItemHead, ItemKind, Stat, Indirect, Direct, Directory, StatData, ReiserItem, FitsSample, made, content, laid_content}
+use Rattle.std.proofs.Common.{Option}
+use Rattle.reiser_make.specs.Shape.{pointer}
 use Rattle.reiser_volume.specs.fs_rows.Bytes.{bytes_by}
-use Rattle.reiser_volume.specs.reiser_volume_files.Bytes.{first_byte, is_covered, direct_by_kind, direct_byte, pointer_by_kind, named_block, block_byte}
 use Rattle.reiser_volume.specs.reiser_volume_files.Bytes as read
-use Rattle.reiser_volume.specs.reiser_items.Pointers.{pointers}
-use Rattle.reiser_make.specs.Inner.{needed}
-use Rattle.reiser_make.specs.Items.{stat_item, item, items_of_content, body_bytes, rest_of_content}
-use Rattle.reiser_make.specs.Layout.{Placed, volume_blocks, system_part, data_part, data_of_name, data_of_content, data_placed, leaf_part, inner_part, bitmap_part}
-use Rattle.reiser_make.specs.Names.{file_name}
-use Rattle.reiser_make.specs.Places.{place}
-use Rattle.reiser_make.specs.Shape.{Shape, shape, file_id, pointer, stored_before, stored_in, stored_of, stored_blocks, stored_block, file_byte, file_bytes}
-use Rattle.reiser_make.specs.declared.content.Content.TheVariants.{Name, Symlink, File}
-use Rattle.reiser_make.specs.declared.item.Body.TheVariants.{Pointers, Bytes, Target}
-use Rattle.reiser_make.specs.declared.item.Item as parts
-use Rattle.reiser_make.specs.declared.object.ObjectId.{ObjectId}
-use Rattle.reiser_make.proofs.Placed.{data_below}
-use Rattle.reiser_volume.specs.reiser_node.declared.head.ItemHead.{ItemHead}
-use Rattle.reiser_volume.specs.reiser_node.declared.head.ItemKind.{ItemKind}
-use Rattle.reiser_volume.specs.reiser_node.declared.head.ItemKind.TheVariants.{Stat, Indirect, Direct, Directory}
-use Rattle.reiser_volume.specs.reiser_items.declared.stat.StatData.{StatData}
-use Rattle.reiser_volume.specs.reiser_walk.Items.{Item}
+use Rattle.reiser_make.specs.declared.sample_item.SampleItem as parts
 use Rattle.reiser_make_laws.proofs.Data.{pointers_back, pointers_are, place_some}
 use Rattle.reiser_make_laws.proofs.Held.{in_row, in_rows}
 use Rattle.reiser_make_laws.proofs.Namings.{item_of}
 use Rattle.reiser_make_laws.proofs.Objects.{file_stat}
 use Rattle.reiser_make_laws.proofs.Places.{holds_blocks, stored_next}
 use Rattle.reiser_make_laws.proofs.Writable.{rest_body}
-use Rattle.reiser_make_laws.specs.Laws.{Fits, made}
-use Rattle.reiser_make_laws.specs.Walk.{content, laid_content}
 
 -- a byte depends on heads and bodies alone
-direct_kind : (kind : ItemKind) (i : Item) (n : ℕ) → direct_by_kind kind i n ≡ direct_by_kind kind (item_of (content i)) n
+direct_kind : (kind : ItemKind) (i : ReiserItem) (n : ℕ) → direct_by_kind kind i n ≡ direct_by_kind kind (item_of (content i)) n
 direct_kind Stat i n = refl
 direct_kind Indirect i n = refl
 direct_kind Direct i n = refl
 direct_kind Directory i n = refl
 
-pointer_kind : (kind : ItemKind) (i : Item) (k : ℕ) → pointer_by_kind kind i k ≡ pointer_by_kind kind (item_of (content i)) k
+pointer_kind : (kind : ItemKind) (i : ReiserItem) (k : ℕ) → pointer_by_kind kind i k ≡ pointer_by_kind kind (item_of (content i)) k
 pointer_kind Stat i k = refl
 pointer_kind Indirect i k = refl
 pointer_kind Direct i k = refl
@@ -55,24 +29,24 @@ pointer_kind Directory i k = refl
 abbrev or_next : ℕ → ℕ → ℕ
 or_next p rest = cond (p == 0) rest p
 
-direct_content : (is : List Item) (n : ℕ) → direct_byte is n ≡ direct_byte (map item_of (map content is)) n
+direct_content : (is : List ReiserItem) (n : ℕ) → direct_byte is n ≡ direct_byte (map item_of (map content is)) n
 direct_content [] n = refl
 direct_content (i ∷ is) n =
     ap (λ o. option_or o (direct_byte is n)) (direct_kind i.head.kind i n) ∙ ap (option_or (direct_by_kind i.head.kind (item_of (content i)) n)) (direct_content is n)
 
-named_content : (is : List Item) (k : ℕ) → named_block is k ≡ named_block (map item_of (map content is)) k
+named_content : (is : List ReiserItem) (k : ℕ) → named_block is k ≡ named_block (map item_of (map content is)) k
 named_content [] k = refl
 named_content (i ∷ is) k =
     ap (λ p. or_next p (named_block is k)) (pointer_kind i.head.kind i k) ∙ ap (or_next (pointer_by_kind i.head.kind (item_of (content i)) k)) (named_content is k)
 
 -- an item of the layout in no leaf
-abbrev laid_item : Shape → parts.Item → Item
+abbrev laid_item : Shape → parts.SampleItem → ReiserItem
 laid_item s x = item_of (laid_content s x)
 
-abbrev laid_items : Shape → List parts.Item → List Item
+abbrev laid_items : Shape → List parts.SampleItem → List ReiserItem
 laid_items s xs = map item_of (map (laid_content s) xs)
 
-byte_found : (image : Image) (s : Shape) (is : List Item) (xs : List parts.Item) (n : ℕ) → map content is ≡ map (laid_content s) xs → read.file_byte image is n ≡ read.file_byte image (laid_items s xs) n
+byte_found : (image : Image) (s : Shape) (is : List ReiserItem) (xs : List parts.SampleItem) (n : ℕ) → map content is ≡ map (laid_content s) xs → read.file_byte image is n ≡ read.file_byte image (laid_items s xs) n
 byte_found image s is xs n are =
     ap (λ o. unwrap_or o (block_byte image (named_block is (n / 4096)) (n % 4096))) (direct_content is n)
     ∙ ap (λ b. unwrap_or (direct_byte (map item_of (map content is)) n) (block_byte image b (n % 4096))) (named_content is (n / 4096))
@@ -99,20 +73,20 @@ only_named p true is = sym (eqb-true p 0 is)
 only_named p false is = refl
 
 module _ (image : Image) (s : Shape) (i whole rest : ℕ) (sparse : Bool) (here : get_or s.names i Name ≡ File whole rest sparse) (few : whole ≤ 20) (low : stored_before s.names i ≤ 100000)
-    (held : (j : ℕ) → j < stored_of whole sparse → block_at image (place (stored_before s.names i + j)) ≡ file_bytes i sparse (4096 * stored_block sparse j) 4096) where
+    (held : (j : ℕ) → j < stored_of whole sparse → block_at image (place (stored_before s.names i + j)) ≡ sample_bytes i sparse (4096 * stored_block sparse j) 4096) where
   abbrev id : ObjectId
   id = file_id (length s.names) i
 
   abbrev first : ℕ
   first = stored_before s.names i
 
-  abbrev pointers_item : parts.Item
+  abbrev pointers_item : parts.SampleItem
   pointers_item = item id 1 Indirect s.old 0 (4 * whole) (Pointers i)
 
-  abbrev rest_item : parts.Item
+  abbrev rest_item : parts.SampleItem
   rest_item = item id (4096 * whole + 1) Direct s.old 0xFFFF rest (Bytes i)
 
-  abbrev by_tests : StatData → Bool → Bool → List parts.Item
+  abbrev by_tests : StatData → Bool → Bool → List parts.SampleItem
   by_tests stat w r = stat_item s.old id stat ∷ (cond w [] (pointers_item ∷ []) ++ cond r [] (rest_item ∷ []))
 
   direct_tests : (stat : StatData) (w r : Bool) (n : ℕ) → direct_byte (laid_items s (by_tests stat w r)) n ≡ cond r None (direct_by_kind Direct (laid_item s rest_item) n)
@@ -128,12 +102,12 @@ module _ (image : Image) (s : Shape) (i whole rest : ℕ) (sparse : Bool) (here 
   named_tests stat false false k = let p : ℕ = pointer_by_kind Indirect (laid_item s pointers_item) k in only_named p (p == 0) refl
 
   -- the rest
-  rest_is : body_bytes s s.old (Bytes i) ≡ file_bytes i sparse (4096 * whole) rest
+  rest_is : body_bytes s s.old (Bytes i) ≡ sample_bytes i sparse (4096 * whole) rest
   unfolding body_bytes
   rest_is = ap (rest_of_content i) here
 
-  byte_is : (a n k j : ℕ) → k < n → a + k ≡ j → slice_index (file_bytes i sparse a n) k ≡ file_byte i sparse j
-  unfolding file_bytes
+  byte_is : (a n k j : ℕ) → k < n → a + k ≡ j → slice_index (sample_bytes i sparse a n) k ≡ file_byte i sparse j
+  unfolding sample_bytes
   byte_is a n k j lt at = get_or-map-range_with_len (file_byte i sparse) a n k j 0 lt at
 
   in_rest : (n : ℕ) → 4096 * whole ≤ n → n < 4096 * whole + rest → direct_by_kind Direct (laid_item s rest_item) n ≡ Some (file_byte i sparse n)
@@ -204,7 +178,7 @@ module _ (image : Image) (s : Shape) (i whole rest : ℕ) (sparse : Bool) (here 
 
   byte_by : (stat : StatData) (n : ℕ) → (n < 4096 * whole) ⊎ (4096 * whole ≤ n) → n < 4096 * whole + rest → read.file_byte image (laid_items s (by_tests stat (whole == 0) (rest == 0))) n ≡ file_byte i sparse n
   byte_by stat n (inl less) inside =
-      let is : List Item = laid_items s (by_tests stat (whole == 0) (rest == 0)) in
+      let is : List ReiserItem = laid_items s (by_tests stat (whole == 0) (rest == 0)) in
       let k : ℕ = n / 4096 in
       let some : (whole == 0) ≡ false = ne_eqb whole 0 (λ same. omega (arith, same, less)) in
       ap (λ o. unwrap_or o (block_byte image (named_block is k) (n % 4096))) (direct_tests stat (whole == 0) (rest == 0) n ∙ no_direct (rest == 0) n less)
@@ -212,21 +186,21 @@ module _ (image : Image) (s : Shape) (i whole rest : ℕ) (sparse : Bool) (here 
       (named_tests stat (whole == 0) (rest == 0) k ∙ ap (λ b. cond b 0 (pointer_by_kind Indirect (laid_item s pointers_item) k)) some ∙ pointer_is k (omega (arith, less)))
       ∙ pointer_byte_by n sparse refl less
   byte_by stat n (inr past) inside =
-      let is : List Item = laid_items s (by_tests stat (whole == 0) (rest == 0)) in
+      let is : List ReiserItem = laid_items s (by_tests stat (whole == 0) (rest == 0)) in
       let some : (rest == 0) ≡ false = ne_eqb rest 0 (λ same. omega (arith, same, past, inside)) in
       ap (λ o. unwrap_or o (block_byte image (named_block is (n / 4096)) (n % 4096)))
       (direct_tests stat (whole == 0) (rest == 0) n ∙ ap (λ b. cond b None (direct_by_kind Direct (laid_item s rest_item) n)) some ∙ in_rest n past inside)
 
   -- the bytes of a file
-  pub file_read : (found : List Item) → map content found ≡ map (laid_content s) (items_of_content s i (get_or s.names i Name)) → read.file_bytes image found (4096 * whole + rest) ≡ file_bytes i sparse 0 (4096 * whole + rest)
-  unfolding file_bytes items_of_content
+  pub file_read : (found : List ReiserItem) → map content found ≡ map (laid_content s) (items_of_content s i (get_or s.names i Name)) → read.file_bytes image found (4096 * whole + rest) ≡ sample_bytes i sparse 0 (4096 * whole + rest)
+  unfolding sample_bytes items_of_content
   file_read found are =
       bytes_same (read.file_byte image found) (file_byte i sparse) (4096 * whole + rest)
       (λ n inside. byte_found image s found (items_of_content s i (File whole rest sparse)) n (are ∙ ap (λ c. map (laid_content s) (items_of_content s i c)) here) ∙ byte_by (file_stat (length s.names) i whole rest sparse) n (cases_lt n (4096 * whole)) inside)
 
 -- the target of a symlink
 module _ (image : Image) (s : Shape) (i : ℕ) (here : get_or s.names i Name ≡ Symlink) where
-  abbrev target_item : parts.Item
+  abbrev target_item : parts.SampleItem
   target_item = item (file_id (length s.names) i) 1 Direct true 0 6 (Target (i - 1))
 
   target_byte : (n : ℕ) → n < 6 → direct_by_kind Direct (laid_item s target_item) n ≡ Some (slice_index (file_name (i - 1)) n)
@@ -241,7 +215,7 @@ module _ (image : Image) (s : Shape) (i : ℕ) (here : get_or s.names i Name ≡
   unfolding file_name
   name_whole = refl
 
-  pub target_read : (found : List Item) → map content found ≡ map (laid_content s) (items_of_content s i (get_or s.names i Name)) → read.file_bytes image found 6 ≡ file_name (i - 1)
+  pub target_read : (found : List ReiserItem) → map content found ≡ map (laid_content s) (items_of_content s i (get_or s.names i Name)) → read.file_bytes image found 6 ≡ file_name (i - 1)
   unfolding items_of_content
   target_read found are =
       let direct = λ (n : ℕ) (lt : n < 6). or_none (direct_by_kind Direct (laid_item s target_item) n) ∙ target_byte n lt in
@@ -252,8 +226,8 @@ module _ (image : Image) (s : Shape) (i : ℕ) (here : get_or s.names i Name ≡
       ∙ name_whole
 
 -- the stored blocks of a file are where its pointers say
-pub data_held : (number : ℕ) (old : Bool) (blocks : ℕ) (image : Image) → Fits number old blocks image → let s = shape number old in (i whole rest : ℕ) (sparse : Bool) → i < length s.names → get_or s.names i Name ≡ File whole rest sparse → (j : ℕ) → j < stored_of whole sparse
-    → block_at (made s blocks image) (place (stored_before s.names i + j)) ≡ file_bytes i sparse (4096 * stored_block sparse j) 4096
+pub data_held : (number : ℕ) (old : Bool) (blocks : ℕ) (image : Image) → FitsSample number old blocks image → let s = shape number old in (i whole rest : ℕ) (sparse : Bool) → i < length s.names → get_or s.names i Name ≡ File whole rest sparse → (j : ℕ) → j < stored_of whole sparse
+    → block_at (made s blocks image) (place (stored_before s.names i + j)) ≡ sample_bytes i sparse (4096 * stored_block sparse j) 4096
 unfolding volume_blocks
 data_held number old blocks image fits i whole rest sparse lt here j inside =
     let s : Shape = shape number old in

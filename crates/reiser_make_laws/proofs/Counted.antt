@@ -1,41 +1,28 @@
 -- How many rows of a sample have the same least path: as many as the object has names.
-use Rattle.std.proofs.Common.{◌≡◌, ◌≢◌, ◌⊎◌, inl, inr, ⊎_elim, ℕ, zero, suc, ◌+◌, ◌-◌, ◌*◌, ◌/◌, ◌%◌, ◌≤◌, ◌<◌, Bool, true, false, cond, ◌==◌, ◌&&◌, List, [], ◌∷◌, map, get_or, count_by, refl, sym, ◌∙◌, ap, arith, eqb-true, eq-eqb, ne_eqb, true≢false}
-use Rattle.std.specs.Prelude.{nat_le, nat_eq, min}
-use Rattle.std.specs.Cmp.Lexicographic.{pointwise, same_text}
-use Rattle.std.specs.List.{range_with_len, flat_map}
-use Rattle.std.proofs.lemmas.Bool.{and_right, cond_both, cases_lt}
-use Rattle.std.proofs.lemmas.Bool.Decides.{nat_tests}
+use Rattle.reiser_make_laws.proofs.Imports.{◌≡◌, ◌≢◌, ◌⊎◌, inl, inr, ⊎_elim, ℕ, zero, suc, ◌+◌, ◌-◌, ◌*◌, ◌/◌, ◌%◌, ◌≤◌, ◌<◌, Bool, true, false, cond, ◌==◌, ◌&&◌, List, [], ◌∷◌, map, get_or, count_by, refl, sym, ◌∙◌, ap, arith, eqb-true, eq-eqb, ne_eqb, true≢false, nat_le, nat_eq, min, pointwise, same_text, range_with_len, flat_map, and_right, cond_both, cases_lt, nat_tests, sum_by-cons, sum_by-append, NameList, WholeRow, is_same_path, is_further_name, directory_name, file_name, directory_row, path_of, content_row, directory_count, names_in, named_by, name_count, SampleEntry, Name, Symlink, File}
 use Rattle.std.proofs.lemmas.Cmp.{nat_list_eq_equiv, lists_equiv}
-use Rattle.std.proofs.lemmas.List.Sums.{sum_by-cons, sum_by-append}
-use Rattle.reiser_volume.specs.fs_rows.Rows.{NameList, WholeRow, is_same_path}
 use Rattle.reiser_volume.specs.fs_rows.Rows as rows
-use Rattle.reiser_make.specs.Content.{is_further_name}
-use Rattle.reiser_make.specs.Names.{directory_name, file_name}
-use Rattle.reiser_make.specs.Rows.{directory_row, path_of, content_row}
-use Rattle.reiser_make.specs.Shape.{directory_count, names_in, named_by, name_count}
-use Rattle.reiser_make.specs.declared.content.Content.{Content}
-use Rattle.reiser_make.specs.declared.content.Content.TheVariants.{Name, Symlink, File}
 use Rattle.reiser_make_laws.proofs.Keeping.{file_one}
 use Rattle.reiser_make_laws.proofs.Named.{IsOwnName, named_own}
 use Rattle.reiser_make_laws.proofs.Small.{IsOwn}
 use Rattle.reiser_make_laws.proofs.Ways.{first_name}
 
 -- the rows by what the names stand for
-abbrev pub row_by : ℕ → List Content → ℕ → WholeRow
+abbrev pub row_by : ℕ → List SampleEntry → ℕ → WholeRow
 row_by number names i = content_row number i (named_by i) (get_or names (named_by i) Name)
 
-abbrev pub rows_in : ℕ → List Content → ℕ → List WholeRow
+abbrev pub rows_in : ℕ → List SampleEntry → ℕ → List WholeRow
 rows_in number names k = directory_row (directory_name k ∷ []) ∷ map (row_by number names) (range_with_len (100 * k) (names_in number k))
 
-abbrev pub rows_by : ℕ → List Content → List WholeRow
+abbrev pub rows_by : ℕ → List SampleEntry → List WholeRow
 rows_by number names = directory_row [] ∷ flat_map (rows_in number names) (range_with_len 0 (directory_count number))
 
-pub own_path : (number i j : ℕ) (c : Content) → (content_row number i j c).path ≡ path_of i
+pub own_path : (number i j : ℕ) (c : SampleEntry) → (content_row number i j c).path ≡ path_of i
 own_path number i j Name = refl
 own_path number i j Symlink = refl
 own_path number i j (File whole rest sparse) = refl
 
-pub own_least : (number i j : ℕ) (c : Content) → IsOwn c → (content_row number i j c).least ≡ path_of j
+pub own_least : (number i j : ℕ) (c : SampleEntry) → IsOwn c → (content_row number i j c).least ≡ path_of j
 own_least number i j Name own = absurd own
 own_least number i j Symlink own = refl
 own_least number i j (File whole rest sparse) own = refl
@@ -124,7 +111,7 @@ all_hits number j lt own =
 other_length : (a : List ℕ) (j : ℕ) → is_same_path (a ∷ []) (path_of j) ≡ false
 other_length a j = and_right (pointwise nat_eq a (directory_name (j / 100))) false refl
 
-module _ (number : ℕ) (names : List Content) (few : number ≤ 4000) (own : (i : ℕ) → i < number → is_further_name i ≡ false → IsOwn (get_or names i Name)) (j : ℕ) (lt : j < number) where
+module _ (number : ℕ) (names : List SampleEntry) (few : number ≤ 4000) (own : (i : ℕ) → i < number → is_further_name i ≡ false → IsOwn (get_or names i Name)) (j : ℕ) (lt : j < number) where
   -- a row has name j as its least path
   abbrev is_of : WholeRow → Bool
   is_of row = is_same_path row.least (path_of j)

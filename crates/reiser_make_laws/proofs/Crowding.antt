@@ -1,21 +1,7 @@
 -- No directory of a sample has too many names: neither those with one hash nor those of one object take too much.
-use Rattle.std.proofs.Common.{◌≡◌, ℕ, zero, suc, ◌+◌, ◌*◌, ◌≤◌, ◌<◌, Bool, true, false, cond, ◌==◌, ◌&&◌, List, [], ◌∷◌, ◌++◌, length, map, filter, sum_by, count_by, refl, sym, ◌∙◌, ap, subst, arith, append_assoc, length-append, ne_eqb}
-use Rattle.std.specs.Prelude.{nat_lt}
-use Rattle.std.specs.List.{range_with_len, flat_map}
-use Rattle.std.proofs.lemmas.Bool.{cond_both, le-ltb}
-use Rattle.std.proofs.lemmas.List.{length-map}
-use Rattle.std.proofs.lemmas.List.Elements.{filter-append}
-use Rattle.std.proofs.lemmas.List.FromFn.{length-map-range_with_len}
-use Rattle.std.proofs.lemmas.List.Sums.{sum_by-le, count_by-le-length}
+use Rattle.reiser_make_laws.proofs.Imports.{◌≡◌, ℕ, zero, suc, ◌+◌, ◌*◌, ◌≤◌, ◌<◌, Bool, true, false, cond, ◌==◌, ◌&&◌, List, [], ◌∷◌, ◌++◌, length, map, filter, count_by, refl, sym, ◌∙◌, ap, subst, arith, append_assoc, length-append, ne_eqb, nat_lt, range_with_len, flat_map, cond_both, le-ltb, length-map, filter-append, length-map-range_with_len, sum_by-le, count_by-le-length, directory_name, file_name, directory_count, names_in, Each, all_from_each, ObjectKey, Naming, same_key, root, same_key-true, saved_name, crowd_of, reference_size, extended, extended_sum, extended_crowd_of}
+use Rattle.std.proofs.Common.{sum_by}
 use Rattle.reiser_volume.specs.castagnoli.Castagnoli.{name_hash}
-use Rattle.reiser_make.specs.Names.{directory_name, file_name}
-use Rattle.reiser_make.specs.Shape.{directory_count, names_in}
-use Rattle.reiser_volume.proofs.reiser_walk.Lists.{Each, all_from_each}
-use Rattle.reiser_volume.specs.reiser_volume_objects.declared.key.ObjectKey.{ObjectKey}
-use Rattle.reiser_volume.specs.reiser_volume_objects.declared.naming.Naming.{Naming}
-use Rattle.reiser_volume.specs.reiser_volume_objects.Keys.{same_key, root}
-use Rattle.reiser_volume.proofs.reiser_volume_objects.Tables.{same_key-true}
-use Rattle.reiser_volume.specs.reiser_volume_names.Names.{saved_name, crowd_of, reference_size, extended, extended_sum, extended_crowd_of}
 use Rattle.reiser_make_laws.proofs.Ascending.{each_to}
 use Rattle.reiser_make_laws.proofs.Lists.{each_filter, each_left, each_row, each_rows, map_filter, filter_none, filter_both_less, filter_less, filter_front_less}
 use Rattle.reiser_make_laws.proofs.Named.{IsLaid, in_root, in_directory}

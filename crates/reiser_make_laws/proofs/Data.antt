@@ -1,34 +1,16 @@
 -- The blocks of data that the items of a sample name: each stored block once, in order.
-use Rattle.std.proofs.Common.{◌≡◌, ◌≢◌, ℕ, zero, suc, ◌+◌, ◌-◌, ◌*◌, ◌/◌, ◌%◌, ◌^◌, ◌≤◌, ◌<◌, Bool, true, false, cond, not, ◌&&◌, ◌==◌, List, [], ◌∷◌, ◌++◌, length, map, filter, get_or, refl, sym, ◌∙◌, ap, subst, arith, append_assoc, append-nil, length-append, eq-eqb, ne_eqb}
-use Rattle.std.specs.Prelude.{nat_lt}
-use Rattle.std.specs.Int.{div_ceil}
-use Rattle.std.specs.List.{range_with_len, flat_map}
-use Rattle.std.proofs.lemmas.Bool.Decides.{nat_tests}
-use Rattle.byteorder.specs.Endian.{little_bytes}
-use Rattle.byteorder.specs.Numbers.{little_number-reads_back}
-use Rattle.reiser_volume.specs.vol_block.Volume.{field}
-use Rattle.reiser_volume.specs.reiser_items.Pointers.{pointers, numbers_at}
-use Rattle.reiser_make.specs.Items.{items, items_from, items_of, items_of_content, directory_items, pointer_items, byte_items, item, body_bytes, pointers_bytes, pointers_of_content}
-use Rattle.reiser_make.specs.Places.{place}
-use Rattle.reiser_make.specs.Shape.{Shape, shape, directory_count, names_in, object_count, root_id, directory_id, file_id, pointer, stored_before, stored_blocks, stored_of, stored_in}
-use Rattle.reiser_make.specs.declared.content.Content.{Content}
-use Rattle.reiser_make.specs.declared.content.Content.TheVariants.{Name, Symlink, File}
-use Rattle.reiser_make.specs.declared.item.Body.TheVariants.{Root, Names, Pointers, Bytes}
-use Rattle.reiser_make.specs.declared.item.Item as parts
-use Rattle.reiser_make.specs.declared.object.ObjectId.{ObjectId}
-use Rattle.reiser_volume.specs.reiser_node.declared.head.ItemKind.TheVariants.{Indirect, Direct}
-use Rattle.reiser_volume.specs.reiser_walk.Items.{blocks_named, is_no_hole}
-use Rattle.std.proofs.lemmas.List.Sums.{sum_by-cons, sum_by-take-le}
-use Rattle.reiser_make.specs.Content.{IsSmallContent}
+use Rattle.reiser_make_laws.proofs.Imports.{◌≡◌, ◌≢◌, ℕ, zero, suc, ◌+◌, ◌-◌, ◌*◌, ◌/◌, ◌%◌, ◌^◌, ◌≤◌, ◌<◌, Bool, true, false, cond, not, ◌&&◌, ◌==◌, List, [], ◌∷◌, ◌++◌, length, map, filter, get_or, refl, sym, ◌∙◌, ap, subst, arith, append_assoc, append-nil, length-append, eq-eqb, ne_eqb, nat_lt, div_ceil, range_with_len, flat_map, nat_tests, little_bytes, little_number-reads_back, field, pointers, numbers_at, items, items_from, items_of_name, items_of_content, directory_items, pointer_items, byte_items, item, body_bytes, pointers_bytes, pointers_of_content, place, Shape, shape, directory_count, names_in, object_count, root_id, directory_id, file_id, stored_before, stored_blocks, stored_of, stored_in, SampleEntry, Name, Symlink, File, Root, Names, Pointers, Bytes, ObjectId, Indirect, Direct, blocks_named, is_no_hole, sum_by-cons, sum_by-take-le, IsSmallContent}
+use Rattle.reiser_make.specs.Shape.{pointer}
+use Rattle.reiser_make.specs.declared.sample_item.SampleItem as parts
 use Rattle.reiser_make_laws.proofs.Heads.{field_behind}
 use Rattle.reiser_make_laws.proofs.Small.{AreSmall, contents_small, length_contents, small_at}
 use Rattle.reiser_make_laws.proofs.Places.{stored_next, stored_end}
 
 -- the blocks of data that an item names
-abbrev pub item_blocks : Shape → parts.Item → List ℕ
+abbrev pub item_blocks : Shape → parts.SampleItem → List ℕ
 item_blocks s x = blocks_named x.head (body_bytes s x.head.old x.body)
 
-abbrev pub list_blocks : Shape → List parts.Item → List ℕ
+abbrev pub list_blocks : Shape → List parts.SampleItem → List ℕ
 list_blocks s xs = flat_map (item_blocks s) xs
 
 -- the places from one number to another, one after the other
@@ -147,7 +129,7 @@ named_if : (link : Bool) (xs : List ℕ) → link ≡ false → cond (true && no
 named_if true xs is = cc
 named_if false xs is = refl
 
-pub pointers_are : (s : Shape) (i : ℕ) (content : Content) (whole rest : ℕ) (sparse old : Bool) → get_or s.names i Name ≡ content → content ≡ File whole rest sparse
+pub pointers_are : (s : Shape) (i : ℕ) (content : SampleEntry) (whole rest : ℕ) (sparse old : Bool) → get_or s.names i Name ≡ content → content ≡ File whole rest sparse
     → body_bytes s old (Pointers i) ≡ pointers_bytes (stored_before s.names i) sparse whole
 unfolding body_bytes
 pointers_are s i content whole rest sparse old here is = ap (pointers_of_content s i) (here ∙ is)
@@ -163,7 +145,7 @@ module _ (s : Shape) (i whole rest : ℕ) (sparse : Bool) (here : get_or s.names
   abbrev first : ℕ
   first = stored_before s.names i
 
-  abbrev pointers_item : parts.Item
+  abbrev pointers_item : parts.SampleItem
   pointers_item = item id 1 Indirect s.old 0 (4 * whole) (Pointers i)
 
   pointer_blocks : Runs first (first + stored_of whole sparse) (item_blocks s pointers_item)
@@ -176,7 +158,7 @@ module _ (s : Shape) (i whole rest : ℕ) (sparse : Bool) (here : get_or s.names
       ∙ ap (filter is_no_hole) (pointers_back first whole sparse few low) in
       subst (Runs first (first + stored_of whole sparse)) (sym is) (file_runs first whole sparse)
 
-  abbrev rest_item : parts.Item
+  abbrev rest_item : parts.SampleItem
   rest_item = item id (4096 * whole + 1) Direct s.old 0xFFFF rest (Bytes i)
 
   rest_none : (r : Bool) → list_blocks s (cond r [] (rest_item ∷ [])) ≡ []
@@ -189,25 +171,25 @@ module _ (s : Shape) (i whole rest : ℕ) (sparse : Bool) (here : get_or s.names
 
   file_blocks : Runs first (first + stored_of whole sparse) (list_blocks s (pointer_items s.old id i whole ++ byte_items s.old id i whole rest))
   file_blocks =
-      let ps : List parts.Item = pointer_items s.old id i whole in
+      let ps : List parts.SampleItem = pointer_items s.old id i whole in
       let is : list_blocks s (ps ++ byte_items s.old id i whole rest) ≡ list_blocks s ps =
       flat_split (item_blocks s) ps (byte_items s.old id i whole rest) ∙ ap (λ z. list_blocks s ps ++ z) (rest_none (rest == 0)) ∙ append-nil (list_blocks s ps) in
       subst (Runs first (first + stored_of whole sparse)) (sym is) (pointers_only (whole == 0) refl)
 
-content_few : (c : Content) → IsSmallContent c → stored_blocks c ≤ 20
+content_few : (c : SampleEntry) → IsSmallContent c → stored_blocks c ≤ 20
 content_few Name small = omega arith
 content_few Symlink small = omega arith
 content_few (File whole rest false) small = omega (arith, small.blocks)
 content_few (File whole rest true) small = omega (arith, small.blocks)
 
-pub content_runs : (s : Shape) (i : ℕ) (content : Content) → get_or s.names i Name ≡ content → IsSmallContent content → stored_before s.names i ≤ 100000 → i ≤ 5000
+pub content_runs : (s : Shape) (i : ℕ) (content : SampleEntry) → get_or s.names i Name ≡ content → IsSmallContent content → stored_before s.names i ≤ 100000 → i ≤ 5000
     → Runs (stored_before s.names i) (stored_before s.names i + stored_blocks content) (list_blocks s (items_of_content s i content))
 unfolding items_of_content
 content_runs s i Name here small low near = omega arith
 content_runs s i Symlink here small low near = omega arith
 content_runs s i (File whole rest sparse) here small low near = file_blocks s i whole rest sparse here small.blocks low near
 
-stored_few : (names : List Content) → AreSmall names → stored_in names ≤ 20 * length names
+stored_few : (names : List SampleEntry) → AreSmall names → stored_in names ≤ 20 * length names
 stored_few [] small = omega arith
 stored_few (x ∷ xs) small = omega (arith, sum_by-cons stored_blocks x xs, content_few x small.0, stored_few xs small.1)
 
@@ -238,23 +220,23 @@ module _ (s : Shape) (few : length s.names ≤ 4000) (small : AreSmall s.names) 
       let past : directories + 1 ≤ o = grind (arith, nat_tests, is-b) in
       let i : ℕ = o - directories - 1 in
       let inside : i < length s.names = omega (arith, past, lt) in
-      let own : Content = get_or s.names i Name in
+      let own : SampleEntry = get_or s.names i Name in
       let here : i ≡ o - (directories + 1) = omega arith in
       let next : i + 1 ≡ o + 1 - (directories + 1) = omega (arith, past) in
       runs_at (stored_before s.names i) (before o) (stored_before s.names i + stored_blocks own) (before (o + 1)) _
       (ap (stored_before s.names) here) (stored_next s.names i Name inside ∙ ap (stored_before s.names) next)
       (content_runs s i own refl (small_at s.names small i) (before_low i) (omega (arith, inside, few)))
 
-  object_runs : (o : ℕ) → o < object_count (length s.names) → Runs (before o) (before (o + 1)) (list_blocks s (items_of s o))
-  unfolding items_of
+  object_runs : (o : ℕ) → o < object_count (length s.names) → Runs (before o) (before (o + 1)) (list_blocks s (items_of_name s o))
+  unfolding items_of_name
   object_runs o lt = object_runs_by o (o == 0) (nat_lt o (directories + 1)) refl refl lt
 
   from_runs : (o n : ℕ) → o + n ≤ object_count (length s.names) → Runs (before o) (before (o + n)) (list_blocks s (items_from s o n))
   from_runs o zero low = ap before (let same : o ≡ o + 0 = omega arith in same)
   from_runs o (suc n) low =
       let end : o + 1 + n ≡ o + suc n = omega arith in
-      subst (Runs (before o) (before (o + suc n))) (sym (flat_split (item_blocks s) (items_of s o) (items_from s (o + 1) n)))
-      (runs_append (before o) (before (o + 1)) (before (o + suc n)) (list_blocks s (items_of s o)) (list_blocks s (items_from s (o + 1) n))
+      subst (Runs (before o) (before (o + suc n))) (sym (flat_split (item_blocks s) (items_of_name s o) (items_from s (o + 1) n)))
+      (runs_append (before o) (before (o + 1)) (before (o + suc n)) (list_blocks s (items_of_name s o)) (list_blocks s (items_from s (o + 1) n))
       (object_runs o (omega (arith, low))) (subst (λ m. Runs (before (o + 1)) (before m) (list_blocks s (items_from s (o + 1) n))) end (from_runs (o + 1) n (omega (arith, low)))))
 
   items_runs : Runs 0 (stored_in s.names) (list_blocks s (items s))

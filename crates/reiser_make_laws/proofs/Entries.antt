@@ -1,16 +1,7 @@
 -- The entries of a directory that were written read back.
-use Rattle.std.proofs.Common.{◌≡◌, ℕ, zero, suc, ◌+◌, ◌-◌, ◌*◌, ◌/◌, ◌%◌, ◌^◌, ◌≤◌, ◌<◌, true, false, cond, ◌==◌, List, [], ◌∷◌, ◌++◌, length, take, drop, replicate, get_or, refl, sym, ◌∙◌, ap, arith, append_assoc, append-nil, length-append, length-take, length-drop}
-use Rattle.std.proofs.Math.Seq.{drop-cons}
-use Rattle.std.proofs.lemmas.List.{take-append-drop, drop_more, drop_all}
-use Rattle.std.proofs.lemmas.List.Elements.{Contains-get_or}
-use Rattle.std.proofs.lemmas.List.Sums.{take_while-cons, sum_by-cons}
-use Rattle.byteorder.specs.Numbers.{little_number-reads_back}
-use Rattle.reiser_volume.specs.vol_block.Volume.{field}
-use Rattle.reiser_volume.specs.reiser_items.Entries.{EntryValue, location, area_end, name_area, is_of_name, until_zero, entry_at, entries_from, entries, AreEntries, are_entries}
+use Rattle.reiser_make_laws.proofs.Imports.{◌≡◌, ℕ, zero, suc, ◌+◌, ◌-◌, ◌*◌, ◌/◌, ◌%◌, ◌^◌, ◌≤◌, ◌<◌, true, false, cond, ◌==◌, List, [], ◌∷◌, ◌++◌, length, take, drop, replicate, get_or, refl, sym, ◌∙◌, ap, arith, append_assoc, append-nil, length-append, length-take, length-drop, drop-cons, take-append-drop, drop_more, drop_all, Contains-get_or, take_while-cons, sum_by-cons, little_number-reads_back, field, EntryValue, area_end, name_area, is_of_name, until_zero, entry_at, entries_from, entries, AreEntries, are_entries, padded, entry_head, entry_heads, entry_names, entries_length, entries_bytes, padded_is, padded_short, Each}
+use Rattle.reiser_volume.specs.reiser_items.Entries.{location}
 use Rattle.reiser_volume.proofs.reiser_items.Grammar.{entries_decide}
-use Rattle.reiser_make.specs.Directory.{padded, entry_head, entry_heads, entry_names, entries_length, entries_bytes}
-use Rattle.reiser_make.proofs.Entering.{padded_is, padded_short}
-use Rattle.reiser_volume.proofs.reiser_walk.Lists.{Each}
 use Rattle.reiser_make_laws.proofs.Heads.{field_behind}
 use Rattle.reiser_make_laws.proofs.Leaves.{drop_at, take_at}
 use Rattle.reiser_make_laws.proofs.Lists.{each_in, each_take, each_drop}

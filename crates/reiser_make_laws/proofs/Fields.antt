@@ -1,19 +1,9 @@
 -- A row of a sample has what the stat data of its object says.
-use Rattle.std.proofs.Common.{◌≡◌, ℕ, ◌%◌, ◌^◌, ◌<◌, ◌==◌, Bool, true, false, cond, not, ◌&&◌, List, refl, sym, ap, Some}
-use Rattle.std.specs.Int.{bit_at, w64}
-use Rattle.std.proofs.lemmas.Bool.{and_right}
+use Rattle.reiser_make_laws.proofs.Imports.{◌≡◌, ℕ, ◌%◌, ◌^◌, ◌<◌, ◌==◌, Bool, true, false, cond, not, ◌&&◌, List, refl, sym, ap, Some, bit_at, w64, and_right, NameList, Kind, StatData, attributes, user_of, group_of, seconds, plain_row, ObjectStat, kind_of_mode, HasStat, time_of, flag, major_of, minor_of}
 use Rattle.std.proofs.lemmas.Int.{to_z_pos}
 use Rattle.std.proofs.lemmas.Nat.Bits.{bit_at-zero}
-use Rattle.reiser_volume.specs.fs_rows.Rows.{NameList}
-use Rattle.reiser_volume.specs.fs_rows.declared.row.Kind.{Kind}
-use Rattle.reiser_volume.specs.reiser_items.declared.stat.StatData.{StatData}
-use Rattle.reiser_make.specs.Items.{attributes, user_of, group_of}
-use Rattle.reiser_make.specs.Rows.{seconds, plain_row}
-use Rattle.reiser_make.specs.declared.item.Owner.{Owner}
-use Rattle.reiser_volume.specs.reiser_volume_objects.declared.stat.ObjectStat.{ObjectStat}
+use Rattle.reiser_make.specs.declared.sample_item.Owner.{Owner}
 use Rattle.reiser_volume.specs.fs_rows.Kinds.{is_symlink, is_device}
-use Rattle.reiser_volume.specs.reiser_volume_objects.Kinds.{kind_of_mode}
-use Rattle.reiser_volume.specs.Rows.{HasStat, time_of, flag, major_of, minor_of}
 use Rattle.reiser_make_laws.proofs.Attributes.{read_back}
 
 seconds_are : (t : ℕ) → t < 2 ^ 63 → seconds t ≡ time_of t

@@ -1,16 +1,5 @@
 -- A head that was written reads back.
-use Rattle.std.proofs.Common.{◌≡◌, ℕ, ◌+◌, ◌*◌, ◌/◌, ◌%◌, ◌^◌, ◌<◌, Bool, true, false, cond, ◌==◌, List, ◌++◌, length, drop, refl, sym, ◌∙◌, ap, arith, Some, None}
-use Rattle.std.specs.Prelude.{Option}
-use Rattle.std.proofs.Math.Seq.{drop-append-add}
-use Rattle.byteorder.specs.Numbers.{little_number-reads_back}
-use Rattle.byteorder.specs.Endian.{little_number}
-use Rattle.reiser_volume.specs.vol_block.Volume.{field}
-use Rattle.reiser_volume.specs.reiser_node.Head.{head_at, head_of_kind, kind_at, old_kind, new_kind}
-use Rattle.reiser_volume.specs.reiser_node.declared.head.ItemHead.{ItemHead}
-use Rattle.reiser_volume.specs.reiser_node.declared.head.ItemKind.{ItemKind}
-use Rattle.reiser_volume.specs.reiser_node.declared.head.ItemKind.TheVariants.{Stat, Indirect, Direct, Directory}
-use Rattle.reiser_volume.specs.reiser_items.Order.{kind_number}
-use Rattle.reiser_make.specs.Leaf.{head_bytes}
+use Rattle.reiser_make_laws.proofs.Imports.{◌≡◌, ℕ, ◌+◌, ◌*◌, ◌/◌, ◌%◌, ◌^◌, ◌<◌, Bool, true, false, cond, ◌==◌, List, ◌++◌, length, drop, refl, sym, ◌∙◌, ap, arith, Some, None, Option, drop-append-add, little_number-reads_back, little_number, field, head_at, head_of_kind, kind_at, old_kind, new_kind, ItemHead, ItemKind, Stat, Indirect, Direct, Directory, kind_number, head_bytes}
 
 -- a field behind a front is one of the rest
 pub field_behind : (n k at : ℕ) (front rest : List ℕ) → length front ≡ at → field n (front ++ rest) (at + k) ≡ field n rest k

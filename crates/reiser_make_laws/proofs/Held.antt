@@ -1,26 +1,12 @@
 -- The nodes of a sample read as what the layout puts into them.
-use Rattle.std.proofs.Common.{◌≡◌, ◌⊎◌, inl, inr, ℕ, zero, suc, ◌+◌, ◌-◌, ◌^◌, ◌≤◌, ◌<◌, Bool, true, false, cond, List, [], ◌∷◌, ◌++◌, length, map, refl, sym, ap, subst, arith, All}
-use Rattle.std.specs.Prelude.{nat_le, nat_lt, Contains}
-use Rattle.std.specs.List.{range_with_len, flat_map}
-use Rattle.std.proofs.lemmas.Bool.Decides.{nat_tests}
-use Rattle.std.proofs.lemmas.List.Elements.{All-cons, Contains-append_left, Contains-append_right}
-use Rattle.std.proofs.lemmas.List.FromFn.{get_or-map-range_with_len, length-map-range_with_len}
-use Rattle.reiser_volume.specs.outside.History.{block_at}
-use Rattle.reiser_make.specs.Inner.{needed, node_place, root_level, root_from, nodes_above, level_nodes, first_child, child_count, child, children, children_from, inner_bytes, leaf_at}
-use Rattle.reiser_make.specs.Layout.{Placed, volume_blocks, system_part, data_part, leaf_part, leaf_placed, inner_part, level_part, inner_placed, bitmap_part}
-use Rattle.reiser_make.specs.Leaf.{leaves, leaf_bytes}
-use Rattle.reiser_make.specs.Shape.{Shape, shape}
-use Rattle.reiser_make.specs.declared.item.Item.{Item}
-use Rattle.reiser_make.proofs.Placed.{node_below}
-use Rattle.reiser_make.proofs.Rising.{root_low}
+use Rattle.reiser_make_laws.proofs.Imports.{◌≡◌, ◌⊎◌, inl, inr, ℕ, zero, suc, ◌+◌, ◌-◌, ◌^◌, ◌≤◌, ◌<◌, Bool, true, false, cond, List, [], ◌∷◌, ◌++◌, length, map, refl, sym, ap, subst, arith, All, nat_le, nat_lt, range_with_len, flat_map, nat_tests, All-cons, Contains-append_left, Contains-append_right, get_or-map-range_with_len, length-map-range_with_len, block_at, needed, node_place, root_level, root_from, nodes_above, level_nodes, first_child, child_count, child, children, children_from, inner_bytes, leaf_at, Placed, volume_blocks, system_part, data_part, leaf_part, leaf_placed, inner_part, level_part, inner_placed, bitmap_part, leaves, leaf_bytes, Shape, shape, SampleItem, node_below, root_low, made, FitsPointer, ReadsAs, NamesChildren, SampleLeavesReadBack, SampleInnerNodesReadBack}
+use Rattle.std.specs.Prelude.{Contains}
 use Rattle.reiser_make_laws.proofs.Cleanness.{root_high}
 use Rattle.reiser_make_laws.proofs.Leafing.{IsGoodLeaf, good_leaf_at, sample_leaves_good}
 use Rattle.reiser_make_laws.proofs.Leaves.{leaf_back}
 use Rattle.reiser_make_laws.proofs.Nodes.{node_back}
 use Rattle.reiser_make_laws.proofs.Places.{holds_blocks}
 use Rattle.reiser_make_laws.proofs.Writable.{all_writable}
-use Rattle.reiser_make_laws.specs.Laws.{made}
-use Rattle.reiser_make_laws.specs.Nodes.{IsNamed, ReadsAs, NamesChildren, SampleLeavesReadBack, SampleInnerNodesReadBack}
 
 pub in_row : {X : Type 0} (f : ℕ → X) (a n k : ℕ) → a ≤ k → k < a + n → Contains (map f (range_with_len a n)) (f k)
 in_row f a n k low high =
@@ -57,7 +43,7 @@ module _ (s : Shape) (blocks : ℕ) where
       (in_rows (level_part s) 1 (root_level (length (leaves s)) - 1) below p low (omega (arith, high))
       (in_row (inner_placed s below) 0 (level_nodes (length (leaves s)) (below + 1)) m (omega arith) (omega (arith, lt)))))))
 
-read_leaf : (s : Shape) (xs : List Item) → IsGoodLeaf s xs → ReadsAs s xs (leaf_bytes s xs)
+read_leaf : (s : Shape) (xs : List SampleItem) → IsGoodLeaf s xs → ReadsAs s xs (leaf_bytes s xs)
 read_leaf s [] good = absurd (omega (arith, good.some))
 read_leaf s (x ∷ xs) good = leaf_back s (x ∷ xs) (all_writable s (x ∷ xs) good.items) (omega (arith, good.room)) x good.some
 
@@ -110,11 +96,11 @@ has_children n m many lt =
     let c = count_by n m (nat_lt (m + 1) (nodes_above n)) refl many lt in
     record { some = omega (arith, c.1); few = omega (arith, c.2); within = omega (arith, c.0, c.1) }
 
-named_row : (s : Shape) (below first n : ℕ) → ((k : ℕ) → first ≤ k → k < first + n → node_place s below k < 2 ^ 32) → All IsNamed (children_from s below first n)
+named_row : (s : Shape) (below first n : ℕ) → ((k : ℕ) → first ≤ k → k < first + n → node_place s below k < 2 ^ 32) → All FitsPointer (children_from s below first n)
 unfolding child
 named_row s below first zero each = λ k d lt. absurd (omega (arith, lt))
 named_row s below first (suc n) each =
-    All-cons IsNamed (child s below first) (children_from s below (first + 1) n) (each first (omega arith) (omega arith))
+    All-cons FitsPointer (child s below first) (children_from s below (first + 1) n) (each first (omega arith) (omega arith))
     (named_row s below (first + 1) n (λ k low high. each k (omega (arith, low)) (omega (arith, high))))
 
 pub inner_held : SampleInnerNodesReadBack
@@ -129,7 +115,7 @@ inner_held number old blocks image fits below m low high lt =
     let block : block_at (made s blocks image) (node_place s (below + 1) m) ≡ inner_bytes (below + 1) (children s below m) =
     holds_blocks s blocks image (inner_placed s below m) (inner_in s blocks below m low high lt) (omega (arith, place, fits.needed_low, fits.inside)) in
     let size : length (children s below m) ≡ child_count n m = length-map-range_with_len (child s below) (first_child n m) (child_count n m) in
-    let named : All IsNamed (children s below m) =
+    let named : All FitsPointer (children s below m) =
     named_row s below (first_child n m) (child_count n m)
     (λ k first last. omega (arith, node_below s below k low (omega (arith, high)) (omega (arith, last, has.within)), fits.needed_low, fits.blocks_low)) in
     subst (NamesChildren (below + 1) (children s below m)) (sym block)

@@ -1,36 +1,21 @@
 -- The items that a walk of a sample meets are those of its layout.
-use Rattle.std.proofs.Common.{◌≡◌, ℕ, zero, suc, ◌+◌, ◌-◌, ◌^◌, ◌≤◌, ◌<◌, Bool, true, false, cond, List, [], ◌∷◌, ◌++◌, length, map, get_or, refl, sym, ◌∙◌, ap, subst, arith, append_assoc, append-nil, length-append}
-use Rattle.std.specs.Prelude.{nat_le, nat_lt}
-use Rattle.std.specs.List.{range_with_len, flat_map}
+use Rattle.reiser_make_laws.proofs.Imports.{◌≡◌, ℕ, zero, suc, ◌+◌, ◌-◌, ◌^◌, ◌≤◌, ◌<◌, Bool, true, false, cond, List, [], ◌∷◌, ◌++◌, length, map, get_or, refl, sym, ◌∙◌, ap, subst, arith, append_assoc, append-nil, length-append, nat_le, nat_lt, range_with_len, flat_map, get_or-append_seam, nat_tests, node_place, level_nodes, root_level, root_from, nodes_above, first_child, end_child, child_count, first_leaf, body_bytes, leaves, leaves_of, packed_behind, taken_by, node_room, Shape, shape, leaves_bound, leaves_some, root_low, nodes_some, ReiserItem, Event, pointer, item_events, held_by, blocks_named, items_of_events, BlockPointer, items_in-append, met_item, leaf_items, laid_events, content, laid_content, SamplesHoldTheirItems}
 use Rattle.std.proofs.Math.Nat.{pow-succ'}
-use Rattle.std.proofs.Math.Seq.{get_or-append_seam}
-use Rattle.std.proofs.lemmas.Bool.Decides.{nat_tests}
-use Rattle.reiser_make.specs.Inner.{node_place, level_nodes, root_level, root_from, nodes_above, first_child, end_child, child_count, first_leaf}
 use Rattle.reiser_make.specs.Items as laid
-use Rattle.reiser_make.specs.Items.{body_bytes}
-use Rattle.reiser_make.specs.Leaf.{leaves, leaves_of, packed_behind, taken_by, node_room}
-use Rattle.reiser_make.specs.Shape.{Shape, shape}
-use Rattle.reiser_make.specs.declared.item.Item as parts
-use Rattle.reiser_make.proofs.Counting.{leaves_bound, leaves_some}
-use Rattle.reiser_make.proofs.Rising.{root_low, nodes_some}
-use Rattle.reiser_volume.specs.reiser_walk.Items.{Item, Event, pointer, item_events, held_by, blocks_named}
-use Rattle.reiser_volume.specs.reiser_walk.Tree.{items_in}
-use Rattle.reiser_volume.specs.reiser_walk.declared.pointer.Pointer.{Pointer}
-use Rattle.reiser_volume.proofs.reiser_walk.Events.{items_in-append}
+use Rattle.reiser_make.specs.declared.sample_item.SampleItem as parts
 use Rattle.reiser_make_laws.proofs.Held.{many_nodes, HasChildren, has_children, level_next}
 use Rattle.reiser_make_laws.proofs.Small.{length_contents}
 use Rattle.reiser_make_laws.proofs.Walked.{samples_walked}
-use Rattle.reiser_make_laws.specs.Walk.{met, leaf_items, laid_events, content, laid_content, SamplesHoldTheirItems}
 
-no_items : (ps : List Pointer) → items_in (map pointer ps) ≡ []
+no_items : (ps : List BlockPointer) → items_of_events (map pointer ps) ≡ []
 no_items [] = refl
 no_items (p ∷ ps) = no_items ps
 
-items_met : (is : List Item) → items_in (flat_map item_events is) ≡ is
+items_met : (is : List ReiserItem) → items_of_events (flat_map item_events is) ≡ is
 items_met [] = refl
 items_met (i ∷ is) =
     items_in-append (item_events i) (flat_map item_events is)
-    ∙ ap (λ z. (i ∷ z) ++ items_in (flat_map item_events is)) (no_items (held_by i.leaf (blocks_named i.head i.body)))
+    ∙ ap (λ z. (i ∷ z) ++ items_of_events (flat_map item_events is)) (no_items (held_by i.leaf (blocks_named i.head i.body)))
     ∙ ap (λ z. i ∷ z) (items_met is)
 
 -- ranges one behind the other
@@ -46,7 +31,7 @@ flat_join h a (suc p) q =
     ∙ sym (append_assoc (h a) (flat_map h (range_with_len (a + 1) p)) (flat_map h (range_with_len (a + suc p) q)))
 
 -- from one leaf to another
-abbrev between : Shape → ℕ → ℕ → List Item
+abbrev between : Shape → ℕ → ℕ → List ReiserItem
 between s a b = flat_map (leaf_items s) (range_with_len a (b - a))
 
 between_join : (s : Shape) (a b c : ℕ) → a ≤ b → b ≤ c → between s a b ++ between s b c ≡ between s a c
@@ -58,7 +43,7 @@ between_join s a b c low high =
 
 -- events whose items are those of the leaves from one edge to the next
 pub record Covers (s : Shape) (events : List Event) (a b : ℕ) : Type 0 where
-  pub items : items_in events ≡ between s a b
+  pub items : items_of_events events ≡ between s a b
   pub rises : a ≤ b
 
 covers_rows : (s : Shape) (F : ℕ → List Event) (e : ℕ → ℕ) (a n : ℕ) → ((k : ℕ) → a ≤ k → k < a + n → Covers s (F k) (e k) (e (k + 1))) → Covers s (flat_map F (range_with_len a n)) (e a) (e (a + n))
@@ -73,7 +58,7 @@ covers_rows s F e a (suc n) each =
     let end : a + 1 + n ≡ a + suc n = omega arith in
     subst (λ (m : ℕ). Covers s (flat_map F (range_with_len a (suc n))) (e a) (e m)) end
     (record {
-      items = items_in-append (F a) (flat_map F (range_with_len (a + 1) n)) ∙ ap (λ z. z ++ items_in (flat_map F (range_with_len (a + 1) n))) first.items
+      items = items_in-append (F a) (flat_map F (range_with_len (a + 1) n)) ∙ ap (λ z. z ++ items_of_events (flat_map F (range_with_len (a + 1) n))) first.items
           ∙ ap (λ z. between s (e a) (e (a + 1)) ++ z) rest.items ∙ between_join s (e a) (e (a + 1)) (e (a + 1 + n)) first.rises rest.rises;
       rises = omega (arith, first.rises, rest.rises);
     })
@@ -165,7 +150,7 @@ one_root s few =
     omega (arith, one_at_root 5 count 1 (omega arith) (omega (arith, most)), nodes_some count (root_from 5 1 count) (leaves_some s))
 
 -- the items below the root are those of all leaves
-pub root_items : (s : Shape) (holder : ℕ) → length s.names ≤ 4000 → items_in (laid_events s (root_level (length (leaves s))) 0 holder) ≡ flat_map (leaf_items s) (range_with_len 0 (length (leaves s)))
+pub root_items : (s : Shape) (holder : ℕ) → length s.names ≤ 4000 → items_of_events (laid_events s (root_level (length (leaves s))) 0 holder) ≡ flat_map (leaf_items s) (range_with_len 0 (length (leaves s)))
 root_items s holder few =
     let count : ℕ = length (leaves s) in
     let root : ℕ = root_level count in
@@ -179,24 +164,24 @@ root_items s holder few =
     ∙ ap (λ n. flat_map (leaf_items s) (range_with_len 0 n)) (let whole : count - 0 ≡ count = omega arith in whole)
 
 -- all items of leaves
-abbrev pub joined : List (List parts.Item) → List parts.Item
+abbrev pub joined : List (List parts.SampleItem) → List parts.SampleItem
 joined [] = []
 joined (leaf ∷ more) = leaf ++ joined more
 
-packed_by : (leaf : List parts.Item) (room : ℕ) (x : parts.Item) (xs : List parts.Item) (b : Bool) → joined (packed_behind (leaf ++ x ∷ []) (room - taken_by x) xs) ≡ leaf ++ x ∷ xs
+packed_by : (leaf : List parts.SampleItem) (room : ℕ) (x : parts.SampleItem) (xs : List parts.SampleItem) (b : Bool) → joined (packed_behind (leaf ++ x ∷ []) (room - taken_by x) xs) ≡ leaf ++ x ∷ xs
     → joined (packed_behind (x ∷ []) (node_room - taken_by x) xs) ≡ x ∷ xs
     → joined (cond b (packed_behind (leaf ++ x ∷ []) (room - taken_by x) xs) (leaf ∷ packed_behind (x ∷ []) (node_room - taken_by x) xs)) ≡ leaf ++ x ∷ xs
 packed_by leaf room x xs true fits full = fits
 packed_by leaf room x xs false fits full = ap (λ z. leaf ++ z) full
 
-packed_joined : (leaf : List parts.Item) (room : ℕ) (xs : List parts.Item) → joined (packed_behind leaf room xs) ≡ leaf ++ xs
+packed_joined : (leaf : List parts.SampleItem) (room : ℕ) (xs : List parts.SampleItem) → joined (packed_behind leaf room xs) ≡ leaf ++ xs
 packed_joined leaf room [] = refl
 packed_joined leaf room (x ∷ xs) =
     packed_by leaf room x xs (nat_le (taken_by x) room)
     (packed_joined (leaf ++ x ∷ []) (room - taken_by x) xs ∙ append_assoc leaf (x ∷ []) xs)
     (packed_joined (x ∷ []) (node_room - taken_by x) xs)
 
-pub leaves_joined : (xs : List parts.Item) → joined (leaves_of xs) ≡ xs
+pub leaves_joined : (xs : List parts.SampleItem) → joined (leaves_of xs) ≡ xs
 leaves_joined [] = refl
 leaves_joined (x ∷ xs) = packed_joined (x ∷ []) (node_room - taken_by x) xs
 
@@ -204,20 +189,20 @@ pub map_split : {X Y : Type 0} (f : X → Y) (xs ys : List X) → map f (xs ++ y
 map_split f [] ys = refl
 map_split f (x ∷ xs) ys = ap (λ z. f x ∷ z) (map_split f xs ys)
 
-met_content : (s : Shape) (leaf : ℕ) (xs : List parts.Item) → map content (map (met s leaf) xs) ≡ map (laid_content s) xs
+met_content : (s : Shape) (leaf : ℕ) (xs : List parts.SampleItem) → map content (map (met_item s leaf) xs) ≡ map (laid_content s) xs
 met_content s leaf [] = refl
 met_content s leaf (x ∷ xs) = ap (λ z. laid_content s x ∷ z) (met_content s leaf xs)
 
 -- leaves that stand behind others in a list
-abbrev at_leaf : Shape → List (List parts.Item) → ℕ → List Item
-at_leaf s all m = map (met s (node_place s 1 m)) (get_or all m [])
+abbrev at_leaf : Shape → List (List parts.SampleItem) → ℕ → List ReiserItem
+at_leaf s all m = map (met_item s (node_place s 1 m)) (get_or all m [])
 
-leaf_by_leaf : (s : Shape) (before all : List (List parts.Item)) → map content (flat_map (at_leaf s (before ++ all)) (range_with_len (length before) (length all))) ≡ map (laid_content s) (joined all)
+leaf_by_leaf : (s : Shape) (before all : List (List parts.SampleItem)) → map content (flat_map (at_leaf s (before ++ all)) (range_with_len (length before) (length all))) ≡ map (laid_content s) (joined all)
 leaf_by_leaf s before [] = refl
 leaf_by_leaf s before (leaf ∷ more) =
     let here : ℕ = length before in
-    let all : List (List parts.Item) = before ++ leaf ∷ more in
-    let own : at_leaf s all here ≡ map (met s (node_place s 1 here)) leaf = ap (map (met s (node_place s 1 here))) (get_or-append_seam before leaf more []) in
+    let all : List (List parts.SampleItem) = before ++ leaf ∷ more in
+    let own : at_leaf s all here ≡ map (met_item s (node_place s 1 here)) leaf = ap (map (met_item s (node_place s 1 here))) (get_or-append_seam before leaf more []) in
     let next : here + 1 ≡ length (before ++ leaf ∷ []) = omega (arith, length-append before (leaf ∷ [])) in
     let same : all ≡ (before ++ leaf ∷ []) ++ more = sym (append_assoc before (leaf ∷ []) more) in
     map_split content (at_leaf s all here) (flat_map (at_leaf s all) (range_with_len (here + 1) (length more)))
@@ -225,7 +210,7 @@ leaf_by_leaf s before (leaf ∷ more) =
     ∙ ap (λ z. z ++ map content (flat_map (at_leaf s all) (range_with_len (here + 1) (length more)))) (met_content s (node_place s 1 here) leaf)
     ∙ ap (λ z. map (laid_content s) leaf ++ z)
     (ap (λ n. map content (flat_map (at_leaf s all) (range_with_len n (length more)))) next
-    ∙ ap (λ (z : List (List parts.Item)). map content (flat_map (at_leaf s z) (range_with_len (length (before ++ leaf ∷ [])) (length more)))) same
+    ∙ ap (λ (z : List (List parts.SampleItem)). map content (flat_map (at_leaf s z) (range_with_len (length (before ++ leaf ∷ [])) (length more)))) same
     ∙ leaf_by_leaf s (before ++ leaf ∷ []) more)
     ∙ sym (map_split (laid_content s) leaf (joined more))
 
@@ -237,6 +222,6 @@ pub samples_items : SamplesHoldTheirItems
 samples_items number old blocks image fits =
     let s : Shape = shape number old in
     let few : length s.names ≤ 4000 = omega (arith, length_contents number, fits.number_low) in
-    ap (λ es. map content (items_in es)) (samples_walked number old blocks image fits)
+    ap (λ es. map content (items_of_events es)) (samples_walked number old blocks image fits)
     ∙ ap (map content) (root_items s 16 few)
     ∙ all_content s

@@ -1,33 +1,9 @@
 -- A sample keeps the rules of objects and of names.
-use Rattle.std.proofs.Common.{◌≡◌, ◌≢◌, inr, ⊎_elim, ℕ, zero, suc, ◌+◌, ◌-◌, ◌*◌, ◌/◌, ◌%◌, ◌^◌, ◌≤◌, ◌<◌, true, false, cond, ◌==◌, ◌&&◌, not, true≢false, List, [], ◌∷◌, length, map, get_or, refl, sym, ◌∙◌, ap, subst, arith, ne_eqb, Contains}
-use Rattle.std.specs.Prelude.{nat_lt}
-use Rattle.std.specs.List.{range_with_len, flat_map, list_any}
-use Rattle.std.proofs.lemmas.Bool.{cond_both, or_from}
-use Rattle.std.proofs.lemmas.Bool.Decides.{nat_tests}
-use Rattle.reiser_volume.specs.fs_rows.declared.row.Kind.TheVariants as kinds
-use Rattle.reiser_volume.specs.reiser_node.declared.head.ItemHead.{ItemHead}
-use Rattle.reiser_volume.specs.reiser_node.declared.head.ItemKind.TheVariants.{Indirect, Direct}
-use Rattle.reiser_volume.specs.reiser_items.Entries.{are_entries}
-use Rattle.reiser_volume.specs.reiser_items.declared.stat.StatData.{StatData}
-use Rattle.reiser_make.specs.Items as laid
-use Rattle.reiser_make.specs.Items.{items, items_of_content, directory_items, item, pointer_items, byte_items}
-use Rattle.reiser_make.specs.Names.{decimal, directory_name, file_name}
-use Rattle.reiser_make.specs.Shape.{Shape, directory_count, names_in, object_count, root_id, directory_id, file_id, named_by}
-use Rattle.reiser_make.specs.declared.content.Content.{Content}
-use Rattle.reiser_make.specs.declared.content.Content.TheVariants.{Name, Symlink, File}
-use Rattle.reiser_make.specs.declared.item.Body.{Body}
-use Rattle.reiser_make.specs.declared.item.Body.TheVariants.{Root, Names, Pointers, Bytes}
-use Rattle.reiser_make.specs.declared.item.Item as parts
-use Rattle.reiser_make.specs.declared.object.ObjectId.{ObjectId}
-use Rattle.reiser_volume.specs.reiser_walk.Items.{Item}
-use Rattle.reiser_volume.proofs.reiser_walk.Lists.{Each, Pairs, all_pairs_from_pairs}
-use Rattle.reiser_volume.specs.reiser_volume_objects.declared.key.ObjectKey.{ObjectKey}
-use Rattle.reiser_volume.specs.reiser_volume_objects.declared.naming.Naming.{Naming}
-use Rattle.reiser_volume.specs.reiser_volume_objects.Keys.{same_key, root}
-use Rattle.reiser_volume.specs.reiser_volume_objects.Names.{namings, IsNamed}
-use Rattle.reiser_volume.specs.reiser_volume_objects.Rules.{AreObjects, IsDirectory}
+use Rattle.reiser_make_laws.proofs.Imports.{◌≡◌, ◌≢◌, inr, ⊎_elim, ℕ, zero, suc, ◌+◌, ◌-◌, ◌*◌, ◌/◌, ◌%◌, ◌^◌, ◌≤◌, ◌<◌, true, false, cond, ◌==◌, ◌&&◌, not, true≢false, List, [], ◌∷◌, length, map, get_or, refl, sym, ◌∙◌, ap, subst, arith, ne_eqb, Contains, nat_lt, range_with_len, flat_map, list_any, cond_both, or_from, nat_tests, ItemHead, Indirect, Direct, are_entries, StatData, items, items_of_content, directory_items, item, pointer_items, byte_items, decimal, directory_name, file_name, Shape, directory_count, names_in, object_count, root_id, directory_id, file_id, named_by, SampleEntry, Name, Symlink, File, Body, Root, Names, Pointers, Bytes, ObjectId, ReiserItem, Each, Pairs, all_pairs_from_pairs, ObjectKey, Naming, same_key, root, namings, IsNamed, AreObjects, IsDirectory, is_name, saved_name, KeepsNameRules, AreNames, content, laid_content}
 use Rattle.reiser_volume.specs.reiser_volume_objects.Summary.{has_entries}
-use Rattle.reiser_volume.specs.reiser_volume_names.Names.{is_name, saved_name, KeepsNames, AreNames}
+use Rattle.reiser_volume.specs.fs_rows.declared.row.Kind.TheVariants as kinds
+use Rattle.reiser_make.specs.Items as laid
+use Rattle.reiser_make.specs.declared.sample_item.SampleItem as parts
 use Rattle.reiser_make_laws.proofs.Ascending.{each_to, each_join, either_each, pairs_append}
 use Rattle.reiser_make_laws.proofs.Crowding.{laid_short, counts_low, crowds_fit, extended_fit}
 use Rattle.reiser_make_laws.proofs.Found.{each_found}
@@ -36,7 +12,6 @@ use Rattle.reiser_make_laws.proofs.Named.{IsLaid, in_root, in_directory, IsKept,
 use Rattle.reiser_make_laws.proofs.Namings.{bare, root_naming, file_naming, root_row, names_row, laid_namings, root_formed, names_formed}
 use Rattle.reiser_make_laws.proofs.Objects.{IsSampleShape, IsNamedObject, IsNoDirectory, object_fields, same_kind, kind_one, directory_of, directory_stat, no_save_link, root_object, names_object, own_object}
 use Rattle.reiser_make_laws.proofs.Parts.{directory_key, file_key, root_items, names_items, file_items}
-use Rattle.reiser_make_laws.specs.Walk.{content, laid_content}
 
 -- bodies of directories are on the grammar of entries
 abbrev IsFormed : ItemHead × List ℕ → Type 0
@@ -45,7 +20,7 @@ IsFormed c = has_entries c.0.kind ≡ true → are_entries c.0.count c.1 ≡ tru
 directory_formed : (s : Shape) (id : ObjectId) (nlink count : ℕ) (body : Body) → are_entries count (laid.body_bytes s true body) ≡ true → Each (λ x. IsFormed (laid_content s x)) (directory_items s.old id nlink count body)
 directory_formed s id nlink count body formed = ((λ bad. absurd (true≢false (sym bad))), ((λ _. formed), tt))
 
-content_formed : (s : Shape) (i : ℕ) (c : Content) → Each (λ x. IsFormed (laid_content s x)) (items_of_content s i c)
+content_formed : (s : Shape) (i : ℕ) (c : SampleEntry) → Each (λ x. IsFormed (laid_content s x)) (items_of_content s i c)
 unfolding items_of_content
 content_formed s i Name = tt
 content_formed s i Symlink = ((λ bad. absurd (true≢false (sym bad))), ((λ bad. absurd (true≢false (sym bad))), tt))
@@ -57,11 +32,11 @@ content_formed s i (File whole rest sparse) =
           (either_each (λ x. IsFormed (laid_content s x)) (rest == 0) [] (item id (4096 * whole + 1) Direct s.old 0xFFFF rest (Bytes i) ∷ []) tt ((λ bad. absurd (true≢false (sym bad))), tt)),
     )
 
-object_formed : (s : Shape) → length s.names ≤ 4000 → (o : ℕ) → Each (λ x. IsFormed (laid_content s x)) (laid.items_of s o)
-unfolding laid.items_of
+object_formed : (s : Shape) → length s.names ≤ 4000 → (o : ℕ) → Each (λ x. IsFormed (laid_content s x)) (laid.items_of_name s o)
+unfolding laid.items_of_name
 object_formed s few o =
     let dirs : ℕ = directory_count (length s.names) in
-    let P = λ (xs : List parts.Item). Each (λ x. IsFormed (laid_content s x)) xs in
+    let P = λ (xs : List parts.SampleItem). Each (λ x. IsFormed (laid_content s x)) xs in
     cond_both (o == 0) (root_items s) (cond (nat_lt o (dirs + 1)) (names_items s (o - 1)) (file_items s (o - dirs - 1))) P
     (λ _. directory_formed s root_id (2 + dirs) (2 + dirs) Root (root_formed s few))
     (λ later.
@@ -73,7 +48,7 @@ object_formed s few o =
 
 all_formed : (s : Shape) → length s.names ≤ 4000 → Each (λ x. IsFormed (laid_content s x)) (items s)
 unfolding items
-all_formed s few = each_rows (λ x. IsFormed (laid_content s x)) (laid.items_of s) 0 (object_count (length s.names)) (λ o low high. object_formed s few o)
+all_formed s few = each_rows (λ x. IsFormed (laid_content s x)) (laid.items_of_name s) 0 (object_count (length s.names)) (λ o low high. object_formed s few o)
 
 -- names without slashes and dots
 no_slash : (n x : ℕ) → list_any (λ b. b == 47) (decimal n x) ≡ false
@@ -157,7 +132,7 @@ laid_not_root number n (in_directory k i lt few low high dir target name) same =
 laid_not_saved : (number : ℕ) (n : Naming) → IsLaid number n → n.name ≢ saved_name
 laid_not_saved number n is same = omega (arith, laid_short number n is, ap length same)
 
-module _ (s : Shape) (shaped : IsSampleShape s) (found : List Item) (are : map content found ≡ map (laid_content s) (items s)) where
+module _ (s : Shape) (shaped : IsSampleShape s) (found : List ReiserItem) (are : map content found ≡ map (laid_content s) (items s)) where
   abbrev number : ℕ
   number = length s.names
 
@@ -222,11 +197,11 @@ module _ (s : Shape) (shaped : IsSampleShape s) (found : List Item) (are : map c
       (pairs_from_each OneDirectory NoDirectory vacuous rows rows_no)
       (each_row (λ x. Each (OneDirectory x) rows) root_naming 0 dirs (λ j low high. each_to NoDirectory (OneDirectory (root_naming j)) (vacuous (root_naming j)) rows rows_no))
 
-  pub names_keep : KeepsNames found names names (keys s few found are)
+  pub names_keep : KeepsNameRules found names names (keys s few found are)
   names_keep =
       let names_is : map bare names ≡ laid_namings number = names_are s few found are in
       record {
-        forms = λ i among entries named. each_in (λ (j : Item). IsFormed (content j)) found i (each_found s IsFormed found (items s) are (all_formed s few)) among entries;
+        forms = λ i among entries named. each_in (λ (j : ReiserItem). IsFormed (content j)) found i (each_found s IsFormed found (items s) are (all_formed s few)) among entries;
         names = λ n among. laid_good number n (laid_name n among);
         private = λ n among hidden. absurd (true≢false (sym (laid_followed number n (laid_name n among)) ∙ hidden));
         short = λ n among. omega (arith, laid_short number n (laid_name n among));

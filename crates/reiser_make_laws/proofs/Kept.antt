@@ -1,47 +1,29 @@
 -- Which rules of trees a sample keeps.
-use Rattle.std.proofs.Common.{Bool, ◌≡◌, inl, inr, ℕ, zero, suc, ◌+◌, ◌≤◌, ◌<◌, List, [], ◌∷◌, ◌++◌, length, map, refl, sym, ◌∙◌, ap, subst, arith, All}
-use Rattle.std.specs.List.{range_with_len, flat_map}
-use Rattle.reiser_volume.specs.outside.History.{Image, block_at}
-use Rattle.reiser_make.specs.Inner.{node_place, leaf_at, level_nodes, root_level, first_child, child_count}
+use Rattle.reiser_make_laws.proofs.Imports.{Bool, ◌≡◌, inl, inr, ℕ, zero, suc, ◌+◌, ◌≤◌, ◌<◌, List, [], ◌∷◌, ◌++◌, length, map, refl, sym, ◌∙◌, ap, subst, arith, All, range_with_len, flat_map, Image, block_at, node_place, leaf_at, level_nodes, root_level, first_child, child_count, body_bytes, leaves, Shape, shape, leaves_some, root_low, nodes_some, ItemHead, ReiserItem, Event, pointer, item_events, held_by, blocks_named, IsNode, FitsHead, Visit, visits_in, BlockPointer, visits_in-append, Each, all_from_each, FitsSample, made, ReadsAs, leaf_items, laid_events, content, laid_content, SamplesKeepGrammar, SamplesFitTheirHeads}
 use Rattle.reiser_make.specs.Items as laid
-use Rattle.reiser_make.specs.Items.{body_bytes}
-use Rattle.reiser_make.specs.Leaf.{leaves}
-use Rattle.reiser_make.specs.Shape.{Shape, shape}
-use Rattle.reiser_make.specs.declared.item.Item as parts
-use Rattle.reiser_make.proofs.Counting.{leaves_some}
-use Rattle.reiser_make.proofs.Rising.{root_low, nodes_some}
-use Rattle.reiser_volume.specs.reiser_node.declared.head.ItemHead.{ItemHead}
-use Rattle.reiser_volume.specs.reiser_walk.Items.{Item, Event, pointer, item_events, held_by, blocks_named}
-use Rattle.reiser_volume.specs.reiser_walk.Laws.{IsNode, FitsHead}
-use Rattle.reiser_volume.specs.reiser_walk.Tree.{Visit, visits_in}
-use Rattle.reiser_volume.specs.reiser_walk.declared.pointer.Pointer.{Pointer}
-use Rattle.reiser_volume.proofs.reiser_walk.Events.{visits_in-append}
-use Rattle.reiser_volume.proofs.reiser_walk.Lists.{Each, all_from_each}
+use Rattle.reiser_make.specs.declared.sample_item.SampleItem as parts
 use Rattle.reiser_make_laws.proofs.Held.{leaf_held, many_nodes, HasChildren, has_children}
 use Rattle.reiser_make_laws.proofs.Items.{samples_items}
 use Rattle.reiser_make_laws.proofs.Walked.{names_children, samples_walked}
 use Rattle.reiser_make_laws.proofs.Writable.{AreGood, sample_good}
-use Rattle.reiser_make_laws.specs.Laws.{Fits, made}
-use Rattle.reiser_make_laws.specs.Nodes.{ReadsAs}
-use Rattle.reiser_make_laws.specs.Walk.{leaf_items, laid_events, content, laid_content, SamplesKeepGrammar, SamplesFitTheirHeads}
 
 each_append : {X : Type 0} (P : X → Type 0) (xs ys : List X) → Each P xs → Each P ys → Each P (xs ++ ys)
 each_append P [] ys first second = second
 each_append P (x ∷ xs) ys first second = (first.0, each_append P xs ys first.1 second)
 
 -- items and pointers to data are no visits
-no_visits : (ps : List Pointer) → visits_in (map pointer ps) ≡ []
+no_visits : (ps : List BlockPointer) → visits_in (map pointer ps) ≡ []
 no_visits [] = refl
 no_visits (p ∷ ps) = no_visits ps
 
-items_no_visits : (is : List Item) → visits_in (flat_map item_events is) ≡ []
+items_no_visits : (is : List ReiserItem) → visits_in (flat_map item_events is) ≡ []
 items_no_visits [] = refl
 items_no_visits (i ∷ is) =
     visits_in-append (item_events i) (flat_map item_events is)
     ∙ ap (λ z. z ++ visits_in (flat_map item_events is)) (no_visits (held_by i.leaf (blocks_named i.head i.body)))
     ∙ items_no_visits is
 
-module _ (number : ℕ) (old : Bool) (blocks : ℕ) (image : Image) (fits : Fits number old blocks image) where
+module _ (number : ℕ) (old : Bool) (blocks : ℕ) (image : Image) (fits : FitsSample number old blocks image) where
   abbrev s : Shape
   s = shape number old
 
@@ -86,14 +68,14 @@ keeps_grammar number old blocks image fits =
     (all_from_each _ _ (all_on_grammar number old blocks image fits))
 
 -- of a list whose contents are those of another
-pub each_content : (P : ItemHead × List ℕ → Type 0) (is : List Item) → Each P (map content is) → Each (λ i. P (content i)) is
+pub each_content : (P : ItemHead × List ℕ → Type 0) (is : List ReiserItem) → Each P (map content is) → Each (λ i. P (content i)) is
 each_content P [] each = tt
 each_content P (i ∷ is) each = (each.0, each_content P is each.1)
 
 abbrev Fit : ItemHead × List ℕ → Type 0
 Fit c = FitsHead c.0 c.1
 
-good_fit : (s : Shape) (xs : List parts.Item) → AreGood s xs → Each Fit (map (laid_content s) xs)
+good_fit : (s : Shape) (xs : List parts.SampleItem) → AreGood s xs → Each Fit (map (laid_content s) xs)
 good_fit s [] good = tt
 good_fit s (x ∷ xs) good = (good.0.body, good_fit s xs good.1)
 

@@ -1,56 +1,41 @@
 -- A leaf that was written reads back.
-use Rattle.std.proofs.Common.{◌≡◌, ℕ, zero, suc, ◌+◌, ◌-◌, ◌*◌, ◌≤◌, ◌<◌, List, [], ◌∷◌, ◌++◌, length, take, drop, replicate, get_or, refl, sym, ◌∙◌, ap, subst, arith, append_assoc, append-nil, length-append, length-take, length-drop, Some, None, All}
-use Rattle.std.specs.Prelude.{Option, IsSome, slice_range}
-use Rattle.std.proofs.Math.Seq.{drop-cons, drop-append_seam, take-append_seam, take-length}
-use Rattle.std.proofs.lemmas.List.{take-append-drop, take_more, get_or-take, get_or-drop, length-replicate}
-use Rattle.std.proofs.lemmas.List.Sums.{sum_by-cons, sum_by-append}
-use Rattle.byteorder.specs.Numbers.{little_number-reads_back}
-use Rattle.reiser_volume.specs.vol_block.Volume.{field}
-use Rattle.reiser_volume.specs.reiser_node.Head.{head_at, head_of_kind, kind_at}
-use Rattle.reiser_volume.specs.reiser_node.Leaf.{level, count, head_place, body_length, location, body_end, body_at, IsItem}
-use Rattle.reiser_volume.specs.reiser_node.declared.head.ItemHead.{ItemHead}
-use Rattle.reiser_volume.specs.reiser_node.declared.head.ItemKind.{ItemKind}
-use Rattle.reiser_make.specs.Items.{body_bytes}
-use Rattle.reiser_make.specs.Leaf.{taken, taken_by, node_room, node_head, heads_bytes, head_bytes, bodies, leaf_bytes, leaf_contents}
-use Rattle.reiser_make.specs.Shape.{Shape}
-use Rattle.reiser_make.specs.declared.item.Item.{Item}
+use Rattle.reiser_make_laws.proofs.Imports.{◌≡◌, ℕ, zero, suc, ◌+◌, ◌-◌, ◌*◌, ◌≤◌, ◌<◌, List, [], ◌∷◌, ◌++◌, length, take, drop, replicate, get_or, refl, sym, ◌∙◌, ap, subst, arith, append_assoc, append-nil, length-append, length-take, length-drop, Some, None, All, Option, IsSome, slice_range, drop-cons, drop-append_seam, take-append_seam, take-length, take-append-drop, take_more, get_or-take, get_or-drop, length-replicate, sum_by-cons, sum_by-append, little_number-reads_back, field, head_at, head_of_kind, kind_at, level, count, head_place, body_length, location, body_end, body_at, IsItem, ItemHead, ItemKind, body_bytes, bytes_taken, taken_by, node_room, node_head, heads_bytes, head_bytes, bodies, leaf_bytes, leaf_contents, Shape, SampleItem, IsWritable, ReadsAs, LeavesReadBack}
 use Rattle.reiser_make.proofs.Storing.{lengths, head_size}
 use Rattle.reiser_make_laws.proofs.Heads.{HasRoomIn, field_behind, head_behind, head_reads, length_reads, location_reads}
-use Rattle.reiser_make_laws.specs.Nodes.{IsWritable, ReadsAs, LeavesReadBack}
 
-heads_split : (end : ℕ) (xs ys : List Item) → heads_bytes end (xs ++ ys) ≡ heads_bytes end xs ++ heads_bytes (end - lengths xs) ys
+heads_split : (end : ℕ) (xs ys : List SampleItem) → heads_bytes end (xs ++ ys) ≡ heads_bytes end xs ++ heads_bytes (end - lengths xs) ys
 heads_split end [] ys = ap (λ n. heads_bytes n ys) (let same : end ≡ end - lengths [] = omega arith in same)
 heads_split end (x ∷ xs) ys =
     let begin : ℕ = end - x.head.length in
-    let below : begin - lengths xs ≡ end - lengths (x ∷ xs) = omega (arith, sum_by-cons (λ (i : Item). i.head.length) x xs) in
+    let below : begin - lengths xs ≡ end - lengths (x ∷ xs) = omega (arith, sum_by-cons (λ (i : SampleItem). i.head.length) x xs) in
     ap (λ z. head_bytes x.head begin ++ z) (heads_split begin xs ys ∙ ap (λ n. heads_bytes begin xs ++ heads_bytes n ys) below)
     ∙ sym (append_assoc (head_bytes x.head begin) (heads_bytes begin xs) (heads_bytes (end - lengths (x ∷ xs)) ys))
 
-bodies_split : (s : Shape) (xs ys : List Item) → bodies s (xs ++ ys) ≡ bodies s ys ++ bodies s xs
+bodies_split : (s : Shape) (xs ys : List SampleItem) → bodies s (xs ++ ys) ≡ bodies s ys ++ bodies s xs
 bodies_split s [] ys = sym (append-nil (bodies s ys))
 bodies_split s (x ∷ xs) ys =
     let own : List ℕ = body_bytes s x.head.old x.body in
     ap (λ z. z ++ own) (bodies_split s xs ys) ∙ append_assoc (bodies s ys) (bodies s xs) own
 
-length_heads : (end : ℕ) (xs : List Item) → length (heads_bytes end xs) ≡ 24 * length xs
+length_heads : (end : ℕ) (xs : List SampleItem) → length (heads_bytes end xs) ≡ 24 * length xs
 length_heads end [] = refl
 length_heads end (x ∷ xs) =
     let begin : ℕ = end - x.head.length in
     omega (arith, length-append (head_bytes x.head begin) (heads_bytes begin xs), head_size x.head begin, length_heads begin xs)
 
-abbrev AreWritable : Shape → List Item → Type 0
+abbrev AreWritable : Shape → List SampleItem → Type 0
 AreWritable s items = All (IsWritable s) items
 
-length_bodies : (s : Shape) (xs : List Item) → AreWritable s xs → length (bodies s xs) ≡ lengths xs
+length_bodies : (s : Shape) (xs : List SampleItem) → AreWritable s xs → length (bodies s xs) ≡ lengths xs
 length_bodies s [] right = refl
 length_bodies s (x ∷ xs) right =
     let first : IsWritable s x = right 0 x (omega arith) in
     let own : List ℕ = body_bytes s x.head.old x.body in
-    omega (arith, length-append (bodies s xs) own, first.body, length_bodies s xs (λ k d lt. right (suc k) d (omega (arith, lt))), sum_by-cons (λ (i : Item). i.head.length) x xs)
+    omega (arith, length-append (bodies s xs) own, first.body, length_bodies s xs (λ k d lt. right (suc k) d (omega (arith, lt))), sum_by-cons (λ (i : SampleItem). i.head.length) x xs)
 
-taken_parts : (xs : List Item) → taken xs ≡ 24 * length xs + lengths xs
+taken_parts : (xs : List SampleItem) → bytes_taken xs ≡ 24 * length xs + lengths xs
 taken_parts [] = refl
-taken_parts (x ∷ xs) = omega (arith, sum_by-cons taken_by x xs, sum_by-cons (λ (i : Item). i.head.length) x xs, taken_parts xs)
+taken_parts (x ∷ xs) = omega (arith, sum_by-cons taken_by x xs, sum_by-cons (λ (i : SampleItem). i.head.length) x xs, taken_parts xs)
 
 known_by : (bytes : List ℕ) (at : ℕ) (kind : Option ItemKind) (head : ItemHead) → head_of_kind bytes at kind ≡ Some head → IsSome kind
 known_by bytes at None head is = cc
@@ -62,15 +47,15 @@ drop_at n front rest is = ap (λ m. drop m (front ++ rest)) (sym is) ∙ drop-ap
 pub take_at : (n : ℕ) (front rest : List ℕ) → length front ≡ n → take n (front ++ rest) ≡ front
 take_at n front rest is = ap (λ m. take m (front ++ rest)) (sym is) ∙ take-append_seam front rest
 
-module _ (s : Shape) (items : List Item) (right : AreWritable s items) (room : taken items ≤ node_room) where
+module _ (s : Shape) (items : List SampleItem) (right : AreWritable s items) (room : bytes_taken items ≤ node_room) where
   abbrev bytes : List ℕ
   bytes = leaf_bytes s items
 
   abbrev front : List ℕ
-  front = node_head 1 (length items) (node_room - taken items)
+  front = node_head 1 (length items) (node_room - bytes_taken items)
 
   abbrev gap : List ℕ
-  gap = replicate (node_room - taken items) 0
+  gap = replicate (node_room - bytes_taken items) 0
 
   bytes_are : bytes ≡ front ++ (heads_bytes 4096 items ++ (gap ++ bodies s items))
   unfolding leaf_bytes leaf_contents
@@ -82,14 +67,14 @@ module _ (s : Shape) (items : List Item) (right : AreWritable s items) (room : t
   length_front : length front ≡ 24
   length_front = refl
 
-  module _ (i : ℕ) (d : Item) (lt : i < length items) where
-    abbrev own : Item
+  module _ (i : ℕ) (d : SampleItem) (lt : i < length items) where
+    abbrev own : SampleItem
     own = get_or items i d
 
-    abbrev before : List Item
+    abbrev before : List SampleItem
     before = take i items
 
-    abbrev rest : List Item
+    abbrev rest : List SampleItem
     rest = drop (suc i) items
 
     abbrev begin : ℕ
@@ -99,7 +84,7 @@ module _ (s : Shape) (items : List Item) (right : AreWritable s items) (room : t
     split = sym (take-append-drop i items) ∙ ap (λ z. before ++ z) (drop-cons items i d lt)
 
     sizes : lengths items ≡ lengths before + (own.head.length + lengths rest)
-    sizes = ap lengths split ∙ sum_by-append (λ (x : Item). x.head.length) before (own ∷ rest) ∙ ap (λ n. lengths before + n) (sum_by-cons (λ (x : Item). x.head.length) own rest)
+    sizes = ap lengths split ∙ sum_by-append (λ (x : SampleItem). x.head.length) before (own ∷ rest) ∙ ap (λ n. lengths before + n) (sum_by-cons (λ (x : SampleItem). x.head.length) own rest)
 
     own_low : own.head.length ≤ 4072
     own_low = omega (arith, few, sizes)
@@ -168,7 +153,7 @@ module _ (s : Shape) (items : List Item) (right : AreWritable s items) (room : t
           length-append (heads_bytes 4096 items) (gap ++ bodies s rest),
           length_heads 4096 items,
           length-append gap (bodies s rest),
-          length-replicate {A = ℕ} (node_room - taken items) 0,
+          length-replicate {A = ℕ} (node_room - bytes_taken items) 0,
           length_bodies s rest right_rest,
           taken_parts items,
           sizes,
@@ -184,13 +169,13 @@ module _ (s : Shape) (items : List Item) (right : AreWritable s items) (room : t
         ∙ ap (take own.head.length) (ap (drop begin) at_body ∙ drop_at begin ahead (own_body ++ bodies s before) body_place)
         ∙ take_at own.head.length own_body (bodies s before) (right i d lt).body
 
-  module _ (d : Item) where
+  module _ (d : SampleItem) where
     -- the body of an item ends where that of the item before begins
     end_is : (i : ℕ) → i ≤ length items → body_end bytes i ≡ 4096 - lengths (take i items)
     end_is zero low = omega arith
     end_is (suc j) low =
         let more : lengths (take (j + 1) items) ≡ lengths (take j items) + (get_or items j d).head.length =
-        ap lengths (take_more items j d (omega (arith, low))) ∙ sum_by-append (λ (x : Item). x.head.length) (take j items) (get_or items j d ∷ []) ∙ omega arith in
+        ap lengths (take_more items j d (omega (arith, low))) ∙ sum_by-append (λ (x : SampleItem). x.head.length) (take j items) (get_or items j d ∷ []) ∙ omega arith in
         let next : take (suc j) items ≡ take (j + 1) items = ap (λ n. take n items) (let same : suc j ≡ j + 1 = omega arith in same) in
         location_is j d (omega (arith, low)) ∙ omega (arith, more, ap lengths next)
 

@@ -13,6 +13,7 @@ pub mod Fields
 pub mod Found
 pub mod Heads
 pub mod Held
+pub mod Imports
 pub mod Items
 pub mod Keeping
 pub mod Kept

@@ -1,9 +1,5 @@
 -- Lists that are made of others.
-use Rattle.std.proofs.Common.{◌≡◌, ℕ, zero, suc, ◌+◌, ◌≤◌, ◌<◌, Bool, true, false, cond, ◌&&◌, List, [], ◌∷◌, ◌++◌, length, map, take, drop, refl, sym, ◌∙◌, ap, arith, append_assoc, length-append, Contains, filter}
-use Rattle.std.specs.List.{range_with_len, flat_map}
-use Rattle.std.proofs.lemmas.List.Elements.{All-contains, filter-append}
-use Rattle.std.proofs.lemmas.List.Sums.{length-filter, count_by-le-length}
-use Rattle.reiser_volume.proofs.reiser_walk.Lists.{Each, Pairs, all_from_each}
+use Rattle.reiser_make_laws.proofs.Imports.{◌≡◌, ℕ, zero, suc, ◌+◌, ◌≤◌, ◌<◌, Bool, true, false, cond, ◌&&◌, List, [], ◌∷◌, ◌++◌, length, map, take, drop, refl, sym, ◌∙◌, ap, arith, append_assoc, length-append, Contains, filter, range_with_len, flat_map, All-contains, filter-append, length-filter, count_by-le-length, Each, Pairs, all_from_each}
 use Rattle.reiser_make_laws.proofs.Ascending.{each_to, each_join, pairs_append}
 
 -- what holds of each element

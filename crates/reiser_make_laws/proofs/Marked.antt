@@ -1,22 +1,10 @@
 -- Which blocks the bitmap of a sample marks.
-use Rattle.std.proofs.Common.{◌≡◌, ◌⊎◌, inl, inr, ℕ, zero, suc, ◌+◌, ◌*◌, ◌/◌, ◌%◌, ◌≤◌, ◌<◌, Bool, true, false, cond, ◌&&◌, ◌||◌, ◌==◌, List, length, map, refl, sym, ◌∙◌, ap, subst, arith, slice_index, eq-eqb, eqb-true, ne_eqb}
-use Rattle.std.specs.Prelude.{nat_lt, nat_le, Contains}
-use Rattle.std.specs.Int.{bit_at}
-use Rattle.std.proofs.lemmas.Bool.Decides.{nat_tests}
-use Rattle.std.proofs.lemmas.List.FromFn.{get_or-map-range_with_len}
-use Rattle.reiser_volume.specs.outside.History.{Image, block_at}
-use Rattle.reiser_volume.specs.reiser_bitmap.Bits.{bit_of, has}
-use Rattle.reiser_volume.specs.reiser_bitmap.Layout.{bitmap_of, bitmap_block, is_marked}
-use Rattle.reiser_volume.specs.reiser_bitmap.System.{system_blocks, is_system, is_bitmap_block}
+use Rattle.reiser_make_laws.proofs.Imports.{◌≡◌, ◌⊎◌, inl, inr, ℕ, zero, suc, ◌+◌, ◌*◌, ◌/◌, ◌%◌, ◌≤◌, ◌<◌, Bool, true, false, cond, ◌&&◌, ◌||◌, ◌==◌, List, length, map, refl, sym, ◌∙◌, ap, subst, arith, eq-eqb, eqb-true, ne_eqb, nat_lt, nat_le, bit_at, nat_tests, get_or-map-range_with_len, BITS_IN_BLOCK, SUPER_BLOCK, Image, block_at, bit_of, has, bitmap_of, bitmap_block, is_marked, system_blocks, is_system, is_bitmap_block, superblock_fields, needed, total, is_taken, Shape, shape, system_below, total_some, made, SamplesMarkUsed, SamplesMarkSystem}
+use Rattle.std.proofs.Common.{slice_index}
+use Rattle.std.specs.Prelude.{Contains}
 use Rattle.reiser_volume.proofs.reiser_bitmap.MoreLaws.{system_pass}
-use Rattle.reiser_volume.specs.reiser_super.Superblock.{super_of}
 use Rattle.reiser_make.specs.Bitmap.{bit, byte_of, marks, bitmap_bytes}
 use Rattle.reiser_make.specs.Bitmap as maps
-use Rattle.reiser_make.specs.Inner.{needed, total}
-use Rattle.reiser_make.specs.Places.{is_taken}
-use Rattle.reiser_make.specs.Shape.{Shape, shape}
-use Rattle.reiser_make.proofs.Placed.{system_below, total_some}
-use Rattle.reiser_make_laws.specs.Laws.{made, SamplesMarkUsed, SamplesMarkSystem}
 use Rattle.reiser_make_laws.proofs.Blocks.{system_is, bitmap_is}
 use Rattle.reiser_make_laws.proofs.Cleanness.{HasFields, super_made}
 
@@ -72,15 +60,15 @@ digit_low : (i : ℕ) → i % 8 < 8
 digit_low i = omega arith
 
 -- the bit of a block in the bytes of marks
-marked_bit : (end blocks k i : ℕ) → i < 32768 → bit_of (bitmap_bytes end blocks k) i ≡ maps.is_marked end blocks (32768 * k + i)
+marked_bit : (end blocks k i : ℕ) → i < BITS_IN_BLOCK → bit_of (bitmap_bytes end blocks k) i ≡ maps.is_marked end blocks (BITS_IN_BLOCK * k + i)
 unfolding marks
 marked_bit end blocks k i low =
     let set : ℕ → Bool = maps.is_marked end blocks in
-    let byte : slice_index (bitmap_bytes end blocks k) (i / 8) ≡ byte_of set (32768 * k + 8 * (i / 8)) =
-    get_or-map-range_with_len (λ j. byte_of set (32768 * k + 8 * j)) 0 4096 (i / 8) (i / 8) 0 (omega (arith, low)) (omega arith) in
-    let whole : 32768 * k + 8 * (i / 8) + i % 8 ≡ 32768 * k + i = byte_and_digit (32768 * k) i in
-    bit_is_one (set (32768 * k + i)) _
-    (ap (λ (x : ℕ). bit_at x (i % 8)) byte ∙ byte_bits set (32768 * k + 8 * (i / 8)) (i % 8) (digit_low i) ∙ ap (λ (b : ℕ). bit (set b)) whole)
+    let byte : slice_index (bitmap_bytes end blocks k) (i / 8) ≡ byte_of set (BITS_IN_BLOCK * k + 8 * (i / 8)) =
+    get_or-map-range_with_len (λ j. byte_of set (BITS_IN_BLOCK * k + 8 * j)) 0 4096 (i / 8) (i / 8) 0 (omega (arith, low)) (omega arith) in
+    let whole : BITS_IN_BLOCK * k + 8 * (i / 8) + i % 8 ≡ BITS_IN_BLOCK * k + i = byte_and_digit (BITS_IN_BLOCK * k) i in
+    bit_is_one (set (BITS_IN_BLOCK * k + i)) _
+    (ap (λ (x : ℕ). bit_at x (i % 8)) byte ∙ byte_bits set (BITS_IN_BLOCK * k + 8 * (i / 8)) (i % 8) (digit_low i) ∙ ap (λ (b : ℕ). bit (set b)) whole)
 
 or_false : (a b : Bool) → b ≡ false → (a || b) ≡ a
 or_false true b is = refl
@@ -90,11 +78,11 @@ or_false false b is = is
 inside_marked : (end blocks b : ℕ) → b < blocks → maps.is_marked end blocks b ≡ is_taken end b
 inside_marked end blocks b low = or_false (is_taken end b) (nat_le blocks b) (grind (arith, nat_tests, low))
 
-pub block_later : (k : ℕ) → 1 ≤ k → bitmap_block k ≡ 32768 * k
-block_later k later = ap (λ (b : Bool). cond b 17 (32768 * k)) (ne_eqb k 0 (λ is. omega (arith, is, later)))
+pub block_later : (k : ℕ) → 1 ≤ k → bitmap_block k ≡ BITS_IN_BLOCK * k
+block_later k later = ap (λ (b : Bool). cond b 17 (BITS_IN_BLOCK * k)) (ne_eqb k 0 (λ is. omega (arith, is, later)))
 
 module _ (s : Shape) (blocks : ℕ) (image : Image) (enough : needed s ≤ blocks) (inside : blocks ≤ length image) where
-  map_is_by : (k : ℕ) → 32768 * k < blocks → (k ≡ 0) ⊎ (1 ≤ k) → block_at (made s blocks image) (bitmap_block k) ≡ bitmap_bytes (needed s) blocks k
+  map_is_by : (k : ℕ) → BITS_IN_BLOCK * k < blocks → (k ≡ 0) ⊎ (1 ≤ k) → block_at (made s blocks image) (bitmap_block k) ≡ bitmap_bytes (needed s) blocks k
   map_is_by k low (inl first) =
       let long : 8210 < needed s = system_below (total s) 8210 (total_some s) (omega arith) in
       subst (λ (k : ℕ). block_at (made s blocks image) (bitmap_block k) ≡ bitmap_bytes (needed s) blocks k) (sym first)
@@ -104,17 +92,17 @@ module _ (s : Shape) (blocks : ℕ) (image : Image) (enough : needed s ≤ block
       ∙ bitmap_is s blocks k image later (omega (arith, low)) (omega (arith, low, inside))
 
   -- bitmap block k of a sample
-  map_is : (k : ℕ) → 32768 * k < blocks → block_at (made s blocks image) (bitmap_block k) ≡ bitmap_bytes (needed s) blocks k
+  map_is : (k : ℕ) → BITS_IN_BLOCK * k < blocks → block_at (made s blocks image) (bitmap_block k) ≡ bitmap_bytes (needed s) blocks k
   map_is k low = map_is_by k low (grind arith)
 
   -- a block of the volume is marked exactly where the sample uses it
   pub marked_is : (b : ℕ) → b < blocks → has (bitmap_of blocks (made s blocks image)) b ≡ is_taken (needed s) b
   marked_is b low =
-      let k : ℕ = b / 32768 in
-      let whole : 32768 * k + b % 32768 ≡ b = omega arith in
+      let k : ℕ = b / BITS_IN_BLOCK in
+      let whole : BITS_IN_BLOCK * k + b % BITS_IN_BLOCK ≡ b = omega arith in
       get_or-map-range_with_len (is_marked (made s blocks image)) 0 blocks b b false low (omega arith)
-      ∙ ap (λ (bytes : List ℕ). bit_of bytes (b % 32768)) (map_is k (omega (arith, low)))
-      ∙ marked_bit (needed s) blocks k (b % 32768) (omega arith)
+      ∙ ap (λ (bytes : List ℕ). bit_of bytes (b % BITS_IN_BLOCK)) (map_is k (omega (arith, low)))
+      ∙ marked_bit (needed s) blocks k (b % BITS_IN_BLOCK) (omega arith)
       ∙ ap (maps.is_marked (needed s) blocks) whole
       ∙ inside_marked (needed s) blocks b low
 
@@ -125,8 +113,8 @@ or_true false b is = is
 pub taken_low : (end b : ℕ) → b < end → is_taken end b ≡ true
 taken_low end b low = grind (arith, nat_tests, low)
 
-taken_whole : (end b : ℕ) → b % 32768 ≡ 0 → is_taken end b ≡ true
-taken_whole end b whole = or_true (nat_lt b end) (b % 32768 == 0) (eq-eqb _ _ whole)
+taken_whole : (end b : ℕ) → b % BITS_IN_BLOCK ≡ 0 → is_taken end b ≡ true
+taken_whole end b whole = or_true (nat_lt b end) (b % BITS_IN_BLOCK == 0) (eq-eqb _ _ whole)
 
 or_cases : (a b c : Bool) → (a || (b || c)) ≡ true → (a ≡ true) ⊎ (b ≡ true) ⊎ (c ≡ true)
 or_cases true b c is = inl refl
@@ -138,12 +126,12 @@ map_block_taken end b k long is (inl first) =
     let here : b ≡ 17 = is ∙ ap bitmap_block first in
     taken_low end b (omega (arith, here, long))
 map_block_taken end b k long is (inr later) =
-    let here : b ≡ 32768 * k = is ∙ block_later k later in
+    let here : b ≡ BITS_IN_BLOCK * k = is ∙ block_later k later in
     taken_whole end b (omega (arith, here))
 
 own_taken_by : (end b : ℕ) → 8210 < end → ((b == 16) ≡ true) ⊎ (is_bitmap_block b ≡ true) ⊎ ((nat_le 18 b && nat_le b 8210) ≡ true) → is_taken end b ≡ true
 own_taken_by end b long (inl sixteen) = taken_low end b (grind (arith, nat_tests, sixteen, long))
-own_taken_by end b long (inr (inl map)) = map_block_taken end b (b / 32768) (omega (arith, long)) (eqb-true _ _ map) (grind arith)
+own_taken_by end b long (inr (inl map)) = map_block_taken end b (b / BITS_IN_BLOCK) (omega (arith, long)) (eqb-true _ _ map) (grind arith)
 own_taken_by end b long (inr (inr log)) = taken_low end b (grind (arith, nat_tests, log, long))
 
 -- the volume's own blocks are used
@@ -153,7 +141,7 @@ own_taken end b long is = own_taken_by end b long (or_cases (b == 16) (is_bitmap
 pub marks_used : SamplesMarkUsed
 marks_used number old blocks image fits b low =
     let s : Shape = shape number old in
-    let has_all : HasFields s blocks (block_at (made s blocks image) 16) = super_made number old blocks image fits in
+    let has_all : HasFields s blocks (block_at (made s blocks image) SUPER_BLOCK) = super_made number old blocks image fits in
     ap (λ (n : ℕ). has (bitmap_of n (made s blocks image)) b) has_all.blocks_is ∙ marked_is s blocks image fits.needed_low fits.inside b low
 
 marks_own : (s : Shape) (blocks first size : ℕ) (image : Image) → needed s ≤ blocks → blocks ≤ length image → first ≡ 18 → size ≡ 8192 → (b : ℕ) → Contains (system_blocks blocks first size) b
@@ -167,9 +155,9 @@ marks_own s blocks first size image enough inside is-first is-size b own =
 pub marks_system : SamplesMarkSystem
 marks_system number old blocks image fits b own =
     let s : Shape = shape number old in
-    let block : List ℕ = block_at (made s blocks image) 16 in
+    let block : List ℕ = block_at (made s blocks image) SUPER_BLOCK in
     let has_all : HasFields s blocks block = super_made number old blocks image fits in
-    let here : Contains (system_blocks blocks (super_of block).journal_first (super_of block).journal_size) b =
-    subst (λ (n : ℕ). Contains (system_blocks n (super_of block).journal_first (super_of block).journal_size) b) has_all.blocks_is own in
+    let here : Contains (system_blocks blocks (superblock_fields block).journal_first (superblock_fields block).journal_size) b =
+    subst (λ (n : ℕ). Contains (system_blocks n (superblock_fields block).journal_first (superblock_fields block).journal_size) b) has_all.blocks_is own in
     ap (λ (n : ℕ). has (bitmap_of n (made s blocks image)) b) has_all.blocks_is
-    ∙ marks_own s blocks (super_of block).journal_first (super_of block).journal_size image fits.needed_low fits.inside has_all.fixed_ones.first has_all.fixed_ones.size b here
+    ∙ marks_own s blocks (superblock_fields block).journal_first (superblock_fields block).journal_size image fits.needed_low fits.inside has_all.fixed_ones.first has_all.fixed_ones.size b here

@@ -1,30 +1,12 @@
 -- Which objects of a sample are named: the root, the directories, and what the names of files stand for.
-use Rattle.std.proofs.Common.{◌≡◌, ◌≢◌, ⊎_elim, ℕ, zero, suc, ◌+◌, ◌-◌, ◌*◌, ◌%◌, ◌≤◌, ◌<◌, Bool, true, false, cond, ◌==◌, ◌&&◌, ◌||◌, not, List, length, map, filter, refl, sym, ◌∙◌, ap, subst, arith, ne_eqb, eqb-true, Contains}
-use Rattle.std.specs.List.{range_with_len, flat_map, list_any}
-use Rattle.std.proofs.lemmas.Bool.{and_right, not_from_false, or_cases, or_left, or_right}
-use Rattle.std.proofs.lemmas.List.Folds.{Any-from_list_any, list_any-from_Any}
-use Rattle.reiser_make.specs.Content.{is_further_name}
-use Rattle.reiser_make.specs.Items.{items}
-use Rattle.reiser_make.specs.Names.{directory_name, file_name}
-use Rattle.reiser_make.specs.Shape.{Shape, directory_count, names_in, object_count, named_by}
-use Rattle.reiser_volume.specs.reiser_walk.Items.{Item}
-use Rattle.reiser_volume.proofs.reiser_walk.Lists.{Each, all_pairs_from_pairs}
-use Rattle.reiser_volume.specs.reiser_volume_objects.declared.key.ObjectKey.{ObjectKey}
-use Rattle.reiser_volume.specs.reiser_volume_objects.declared.naming.Naming.{Naming}
-use Rattle.reiser_volume.specs.reiser_volume_objects.Keys.{same_key, root}
-use Rattle.reiser_volume.specs.reiser_volume_objects.Names.{namings, is_private_name, is_followed, followed, IsReachedBy, IsNamed}
+use Rattle.reiser_make_laws.proofs.Imports.{◌≡◌, ◌≢◌, ⊎_elim, ℕ, zero, suc, ◌+◌, ◌-◌, ◌*◌, ◌%◌, ◌≤◌, ◌<◌, Bool, true, false, cond, ◌==◌, ◌&&◌, ◌||◌, not, List, length, map, filter, refl, sym, ◌∙◌, ap, subst, arith, ne_eqb, eqb-true, Contains, range_with_len, flat_map, list_any, and_right, not_from_false, or_cases, or_left, or_right, Any-from_list_any, list_any-from_Any, is_further_name, items, directory_name, file_name, Shape, directory_count, names_in, object_count, named_by, ReiserItem, Each, all_pairs_from_pairs, ObjectKey, Naming, same_key, root, namings, is_private_name, is_followed, followed, IsReachedBy, IsNamed, in_filter, from_filter, from_map, same_key-true, same_key-self, content, laid_content, Contains-append_left}
 use Rattle.reiser_volume.specs.reiser_volume_objects.Reach.{Keys}
-use Rattle.reiser_volume.proofs.fs_paths.Lists.{in_filter, from_filter}
-use Rattle.reiser_volume.proofs.reiser_volume_objects.Tables.{same_key-true, same_key-self}
 use Rattle.reiser_volume.specs.reiser_volume_names.Links.{TellsNamed, AreLinks, AreNamedKeys}
-use Rattle.reiser_volume.proofs.fs_paths.Lists.{from_map}
 use Rattle.reiser_make_laws.proofs.Ascending.{each_to, each_join}
 use Rattle.reiser_make_laws.proofs.Held.{in_row}
 use Rattle.reiser_make_laws.proofs.Lists.{each_in, each_from_map, each_row, each_rows, pairs_row, pairs_filter, filter_all}
 use Rattle.reiser_make_laws.proofs.Namings.{bare, root_naming, file_naming, root_row, names_row, laid_namings, found_names}
 use Rattle.reiser_make_laws.proofs.Parts.{directory_key, file_key, key_at, directory_at, file_at}
-use Rattle.reiser_make_laws.specs.Walk.{content, laid_content}
-use Rattle.std.proofs.lemmas.List.Elements.{Contains-append_left}
 
 -- a name of a sample: the root's for a directory, or a directory's for the object of a name
 pub data IsLaid (number : ℕ) (n : Naming) : Type 0 where
@@ -73,7 +55,7 @@ pub laid_followed : (number : ℕ) (n : Naming) → IsLaid number n → is_follo
 laid_followed number n (in_root k lt dir target name) = not_from_false (same_key root n.dir && is_private_name n.name) (and_right (same_key root n.dir) (is_private_name n.name) (ap is_private_name name ∙ not_private k))
 laid_followed number n (in_directory k i lt few low high dir target name) = ap (λ d. not (same_key root d && is_private_name n.name)) dir
 
-module _ (s : Shape) (few : length s.names ≤ 4000) (found : List Item) (are : map content found ≡ map (laid_content s) (items s)) where
+module _ (s : Shape) (few : length s.names ≤ 4000) (found : List ReiserItem) (are : map content found ≡ map (laid_content s) (items s)) where
   abbrev number : ℕ
   number = length s.names
 

@@ -1,37 +1,12 @@
 -- The names that a reader finds in a sample.
-use Rattle.std.proofs.Common.{◌≡◌, ℕ, suc, ◌+◌, ◌-◌, ◌*◌, ◌^◌, ◌≤◌, ◌<◌, Bool, true, false, cond, ◌==◌, ◌||◌, not, List, [], ◌∷◌, ◌++◌, length, map, filter, get_or, refl, sym, ◌∙◌, ap, arith, append-nil, ne_eqb, codes}
-use Rattle.std.specs.List.{range_with_len, flat_map}
-use Rattle.std.proofs.lemmas.Bool.{or_from, cond_both}
-use Rattle.std.proofs.lemmas.List.Folds.{flat_map-map}
-use Rattle.std.proofs.lemmas.List.FromFn.{length-map-range_with_len}
-use Rattle.reiser_volume.specs.reiser_node.declared.head.ItemHead.{ItemHead}
-use Rattle.reiser_volume.specs.reiser_node.declared.head.ItemKind.{ItemKind}
-use Rattle.reiser_volume.specs.reiser_node.declared.head.ItemKind.TheVariants.{Stat, Indirect, Direct, Directory}
-use Rattle.reiser_volume.specs.reiser_items.Entries.{EntryValue, is_of_name, are_entries, entries}
-use Rattle.reiser_make.specs.Content.{is_further_name}
-use Rattle.reiser_make.specs.Directory.{entry, entries_bytes, directory_entry, root_entries, file_entry, directory_entries}
+use Rattle.reiser_make_laws.proofs.Imports.{◌≡◌, ℕ, suc, ◌+◌, ◌-◌, ◌*◌, ◌^◌, ◌≤◌, ◌<◌, Bool, true, false, cond, ◌==◌, ◌||◌, not, List, [], ◌∷◌, ◌++◌, length, map, filter, get_or, refl, sym, ◌∙◌, ap, arith, append-nil, ne_eqb, codes, range_with_len, flat_map, or_from, cond_both, flat_map-map, length-map-range_with_len, ItemHead, ItemKind, Stat, Indirect, Direct, Directory, EntryValue, is_of_name, are_entries, entries, is_further_name, entry, entries_bytes, directory_entry, root_entries, file_entry, directory_entries, items, items_of_content, directory_items, item, pointer_items, byte_items, body_bytes, directory_name, file_name, entry_offset, Shape, directory_count, names_in, object_count, root_id, above_root, directory_id, file_id, named_by, SampleEntry, Name, Symlink, File, Body, Root, Names, Pointers, Bytes, ObjectId, ReiserItem, Each, ObjectKey, Naming, object_key_of, root, is_listed, naming_by, namings_by_kind, namings_in, namings, content, laid_content}
 use Rattle.reiser_make.specs.Items as laid
-use Rattle.reiser_make.specs.Items.{items, items_of_content, directory_items, item, pointer_items, byte_items, body_bytes}
-use Rattle.reiser_make.specs.Names.{directory_name, file_name, entry_offset}
-use Rattle.reiser_make.specs.Shape.{Shape, directory_count, names_in, object_count, root_id, above_root, directory_id, file_id, named_by}
-use Rattle.reiser_make.specs.declared.content.Content.{Content}
-use Rattle.reiser_make.specs.declared.content.Content.TheVariants.{Name, Symlink, File}
-use Rattle.reiser_make.specs.declared.item.Body.{Body}
-use Rattle.reiser_make.specs.declared.item.Body.TheVariants.{Root, Names, Pointers, Bytes}
-use Rattle.reiser_make.specs.declared.item.Item as parts
-use Rattle.reiser_make.specs.declared.object.ObjectId.{ObjectId}
-use Rattle.reiser_volume.specs.reiser_walk.Items.{Item}
-use Rattle.reiser_volume.proofs.reiser_walk.Lists.{Each}
-use Rattle.reiser_volume.specs.reiser_volume_objects.declared.key.ObjectKey.{ObjectKey}
-use Rattle.reiser_volume.specs.reiser_volume_objects.declared.naming.Naming.{Naming}
-use Rattle.reiser_volume.specs.reiser_volume_objects.Keys.{key_of, root}
-use Rattle.reiser_volume.specs.reiser_volume_objects.Names.{is_listed, naming_by, namings_by_kind, namings_in, namings}
+use Rattle.reiser_make.specs.declared.sample_item.SampleItem as parts
 use Rattle.reiser_make_laws.proofs.Ascending.{each_join, either_each}
 use Rattle.reiser_make_laws.proofs.Entries.{AreOfName, IsPlain, ArePlain, entries_back, entries_formed}
 use Rattle.reiser_make_laws.proofs.Items.{flat_join, map_split}
 use Rattle.reiser_make_laws.proofs.Lists.{each_row, filter_all, flat_flat, flat_same, flat_none, flat_row_none, map_map}
 use Rattle.reiser_make_laws.proofs.Parts.{key_by, directory_key, file_key, file_items, directory_laid, file_laid}
-use Rattle.reiser_make_laws.specs.Walk.{content, laid_content}
 
 -- a name without the leaf that it was found in
 abbrev pub bare : Naming → Naming
@@ -63,19 +38,19 @@ bare_either : (b : Bool) (leaf : ℕ) (key : ObjectKey) (es : List EntryValue) �
 bare_either true leaf key es = bare_all leaf key es
 bare_either false leaf key es = refl
 
-abbrev pub item_of : ItemHead × List ℕ → Item
+abbrev pub item_of : ItemHead × List ℕ → ReiserItem
 item_of c = record { leaf = 0; head = c.0; body = c.1 }
 
-bare_by : (kind : ItemKind) (i : Item) → map bare (namings_by_kind kind i) ≡ namings_by_kind kind (item_of (content i))
+bare_by : (kind : ItemKind) (i : ReiserItem) → map bare (namings_by_kind kind i) ≡ namings_by_kind kind (item_of (content i))
 bare_by Stat i = refl
 bare_by Indirect i = refl
 bare_by Direct i = refl
-bare_by Directory i = bare_either (are_entries i.head.count i.body) i.leaf (key_of i.head) (filter is_listed (entries i.head.count i.body))
+bare_by Directory i = bare_either (are_entries i.head.count i.body) i.leaf (object_key_of i.head) (filter is_listed (entries i.head.count i.body))
 
 abbrev named_in : ItemHead × List ℕ → List Naming
 named_in c = namings_in (item_of c)
 
-bare_namings : (is : List Item) → map bare (namings is) ≡ flat_map named_in (map content is)
+bare_namings : (is : List ReiserItem) → map bare (namings is) ≡ flat_map named_in (map content is)
 bare_namings [] = refl
 bare_namings (i ∷ is) =
     map_split bare (namings_in i) (namings is)
@@ -83,7 +58,7 @@ bare_namings (i ∷ is) =
     ∙ ap (λ z. named_in (content i) ++ z) (bare_namings is)
 
 -- the names in an item of the layout
-abbrev laid_in : Shape → parts.Item → List Naming
+abbrev laid_in : Shape → parts.SampleItem → List Naming
 laid_in s x = named_in (laid_content s x)
 
 -- a directory names what its entries name
@@ -176,10 +151,10 @@ module _ (s : Shape) (few : length s.names ≤ 4000) where
 
   -- the names in the items of object o
   abbrev object_names : ℕ → List Naming
-  object_names o = flat_map (laid_in s) (laid.items_of s o)
+  object_names o = flat_map (laid_in s) (laid.items_of_name s o)
 
   root_named : object_names 0 ≡ root_row number
-  unfolding laid.items_of body_bytes
+  unfolding laid.items_of_name body_bytes
   root_named =
       let es : List EntryValue = root_entries number in
       let row : List EntryValue = map directory_entry (range_with_len 0 dirs) in
@@ -200,7 +175,7 @@ module _ (s : Shape) (few : length s.names ≤ 4000) where
       ∙ ap (map (naming_by 0 (directory_key k))) (filter_all is_listed row (each_row (λ e. is_listed e ≡ true) (file_entry number) (100 * k) n (λ i low high. no_dots (entry_offset (file_name i)) (offset_high (file_name i)))))
       ∙ map_map (file_entry number) (naming_by 0 (directory_key k)) (range_with_len (100 * k) n)
 
-  content_names : (i : ℕ) (c : Content) → Each (λ x. laid_in s x ≡ []) (items_of_content s i c)
+  content_names : (i : ℕ) (c : SampleEntry) → Each (λ x. laid_in s x ≡ []) (items_of_content s i c)
   unfolding items_of_content
   content_names i Name = tt
   content_names i Symlink = (refl, (refl, tt))
@@ -243,11 +218,11 @@ module _ (s : Shape) (few : length s.names ≤ 4000) where
       ap (λ n. are_entries n (entries_bytes es)) (sym long) ∙ entries_formed es (names_plain number k few lt) (omega (arith, long)) (omega arith)
 
 -- the names that are found
-pub found_names : (s : Shape) (found : List Item) → length s.names ≤ 4000 → map content found ≡ map (laid_content s) (items s) → map bare (namings found) ≡ laid_namings (length s.names)
+pub found_names : (s : Shape) (found : List ReiserItem) → length s.names ≤ 4000 → map content found ≡ map (laid_content s) (items s) → map bare (namings found) ≡ laid_namings (length s.names)
 unfolding items
 found_names s found few are =
     bare_namings found
     ∙ ap (flat_map named_in) are
     ∙ flat_map-map named_in (laid_content s) (items s)
-    ∙ flat_flat (laid.items_of s) (laid_in s) (range_with_len 0 (object_count (length s.names)))
+    ∙ flat_flat (laid.items_of_name s) (laid_in s) (range_with_len 0 (object_count (length s.names)))
     ∙ all_named s few

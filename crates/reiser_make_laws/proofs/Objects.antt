@@ -1,36 +1,9 @@
 -- The objects of a sample are in order.
-use Rattle.std.proofs.Common.{◌≡◌, ◌≢◌, ◌⊎◌, inl, inr, ℕ, ◌+◌, ◌-◌, ◌*◌, ◌/◌, ◌%◌, ◌^◌, ◌≤◌, ◌<◌, Bool, true, false, cond, ◌&&◌, ◌==◌, List, [], ◌∷◌, ◌++◌, length, map, get_or, refl, ◌∙◌, ap, arith, Some, ne_eqb}
-use Rattle.std.specs.Prelude.{nat_lt, nat_le}
-use Rattle.std.specs.Int.{div_ceil}
-use Rattle.std.specs.List.{list_any}
-use Rattle.std.proofs.lemmas.Bool.{cond_both}
-use Rattle.std.proofs.lemmas.Bool.Decides.{nat_tests}
-use Rattle.std.proofs.lemmas.List.Folds.{list_any_none}
-use Rattle.reiser_volume.specs.fs_rows.declared.row.Kind.{Kind}
-use Rattle.reiser_volume.specs.fs_rows.declared.row.Kind.TheVariants as kinds
-use Rattle.reiser_volume.specs.reiser_node.declared.head.ItemHead.{ItemHead}
-use Rattle.reiser_volume.specs.reiser_node.declared.head.ItemKind.TheVariants.{Indirect, Direct, Directory}
-use Rattle.reiser_volume.specs.reiser_items.declared.stat.StatData.{StatData}
-use Rattle.reiser_make.specs.Content.{IsSmallContent, is_further_name, is_symlink}
-use Rattle.reiser_make.specs.Items.{items, items_of_content, directory_items, item, stat_item, pointer_items, byte_items, attributes, base_time, no_direct_byte, file_units, first_direct_of, body_bytes}
-use Rattle.reiser_make.specs.Shape.{Shape, shape, directory_count, names_in, object_count, root_id, directory_id, file_id, name_count, stored_of}
-use Rattle.reiser_make.specs.declared.content.Content.{Content}
-use Rattle.reiser_make.specs.declared.content.Content.TheVariants.{Name, Symlink, File}
-use Rattle.reiser_make.specs.declared.item.Body.{Body}
-use Rattle.reiser_make.specs.declared.item.Body.TheVariants.{Root, Names, Pointers, Bytes, Target}
-use Rattle.reiser_make.specs.declared.item.Item as parts
-use Rattle.reiser_make.specs.declared.item.Owner.TheVariants.{System, User}
-use Rattle.reiser_make.specs.declared.object.ObjectId.{ObjectId}
+use Rattle.reiser_make_laws.proofs.Imports.{◌≡◌, ◌≢◌, ◌⊎◌, inl, inr, ℕ, ◌+◌, ◌-◌, ◌*◌, ◌/◌, ◌%◌, ◌^◌, ◌≤◌, ◌<◌, Bool, true, false, cond, ◌&&◌, ◌==◌, List, [], ◌∷◌, ◌++◌, length, map, get_or, refl, ◌∙◌, ap, arith, Some, ne_eqb, nat_lt, nat_le, div_ceil, list_any, cond_both, nat_tests, list_any_none, DIRECTORY_MODE, Kind, ItemHead, Indirect, Direct, Directory, StatData, IsSmallContent, is_further_name, is_symlink, items, items_of_content, directory_items, item, stat_item, pointer_items, byte_items, attributes, base_time, no_direct_byte, file_units, first_direct_of, body_bytes, Shape, shape, directory_count, names_in, object_count, root_id, directory_id, file_id, name_count, stored_of, SampleEntry, Name, Symlink, File, Body, Root, Names, Pointers, Bytes, Target, System, User, ObjectId, ReiserItem, Each, Pairs, all_from_each, ObjectKey, ObjectStat, stat_of_object, root, items_of, kind_of_mode, fits_size, may_have, IsObject, IsDirectory, content, laid_content}
 use Rattle.reiser_volume.specs.reiser_walk.Bodies.{is_save_link}
-use Rattle.reiser_volume.specs.reiser_walk.Items.{Item}
-use Rattle.reiser_volume.proofs.reiser_walk.Lists.{Each, Pairs, all_from_each}
-use Rattle.reiser_volume.specs.reiser_volume_objects.declared.key.ObjectKey.{ObjectKey}
-use Rattle.reiser_volume.specs.reiser_volume_objects.declared.stat.ObjectStat.{ObjectStat}
-use Rattle.reiser_volume.specs.reiser_volume_objects.Items.{stat_of_object}
-use Rattle.reiser_volume.specs.reiser_volume_objects.Keys.{root, items_of}
-use Rattle.reiser_volume.specs.reiser_volume_objects.Kinds.{kind_of_mode, fits_size, may_have}
-use Rattle.reiser_volume.specs.reiser_volume_objects.Rules.{IsObject, IsDirectory}
 use Rattle.reiser_volume.proofs.reiser_volume_objects.Broken.{some_same}
+use Rattle.reiser_volume.specs.fs_rows.declared.row.Kind.TheVariants as kinds
+use Rattle.reiser_make.specs.declared.sample_item.SampleItem as parts
 use Rattle.reiser_make_laws.proofs.Ascending.{IsOf, dir_of, object_is, each_to, each_join, either_each}
 use Rattle.reiser_make_laws.proofs.Attributes.{read_back, HasStatRoom}
 use Rattle.reiser_make_laws.proofs.Found.{HasStatOf, first_found, fits_found, IsClear, apart_found, each_found}
@@ -38,34 +11,33 @@ use Rattle.reiser_make_laws.proofs.Lists.{each_rows}
 use Rattle.reiser_make_laws.proofs.Parts.{directory_key, file_key, file_items, of_root, of_directory, of_file}
 use Rattle.reiser_make_laws.proofs.Small.{AreSmall, small_at, contents_small, length_contents, IsOwn, contents_own, contents_links}
 use Rattle.reiser_make_laws.proofs.Writable.{pointers_body}
-use Rattle.reiser_make_laws.specs.Walk.{content, laid_content}
 
 -- an object in order, with this stat data and kind
-pub record IsSampleObject (s : Shape) (found : List Item) (key : ObjectKey) (kind : Kind) (stat : StatData) : Type 0 where
+pub record IsSampleObject (s : Shape) (found : List ReiserItem) (key : ObjectKey) (kind : Kind) (stat : StatData) : Type 0 where
   pub stat_is : HasStatOf s.old stat (items_of key found)
   pub known : kind_of_mode stat.mode ≡ Some kind
   pub object : IsObject found key
 
 -- what it reads as
-pub object_fields : (s : Shape) (found : List Item) (key : ObjectKey) (kind : Kind) (stat : StatData) (other : ObjectStat) → IsSampleObject s found key kind stat → stat_of_object found key ≡ Some other
+pub object_fields : (s : Shape) (found : List ReiserItem) (key : ObjectKey) (kind : Kind) (stat : StatData) (other : ObjectStat) → IsSampleObject s found key kind stat → stat_of_object found key ≡ Some other
     → other.fields ≡ read_back s.old stat
 object_fields s found key kind stat other is has = ap (λ (o : ObjectStat). o.fields) (some_same (stat_of_object found key) other _ has is.stat_is.has)
 
-pub directory_of : (s : Shape) (found : List Item) (key : ObjectKey) (stat : StatData) → IsSampleObject s found key kinds.Directory stat → IsDirectory found key
+pub directory_of : (s : Shape) (found : List ReiserItem) (key : ObjectKey) (stat : StatData) → IsSampleObject s found key kinds.Directory stat → IsDirectory found key
 directory_of s found key stat is = record { stat = record { leaf = is.stat_is.leaf; old_form = s.old; fields = read_back s.old stat }; has_stat = is.stat_is.has; known = is.known }
 
 -- there is one kind
-pub same_kind : (s : Shape) (found : List Item) (key : ObjectKey) (kind other : Kind) (stat : StatData) (own : ObjectStat) → IsSampleObject s found key kind stat → stat_of_object found key ≡ Some own
+pub same_kind : (s : Shape) (found : List ReiserItem) (key : ObjectKey) (kind other : Kind) (stat : StatData) (own : ObjectStat) → IsSampleObject s found key kind stat → stat_of_object found key ≡ Some own
     → kind_of_mode own.fields.mode ≡ Some other → kind ≡ other
 same_kind s found key kind other stat own is has known =
     some_same (kind_of_mode own.fields.mode) kind other (ap (λ (f : StatData). kind_of_mode f.mode) (object_fields s found key kind stat own is has) ∙ is.known) known
 
 -- a directory is known as one
-pub kind_one : (s : Shape) (found : List Item) (key : ObjectKey) (kind : Kind) (stat : StatData) → IsSampleObject s found key kind stat → IsDirectory found key → kind ≡ kinds.Directory
+pub kind_one : (s : Shape) (found : List ReiserItem) (key : ObjectKey) (kind : Kind) (stat : StatData) → IsSampleObject s found key kind stat → IsDirectory found key → kind ≡ kinds.Directory
 kind_one s found key kind stat is directory = same_kind s found key kind kinds.Directory stat directory.stat is directory.has_stat directory.known
 
 -- by what is laid out of an object
-object_by : (s : Shape) (found : List Item) (key : ObjectKey) (kind : Kind) (id : ObjectId) (stat : StatData) (rest : List parts.Item) → HasStatRoom stat → kind_of_mode stat.mode ≡ Some kind → fits_size kind stat.size ≡ true
+object_by : (s : Shape) (found : List ReiserItem) (key : ObjectKey) (kind : Kind) (id : ObjectId) (stat : StatData) (rest : List parts.SampleItem) → HasStatRoom stat → kind_of_mode stat.mode ≡ Some kind → fits_size kind stat.size ≡ true
     → map content (items_of key found) ≡ map (laid_content s) (stat_item s.old id stat ∷ rest)
     → Each (λ x. may_have kind x.head.kind ≡ true) rest → Pairs (λ x y. IsClear (laid_content s x) (laid_content s y)) (stat_item s.old id stat ∷ rest) → IsSampleObject s found key kind stat
 object_by s found key kind id stat rest room known size are fits clear =
@@ -86,7 +58,7 @@ object_by s found key kind id stat rest room known size are fits clear =
 
 -- the stat data of a directory of so many entries, the dots among them
 abbrev pub directory_stat : ℕ → ℕ → StatData
-directory_stat nlink count = attributes 0x41ED nlink (24 * count) System base_time (div_ceil (24 * count) 512) no_direct_byte
+directory_stat nlink count = attributes DIRECTORY_MODE nlink (24 * count) System base_time (div_ceil (24 * count) 512) no_direct_byte
 
 directory_room : (nlink count : ℕ) → nlink ≤ 102 → count ≤ 102 → HasStatRoom (directory_stat nlink count)
 directory_room nlink count low few = record {
@@ -104,7 +76,7 @@ directory_room nlink count low few = record {
   first_direct_byte = omega arith;
 }
 
-directory_object : (s : Shape) (found : List Item) (key : ObjectKey) (id : ObjectId) (nlink count : ℕ) (body : Body) → nlink ≤ 102 → count ≤ 102
+directory_object : (s : Shape) (found : List ReiserItem) (key : ObjectKey) (id : ObjectId) (nlink count : ℕ) (body : Body) → nlink ≤ 102 → count ≤ 102
     → map content (items_of key found) ≡ map (laid_content s) (directory_items s.old id nlink count body) → IsSampleObject s found key kinds.Directory (directory_stat nlink count)
 directory_object s found key id nlink count body low few are =
     object_by s found key kinds.Directory id (directory_stat nlink count) (item id 1 Directory true count (24 * count) body ∷ []) (directory_room nlink count low few) refl refl are
@@ -159,13 +131,13 @@ file_room number i whole rest sparse low blocks bytes =
     }
 
 -- stat data, and behind it each of two items or not
-pairs_of_file : (R : parts.Item → parts.Item → Type 0) (a b c : parts.Item) (w r : Bool) → R a b → R a c → R b c → Pairs R (a ∷ (cond w [] (b ∷ []) ++ cond r [] (c ∷ [])))
+pairs_of_file : (R : parts.SampleItem → parts.SampleItem → Type 0) (a b c : parts.SampleItem) (w r : Bool) → R a b → R a c → R b c → Pairs R (a ∷ (cond w [] (b ∷ []) ++ cond r [] (c ∷ [])))
 pairs_of_file R a b c true true ab ac bc = (tt, tt)
 pairs_of_file R a b c true false ab ac bc = ((ac, tt), (tt, tt))
 pairs_of_file R a b c false true ab ac bc = ((ab, tt), (tt, tt))
 pairs_of_file R a b c false false ab ac bc = ((ab, (ac, tt)), ((bc, tt), (tt, tt)))
 
-module _ (s : Shape) (found : List Item) (i : ℕ) (low : i ≤ 5000) (are : map content (items_of (file_key (length s.names) i) found) ≡ map (laid_content s) (file_items s i)) where
+module _ (s : Shape) (found : List ReiserItem) (i : ℕ) (low : i ≤ 5000) (are : map content (items_of (file_key (length s.names) i) found) ≡ map (laid_content s) (file_items s i)) where
   abbrev number : ℕ
   number = length s.names
 
@@ -185,8 +157,8 @@ module _ (s : Shape) (found : List Item) (i : ℕ) (low : i ≤ 5000) (are : map
   unfolding items_of_content
   file_object whole rest sparse is blocks bytes =
       let stat : StatData = file_stat number i whole rest sparse in
-      let p : parts.Item = item id 1 Indirect s.old 0 (4 * whole) (Pointers i) in
-      let b : parts.Item = item id (4096 * whole + 1) Direct s.old 0xFFFF rest (Bytes i) in
+      let p : parts.SampleItem = item id 1 Indirect s.old 0 (4 * whole) (Pointers i) in
+      let b : parts.SampleItem = item id (4096 * whole + 1) Direct s.old 0xFFFF rest (Bytes i) in
       let few : nat_le (4096 * whole + rest) (2 ^ 44) ≡ true = grind (arith, nat_tests, blocks, bytes) in
       let long : length (body_bytes s s.old (Pointers i)) ≡ 4 * whole = pointers_body s i s.old (File whole rest sparse) whole rest sparse is refl in
       let clear : IsClear (laid_content s p) (laid_content s b) = inr (omega (arith, long)) in
@@ -207,7 +179,7 @@ dir_low s o =
 abbrev NoSaveLink : ItemHead × List ℕ → Type 0
 NoSaveLink c = is_save_link c.0 ≡ false
 
-no_link : (s : Shape) (o : ℕ) (x : parts.Item) → o < 10000 → IsOf (dir_of s o) (2 + o) x → NoSaveLink (laid_content s x)
+no_link : (s : Shape) (o : ℕ) (x : parts.SampleItem) → o < 10000 → IsOf (dir_of s o) (2 + o) x → NoSaveLink (laid_content s x)
 no_link s o x few is = ne_eqb x.head.dir 0xFFFFFFFF (λ same. omega (arith, same, is.dir_is, dir_low s o, few))
 
 no_links : (s : Shape) → length s.names ≤ 4000 → Each (λ x. NoSaveLink (laid_content s x)) (items s)
@@ -233,18 +205,18 @@ shape_is number old few = record {
 }
 
 -- a named object in order, whose target is short if it is a symlink
-pub record IsNamedObject (s : Shape) (found : List Item) (key : ObjectKey) : Type 0 where
+pub record IsNamedObject (s : Shape) (found : List ReiserItem) (key : ObjectKey) : Type 0 where
   pub kind : Kind
   pub stat : StatData
   pub is : IsSampleObject s found key kind stat
   pub short : (stat.size ≤ 3900) ⊎ (kind ≢ kinds.Symlink)
 
 -- a file or a symlink
-pub record IsNoDirectory (s : Shape) (found : List Item) (key : ObjectKey) : Type 0 where
+pub record IsNoDirectory (s : Shape) (found : List ReiserItem) (key : ObjectKey) : Type 0 where
   pub object : IsNamedObject s found key
   pub no_directory : object.kind ≢ kinds.Directory
 
-module _ (s : Shape) (shaped : IsSampleShape s) (found : List Item) (are : map content found ≡ map (laid_content s) (items s)) where
+module _ (s : Shape) (shaped : IsSampleShape s) (found : List ReiserItem) (are : map content found ≡ map (laid_content s) (items s)) where
   pub no_save_link : list_any (λ i. is_save_link i.head) found ≡ false
   no_save_link =
       list_any_none (λ i. is_save_link i.head) found
@@ -258,7 +230,7 @@ module _ (s : Shape) (shaped : IsSampleShape s) (found : List Item) (are : map c
   pub names_object : (k : ℕ) → k < directory_count (length s.names) → IsSampleObject s found (directory_key k) kinds.Directory (directory_stat 2 (2 + names_in (length s.names) k))
   names_object k lt = directory_object s found (directory_key k) (directory_id k) 2 (2 + names_in (length s.names) k) (Names k) (omega arith) (omega arith) (of_directory s found are k lt)
 
-  own_object_by : (i : ℕ) (c : Content) → i < length s.names → get_or s.names i Name ≡ c → IsOwn c → IsSmallContent c → IsNoDirectory s found (file_key (length s.names) i)
+  own_object_by : (i : ℕ) (c : SampleEntry) → i < length s.names → get_or s.names i Name ≡ c → IsOwn c → IsSmallContent c → IsNoDirectory s found (file_key (length s.names) i)
   own_object_by i Name lt here own small = absurd own
   own_object_by i Symlink lt here own small = record {
     object = record {

@@ -1,20 +1,5 @@
 -- No two blocks of a sample go to one place, so each block has what the layout gives.
-use Rattle.std.proofs.Common.{◌≡◌, ◌≢◌, ℕ, zero, suc, ◌+◌, ◌-◌, ◌*◌, ◌≤◌, ◌<◌, List, [], ◌∷◌, ◌++◌, length, map, take, get_or, sym, ◌∙◌, ap, subst, arith, slice_index_or, append_assoc}
-use Rattle.std.specs.Prelude.{slice_set}
-use Rattle.std.specs.List.{range_with_len, flat_map, sum_by}
-use Rattle.std.proofs.Math.Seq.{take-length}
-use Rattle.std.proofs.lemmas.List.{get_or-set_same, take_more}
-use Rattle.std.proofs.lemmas.List.Sums.{sum_by-append}
-use Rattle.reiser_volume.specs.outside.History.{Image, block_at}
-use Rattle.reiser_make.specs.Inner.{needed, total, root_level, level_nodes, nodes_below}
-use Rattle.reiser_make.specs.Layout.{Placed, laid_over, volume_blocks, system_part, system_row, system_placed, data_part, data_of_name, data_of_content, data_placed, leaf_part, leaf_placed, inner_part, level_part, inner_placed, bitmap_part, bitmap_placed}
-use Rattle.reiser_make.specs.Leaf.{leaves}
-use Rattle.reiser_make.specs.Places.{place, bitmap_blocks}
-use Rattle.reiser_make.specs.Shape.{Shape, stored_before, stored_in, stored_blocks, stored_of}
-use Rattle.reiser_make.specs.declared.content.Content.{Content}
-use Rattle.reiser_make.specs.declared.content.Content.TheVariants.{Name, Symlink, File}
-use Rattle.reiser_make.proofs.Rising.{root_low}
-use Rattle.reiser_make_laws.specs.Laws.{SamplesHoldTheirBlocks}
+use Rattle.reiser_make_laws.proofs.Imports.{◌≡◌, ◌≢◌, ℕ, zero, suc, ◌+◌, ◌-◌, ◌*◌, ◌≤◌, ◌<◌, List, [], ◌∷◌, ◌++◌, length, map, take, get_or, sym, ◌∙◌, ap, subst, arith, slice_index_or, append_assoc, slice_set, range_with_len, flat_map, sum_by, take-length, get_or-set_same, take_more, sum_by-append, BITS_IN_BLOCK, Image, block_at, needed, total, root_level, level_nodes, nodes_below, Placed, laid_over, volume_blocks, system_part, system_row, system_placed, data_part, data_of_name, data_of_content, data_placed, leaf_part, leaf_placed, inner_part, level_part, inner_placed, bitmap_part, bitmap_placed, leaves, place, bitmap_blocks, Shape, stored_before, stored_in, stored_blocks, stored_of, SampleEntry, Name, Symlink, File, root_low, SamplesHoldTheirBlocks}
 use Rattle.reiser_make_laws.proofs.Blocks.{Away, away-append, away_row, later_keeps, length-set}
 
 -- the blocks of a list go to places of their own
@@ -86,7 +71,7 @@ pub place_behind : (b j : ℕ) → b < 8211 → b ≢ place j
 unfolding place
 place_behind b j low = λ same. omega (arith, low, same)
 
-pub place_no_map : (j k : ℕ) → place j ≢ 32768 * k
+pub place_no_map : (j k : ℕ) → place j ≢ BITS_IN_BLOCK * k
 unfolding place
 place_no_map j k = λ same. omega (arith, same)
 
@@ -112,18 +97,18 @@ climbs_no_map low high needed blocks (p ∷ ps) climbs = (
 )
 
 -- the data, name by name
-data_climbs : (s : Shape) (i : ℕ) (content : Content) → Climbs (stored_before s.names i) (stored_before s.names i + stored_blocks content) (data_of_content s i content)
+data_climbs : (s : Shape) (i : ℕ) (content : SampleEntry) → Climbs (stored_before s.names i) (stored_before s.names i + stored_blocks content) (data_of_content s i content)
 data_climbs s i Name = omega arith
 data_climbs s i Symlink = omega arith
 data_climbs s i (File whole rest sparse) =
     climbs_row (data_placed s i sparse) 0 (stored_of whole sparse) (stored_before s.names i)
     (λ k low high. ap (λ n. place (stored_before s.names i + n)) (let same : k ≡ k - 0 = omega arith in same))
 
-pub stored_next : (names : List Content) (i : ℕ) (d : Content) → i < length names → stored_before names i + stored_blocks (get_or names i d) ≡ stored_before names (i + 1)
+pub stored_next : (names : List SampleEntry) (i : ℕ) (d : SampleEntry) → i < length names → stored_before names i + stored_blocks (get_or names i d) ≡ stored_before names (i + 1)
 stored_next names i d lt =
     sym (ap (sum_by stored_blocks) (take_more names i d lt) ∙ sum_by-append stored_blocks (take i names) (get_or names i d ∷ []) ∙ omega arith)
 
-pub stored_end : (names : List Content) → stored_before names (0 + length names) ≡ stored_in names
+pub stored_end : (names : List SampleEntry) → stored_before names (0 + length names) ≡ stored_in names
 stored_end names = ap (sum_by stored_blocks) (ap (λ n. take n names) (let same : 0 + length names ≡ length names = omega arith in same) ∙ take-length names)
 
 data_all : (s : Shape) → Climbs 0 (stored_in s.names) (data_part s)

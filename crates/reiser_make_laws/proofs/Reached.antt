@@ -1,50 +1,36 @@
 -- The blocks that a walk of a sample reaches: used ones, none of the volume's own, and each once.
-use Rattle.std.proofs.Common.{◌≡◌, ◌≢◌, ◌⊎◌, inl, inr, ℕ, zero, suc, ◌+◌, ◌-◌, ◌≤◌, ◌<◌, Bool, List, [], ◌∷◌, ◌++◌, length, map, get_or, refl, sym, ◌∙◌, ap, subst, arith, append-nil, length-append}
-use Rattle.std.specs.Prelude.{nat_lt}
-use Rattle.std.specs.List.{range_with_len, flat_map}
-use Rattle.reiser_volume.specs.outside.History.{Image}
-use Rattle.reiser_make.specs.Inner.{total, node_place, leaf_at, level_nodes, nodes_below, nodes_above, root_level, first_child, end_child, child_count}
+use Rattle.reiser_make_laws.proofs.Imports.{◌≡◌, ◌≢◌, ◌⊎◌, inl, inr, ℕ, zero, suc, ◌+◌, ◌-◌, ◌≤◌, ◌<◌, Bool, List, [], ◌∷◌, ◌++◌, length, map, get_or, refl, sym, ◌∙◌, ap, subst, arith, append-nil, length-append, nat_lt, range_with_len, flat_map, Image, total, node_place, leaf_at, level_nodes, nodes_below, nodes_above, root_level, first_child, end_child, child_count, leaves, place, Shape, shape, stored_in, Event, pointer, item_events, held_by, reached_in, BlockPointer, reached_in-append, Each, Pairs, FitsSample, made, met_item, leaf_items, laid_events}
 use Rattle.reiser_make.specs.Items as laid
-use Rattle.reiser_make.specs.Leaf.{leaves}
-use Rattle.reiser_make.specs.Places.{place}
-use Rattle.reiser_make.specs.Shape.{Shape, shape, stored_in}
-use Rattle.reiser_make.specs.declared.item.Item as parts
-use Rattle.reiser_volume.specs.reiser_walk.Items.{Event, pointer, item_events, held_by}
-use Rattle.reiser_volume.specs.reiser_walk.Tree.{reached_in}
-use Rattle.reiser_volume.specs.reiser_walk.declared.pointer.Pointer.{Pointer}
-use Rattle.reiser_volume.proofs.reiser_walk.Events.{reached_in-append}
-use Rattle.reiser_volume.proofs.reiser_walk.Lists.{Each, Pairs}
+use Rattle.reiser_make.specs.declared.sample_item.SampleItem as parts
 use Rattle.reiser_make_laws.proofs.Ascending.{each_join, each_to, pairs_append}
 use Rattle.reiser_make_laws.proofs.Data.{item_blocks, list_blocks, Runs, runs_split, runs_end, flat_split, sample_runs}
 use Rattle.reiser_make_laws.proofs.Held.{many_nodes, HasChildren, has_children}
 use Rattle.reiser_make_laws.proofs.Items.{edge, edge_in, end_edge_by, one_leaf_by, joined, leaves_joined, map_split}
 use Rattle.reiser_make_laws.proofs.Places.{below_next}
-use Rattle.reiser_make_laws.specs.Laws.{Fits, made}
-use Rattle.reiser_make_laws.specs.Walk.{met, leaf_items, laid_events}
 
 -- how many blocks of data the first leaves name
-abbrev pub data_edge : Shape → List (List parts.Item) → ℕ → ℕ
+abbrev pub data_edge : Shape → List (List parts.SampleItem) → ℕ → ℕ
 data_edge s [] m = 0
 data_edge s (l ∷ ls) zero = 0
 data_edge s (l ∷ ls) (suc m) = length (list_blocks s l) + data_edge s ls m
 
-data_first : (s : Shape) (ls : List (List parts.Item)) → data_edge s ls 0 ≡ 0
+data_first : (s : Shape) (ls : List (List parts.SampleItem)) → data_edge s ls 0 ≡ 0
 data_first s [] = refl
 data_first s (l ∷ ls) = refl
 
-data_rises : (s : Shape) (ls : List (List parts.Item)) (m k : ℕ) → m ≤ k → data_edge s ls m ≤ data_edge s ls k
+data_rises : (s : Shape) (ls : List (List parts.SampleItem)) (m k : ℕ) → m ≤ k → data_edge s ls m ≤ data_edge s ls k
 data_rises s [] m k low = omega arith
 data_rises s (l ∷ ls) zero k low = omega arith
 data_rises s (l ∷ ls) (suc m) zero low = absurd (omega (arith, low))
 data_rises s (l ∷ ls) (suc m) (suc k) low = omega (arith, data_rises s ls m k (omega (arith, low)))
 
-data_most : (s : Shape) (ls : List (List parts.Item)) (m : ℕ) → data_edge s ls m ≤ length (list_blocks s (joined ls))
+data_most : (s : Shape) (ls : List (List parts.SampleItem)) (m : ℕ) → data_edge s ls m ≤ length (list_blocks s (joined ls))
 data_most s [] m = omega arith
 data_most s (l ∷ ls) zero = omega arith
 data_most s (l ∷ ls) (suc m) =
     omega (arith, data_most s ls m, ap length (flat_split (item_blocks s) l (joined ls)), length-append (list_blocks s l) (list_blocks s (joined ls)))
 
-leaf_runs : (s : Shape) (ls : List (List parts.Item)) (a b : ℕ) → Runs a b (list_blocks s (joined ls)) → (m : ℕ) → m < length ls
+leaf_runs : (s : Shape) (ls : List (List parts.SampleItem)) (a b : ℕ) → Runs a b (list_blocks s (joined ls)) → (m : ℕ) → m < length ls
     → Runs (a + data_edge s ls m) (a + data_edge s ls (suc m)) (list_blocks s (get_or ls m []))
 leaf_runs s [] a b runs m lt = absurd (omega (arith, lt))
 leaf_runs s (l ∷ ls) a b runs zero lt =
@@ -61,15 +47,15 @@ leaf_runs s (l ∷ ls) a b runs (suc m) lt =
     (subst (λ n. Runs (a + size + data_edge s ls m) n (list_blocks s (get_or ls m []))) end (leaf_runs s ls (a + size) b parted.1 m (omega (arith, lt))))
 
 -- the pointers to data that the items of a leaf hold
-reached_pointers : (ps : List Pointer) → reached_in (map pointer ps) ≡ ps
+reached_pointers : (ps : List BlockPointer) → reached_in (map pointer ps) ≡ ps
 reached_pointers [] = refl
 reached_pointers (p ∷ ps) = ap (λ z. p ∷ z) (reached_pointers ps)
 
-held : (s : Shape) (leaf : ℕ) (xs : List parts.Item) → reached_in (flat_map item_events (map (met s leaf) xs)) ≡ held_by leaf (list_blocks s xs)
+held : (s : Shape) (leaf : ℕ) (xs : List parts.SampleItem) → reached_in (flat_map item_events (map (met_item s leaf) xs)) ≡ held_by leaf (list_blocks s xs)
 held s leaf [] = refl
 held s leaf (x ∷ xs) =
-    reached_in-append (item_events (met s leaf x)) (flat_map item_events (map (met s leaf) xs))
-    ∙ ap (λ z. z ++ reached_in (flat_map item_events (map (met s leaf) xs))) (reached_pointers (held_by leaf (item_blocks s x)))
+    reached_in-append (item_events (met_item s leaf x)) (flat_map item_events (map (met_item s leaf) xs))
+    ∙ ap (λ z. z ++ reached_in (flat_map item_events (map (met_item s leaf) xs))) (reached_pointers (held_by leaf (item_blocks s x)))
     ∙ ap (λ z. held_by leaf (item_blocks s x) ++ z) (held s leaf xs)
     ∙ sym (map_split (λ b. record { block = b; holder = leaf }) (item_blocks s x) (list_blocks s xs))
 
@@ -77,11 +63,11 @@ place_same : (i j : ℕ) → place i ≡ place j → i ≡ j
 unfolding place
 place_same i j same = omega (arith, same)
 
-abbrev pub Differs : Pointer → Pointer → Type 0
+abbrev pub Differs : BlockPointer → BlockPointer → Type 0
 Differs p q = p.block ≢ q.block
 
 -- a pointer to the place of a number between two
-pub record IsDatum (a b : ℕ) (p : Pointer) : Type 0 where
+pub record IsDatum (a b : ℕ) (p : BlockPointer) : Type 0 where
   pub at : ℕ
   pub low : a ≤ at
   pub high : at < b
@@ -119,7 +105,7 @@ runs_zero a b bs runs =
     let to : 0 + b ≡ b = omega arith in
     subst (λ n. Runs n b bs) from (subst (λ n. Runs (0 + a) n bs) to runs)
 
-module _ (number : ℕ) (old : Bool) (blocks : ℕ) (image : Image) (fits : Fits number old blocks image) where
+module _ (number : ℕ) (old : Bool) (blocks : ℕ) (image : Image) (fits : FitsSample number old blocks image) where
   abbrev pub s : Shape
   s = shape number old
 
@@ -143,11 +129,11 @@ module _ (number : ℕ) (old : Bool) (blocks : ℕ) (image : Image) (fits : Fits
   D_most m = omega (arith, data_most s (leaves s) m, runs_end 0 stored (list_blocks s (joined (leaves s))) all_runs)
 
   -- A pointer below nodes of a level, from one edge to another: to a node whose first leaf lies there, or to data of such a leaf.
-  pub data Below (level a b : ℕ) (p : Pointer) : Type 0 where
+  pub data Below (level a b : ℕ) (p : BlockPointer) : Type 0 where
     to_node : (k i : ℕ) → 1 ≤ k → k ≤ level → i < level_nodes count k → a ≤ edge count k i → edge count k i < b → p.block ≡ node_place s k i → Below level a b p
     to_data : IsDatum (D a) (D b) p → Below level a b p
 
-  wider : (level more a b c d : ℕ) (p : Pointer) → level ≤ more → c ≤ a → b ≤ d → Below level a b p → Below more c d p
+  wider : (level more a b c d : ℕ) (p : BlockPointer) → level ≤ more → c ≤ a → b ≤ d → Below level a b p → Below more c d p
   wider level more a b c d p high low end (to_node k i some up lt from to is) = to_node k i some (omega (arith, up, high)) lt (omega (arith, low, from)) (omega (arith, to, end)) is
   wider level more a b c d p high low end (to_data x) =
       to_data (record { at = x.at; low = omega (arith, x.low, data_rises s (leaves s) c a low); high = omega (arith, x.high, data_rises s (leaves s) b d end); is = x.is })
@@ -163,7 +149,7 @@ module _ (number : ℕ) (old : Bool) (blocks : ℕ) (image : Image) (fits : Fits
       same_by k i l j low lower lt less at (grind arith)
 
   -- what lies below different nodes of a level differs
-  apart : (level a b c d : ℕ) (p q : Pointer) → b ≤ c → Below level a b p → Below level c d q → p.block ≢ q.block
+  apart : (level a b c d : ℕ) (p q : BlockPointer) → b ≤ c → Below level a b p → Below level c d q → p.block ≢ q.block
   apart level a b c d p q low (to_node k i some up lt from to is) (to_node l j any higher less begin end are) = λ same.
       let both = same_node k i l j some any lt less (sym is ∙ same ∙ are) in
       let edges : edge count k i ≡ edge count l j = ap (λ n. edge count n i) both.0 ∙ ap (edge count l) both.1 in
@@ -206,7 +192,7 @@ module _ (number : ℕ) (old : Bool) (blocks : ℕ) (image : Image) (fits : Fits
       })
 
   -- a node differs from all below it
-  node_apart : (level m a b : ℕ) (q : Pointer) → 1 ≤ level → Below level a b q → node_place s (suc level) m ≢ q.block
+  node_apart : (level m a b : ℕ) (q : BlockPointer) → 1 ≤ level → Below level a b q → node_place s (suc level) m ≢ q.block
   node_apart level m a b q some (to_node k i low up lt from to is) = λ same.
       omega (arith, place_same _ _ (same ∙ is), levels_apart count k (suc level) low (omega (arith, up)), lt)
   node_apart level m a b q some (to_data x) = λ same. omega (arith, place_same _ _ (same ∙ x.is), x.high, D_most b)
@@ -218,7 +204,7 @@ module _ (number : ℕ) (old : Bool) (blocks : ℕ) (image : Image) (fits : Fits
       let next : edge count 1 (m + 1) ≡ m + 1 = one_leaf_by count m (nat_lt (m + 1) count) refl lt in
       let runs : Runs (D m) (D (m + 1)) (list_blocks s (leaf_at s m)) =
       subst (λ n. Runs (D m) (D n) (list_blocks s (leaf_at s m))) (let up : suc m ≡ m + 1 = omega arith in up) (runs_zero (D m) (D (suc m)) (list_blocks s (leaf_at s m)) (leaf_runs s (leaves s) 0 stored all_runs m lt)) in
-      let ps : List Pointer = held_by block (list_blocks s (leaf_at s m)) in
+      let ps : List BlockPointer = held_by block (list_blocks s (leaf_at s m)) in
       let is : reached_in (flat_map item_events (leaf_items s m)) ≡ ps = held s block (leaf_at s m) in
       let each : Each (IsDatum (D m) (D (m + 1))) ps = data_each block (D m) (D (m + 1)) (list_blocks s (leaf_at s m)) runs in
       subst (λ (e : ℕ). Reaches 1 (edge count 1 m) e (laid_events s 1 m holder)) (sym next)
@@ -257,7 +243,7 @@ module _ (number : ℕ) (old : Bool) (blocks : ℕ) (image : Image) (fits : Fits
       end_edge_by count k m (nat_lt (m + 1) (nodes_above n)) refl (omega (arith, many)) ∙ ap (edge count (suc k)) (sym end) in
       let a : ℕ = edge count (suc k) first in
       let b : ℕ = edge count (suc k) (first + total_here) in
-      let ps : List Pointer = reached_in (flat_map F (range_with_len first total_here)) in
+      let ps : List BlockPointer = reached_in (flat_map F (range_with_len first total_here)) in
       subst (λ (e : ℕ). Reaches (suc (suc k)) (edge count (suc (suc k)) m) e (laid_events s (suc (suc k)) m holder)) (sym next)
       (subst (λ (e : ℕ). Reaches (suc (suc k)) e b (laid_events s (suc (suc k)) m holder)) (sym here)
       (record {
@@ -275,7 +261,7 @@ module _ (number : ℕ) (old : Bool) (blocks : ℕ) (image : Image) (fits : Fits
     pub is : b ≡ place at
     pub low : at < total s
 
-  pub placed : (p : Pointer) → Below (root_level count) 0 count p → IsPlaced p.block
+  pub placed : (p : BlockPointer) → Below (root_level count) 0 count p → IsPlaced p.block
   placed p (to_node k i some up lt from to is) =
       record { at = stored + nodes_below count k + i; is = is; low = omega (arith, lt, levels_apart count k (root_level count + 1) some (omega (arith, up))) }
   placed p (to_data x) = record { at = x.at; is = x.is; low = omega (arith, x.high, D_most count) }

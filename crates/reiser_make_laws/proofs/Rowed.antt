@@ -1,29 +1,7 @@
 -- The rows of a sample are those of its volume.
-use Rattle.std.proofs.Common.{◌≡◌, ℕ, ◌+◌, ◌-◌, ◌*◌, ◌/◌, ◌%◌, ◌<◌, Bool, true, false, cond, ◌&&◌, List, [], ◌∷◌, length, map, get_or, refl, sym, ◌∙◌, ap, subst, arith, eqb-true, ne_eqb, Contains}
-use Rattle.std.specs.Prelude.{nat_le}
-use Rattle.std.specs.Int.{div_ceil}
-use Rattle.std.specs.List.{range_with_len, flat_map}
-use Rattle.reiser_volume.specs.outside.History.{Image, block_at}
-use Rattle.reiser_volume.specs.fs_rows.Rows.{NameList, WholeRow}
+use Rattle.reiser_make_laws.proofs.Imports.{◌≡◌, ℕ, ◌+◌, ◌-◌, ◌*◌, ◌/◌, ◌%◌, ◌<◌, Bool, true, false, cond, ◌&&◌, List, [], ◌∷◌, length, map, get_or, refl, sym, ◌∙◌, ap, subst, arith, eqb-true, ne_eqb, Contains, nat_le, div_ceil, range_with_len, flat_map, DIRECTORY_MODE, Image, block_at, NameList, WholeRow, Contains-append_right, contents, is_further_name, is_symlink, IsSmallContent, items, base_time, file_units, first_direct_of, no_direct_byte, directory_name, place, directory_row, path_of, content_row, sample_rows, Shape, shape, directory_count, names_in, named_by, name_count, stored_before, stored_of, stored_block, sample_bytes, SampleEntry, Name, Symlink, File, System, User, ReiserItem, Each, ObjectKey, Naming, root, items_of, namings, IsRow, AreReiserRows, superblock, volume_items, made, content, laid_content}
+use Rattle.reiser_make_laws.specs.Rows.{SamplesHaveTheirRows, SamplesAreAsDescribed}
 use Rattle.reiser_volume.specs.fs_rows.declared.row.Kind.TheVariants as kinds
-use Rattle.std.proofs.lemmas.List.Elements.{Contains-append_right}
-use Rattle.reiser_make.specs.Content.{contents, is_further_name, is_symlink, IsSmallContent}
-use Rattle.reiser_make.specs.Items.{items, base_time, file_units, first_direct_of, no_direct_byte}
-use Rattle.reiser_make.specs.Names.{directory_name}
-use Rattle.reiser_make.specs.Places.{place}
-use Rattle.reiser_make.specs.Rows.{directory_row, path_of, content_row, sample_rows}
-use Rattle.reiser_make.specs.Shape.{Shape, shape, directory_count, names_in, named_by, name_count, stored_before, stored_of, stored_block, file_bytes}
-use Rattle.reiser_make.specs.declared.content.Content.{Content}
-use Rattle.reiser_make.specs.declared.content.Content.TheVariants.{Name, Symlink, File}
-use Rattle.reiser_make.specs.declared.item.Owner.TheVariants.{System, User}
-use Rattle.reiser_volume.specs.reiser_walk.Items.{Item}
-use Rattle.reiser_volume.proofs.reiser_walk.Lists.{Each}
-use Rattle.reiser_volume.specs.reiser_volume_objects.declared.key.ObjectKey.{ObjectKey}
-use Rattle.reiser_volume.specs.reiser_volume_objects.declared.naming.Naming.{Naming}
-use Rattle.reiser_volume.specs.reiser_volume_objects.Keys.{root, items_of}
-use Rattle.reiser_volume.specs.reiser_volume_objects.Names.{namings}
-use Rattle.reiser_volume.specs.Rows.{IsRow, AreReiserRows}
-use Rattle.reiser_volume.specs.Volume.{superblock, volume_items}
 use Rattle.reiser_make_laws.proofs.Accepted.{accepted, found_items}
 use Rattle.reiser_make_laws.proofs.Attributes.{read_back}
 use Rattle.reiser_make_laws.proofs.Climbing.{rows_ascend}
@@ -38,9 +16,6 @@ use Rattle.reiser_make_laws.proofs.Objects.{IsSampleShape, shape_is, directory_s
 use Rattle.reiser_make_laws.proofs.Parts.{directory_key, file_key, of_file}
 use Rattle.reiser_make_laws.proofs.Small.{IsOwn, length_contents, small_at}
 use Rattle.reiser_make_laws.proofs.Ways.{IsPath, at_root, at_directory, at_name, path_leads, leads_path, root_least, directory_least, name_least}
-use Rattle.reiser_make_laws.specs.Laws.{made}
-use Rattle.reiser_make_laws.specs.Rows.{SamplesHaveTheirRows, SamplesAreAsDescribed}
-use Rattle.reiser_make_laws.specs.Walk.{content, laid_content}
 
 -- a symlink has one name
 one_name : (number j : ℕ) → is_symlink j ≡ true → name_count number j ≡ 1
@@ -52,8 +27,8 @@ one_name number j is =
 own_first : (j : ℕ) → is_further_name j ≡ false → named_by j ≡ j
 own_first j own = ap (λ b. cond b (j - 1) j) own
 
-module _ (image : Image) (flags : ℕ) (s : Shape) (shaped : IsSampleShape s) (found : List Item) (are : map content found ≡ map (laid_content s) (items s))
-    (held : (i whole rest : ℕ) (sparse : Bool) → i < length s.names → get_or s.names i Name ≡ File whole rest sparse → (j : ℕ) → j < stored_of whole sparse → block_at image (place (stored_before s.names i + j)) ≡ file_bytes i sparse (4096 * stored_block sparse j) 4096) where
+module _ (image : Image) (flags : ℕ) (s : Shape) (shaped : IsSampleShape s) (found : List ReiserItem) (are : map content found ≡ map (laid_content s) (items s))
+    (held : (i whole rest : ℕ) (sparse : Bool) → i < length s.names → get_or s.names i Name ≡ File whole rest sparse → (j : ℕ) → j < stored_of whole sparse → block_at image (place (stored_before s.names i + j)) ≡ sample_bytes i sparse (4096 * stored_block sparse j) 4096) where
   abbrev number : ℕ
   number = length s.names
 
@@ -78,7 +53,7 @@ module _ (image : Image) (flags : ℕ) (s : Shape) (shaped : IsSampleShape s) (f
           leads = path_leads s shaped.few found are [] root (at_root refl refl);
           stat = stat_by o.stat_is.leaf s.old (read_back s.old (directory_stat (2 + dirs) (2 + dirs)));
           has_stat = o.stat_is.has;
-          fields = has_stat flags o.stat_is.leaf s.old 0x41ED (2 + dirs) size System base_time (div_ceil size 512) no_direct_byte [] kinds.Directory [] 0 [] refl refl (omega arith);
+          fields = has_stat flags o.stat_is.leaf s.old DIRECTORY_MODE (2 + dirs) size System base_time (div_ceil size 512) no_direct_byte [] kinds.Directory [] 0 [] refl refl (omega arith);
           least = root_least s shaped.few found are;
           names = refl;
           bytes = refl;
@@ -95,14 +70,14 @@ module _ (image : Image) (flags : ℕ) (s : Shape) (shaped : IsSampleShape s) (f
           leads = path_leads s shaped.few found are path (directory_key k) (at_directory k lt refl refl);
           stat = stat_by o.stat_is.leaf s.old (read_back s.old (directory_stat 2 (2 + names_in number k)));
           has_stat = o.stat_is.has;
-          fields = has_stat flags o.stat_is.leaf s.old 0x41ED 2 size System base_time (div_ceil size 512) no_direct_byte path kinds.Directory path 0 [] refl refl (omega arith);
+          fields = has_stat flags o.stat_is.leaf s.old DIRECTORY_MODE 2 size System base_time (div_ceil size 512) no_direct_byte path kinds.Directory path 0 [] refl refl (omega arith);
           least = directory_least s shaped.few found are k lt;
           names = refl;
           bytes = refl;
         },
       )
 
-  name_has_by : (i : ℕ) (c : Content) → i < number → get_or s.names (named_by i) Name ≡ c → IsOwn c → IsSmallContent c → HasRow (content_row number i (named_by i) c)
+  name_has_by : (i : ℕ) (c : SampleEntry) → i < number → get_or s.names (named_by i) Name ≡ c → IsOwn c → IsSmallContent c → HasRow (content_row number i (named_by i) c)
   name_has_by i Name lt here own small = absurd own
   name_has_by i Symlink lt here own small =
       let j : ℕ = named_by i in

@@ -1,15 +1,12 @@
 -- What the names of a sample stand for is small, and only a further name stands for no object of its own.
-use Rattle.std.proofs.Common.{◌≡◌, ℕ, zero, suc, ◌+◌, ◌<◌, Bool, true, false, cond, ◌==◌, List, [], ◌∷◌, length, get_or, refl, sym, subst, arith}
-use Rattle.reiser_make.specs.Content.{contents, contents_from, content_of, file_of, is_further_name, is_symlink, IsSmallContent, state_after}
+use Rattle.reiser_make_laws.proofs.Imports.{◌≡◌, ℕ, zero, suc, ◌+◌, ◌<◌, Bool, true, false, cond, ◌==◌, List, [], ◌∷◌, length, get_or, refl, sym, subst, arith, contents, contents_from, content_of, file_of, is_further_name, is_symlink, IsSmallContent, state_after, SampleEntry, Name, Symlink, File}
 use Rattle.reiser_make.specs.Draw.{drawn, next_state}
-use Rattle.reiser_make.specs.declared.content.Content.{Content}
-use Rattle.reiser_make.specs.declared.content.Content.TheVariants.{Name, Symlink, File}
 
-abbrev pub AreSmall : List Content → Type 0
+abbrev pub AreSmall : List SampleEntry → Type 0
 AreSmall [] = Unit {0}
 AreSmall (x ∷ xs) = IsSmallContent x × AreSmall xs
 
-either : (b : Bool) (x y : Content) → IsSmallContent x → IsSmallContent y → IsSmallContent (cond b x y)
+either : (b : Bool) (x y : SampleEntry) → IsSmallContent x → IsSmallContent y → IsSmallContent (cond b x y)
 either true x y first second = first
 either false x y first second = second
 
@@ -61,18 +58,18 @@ unfolding contents
 length_contents number = length_from number 0 number
 
 -- also past the end, where a name is taken for a further one
-pub small_at : (names : List Content) → AreSmall names → (i : ℕ) → IsSmallContent (get_or names i Name)
+pub small_at : (names : List SampleEntry) → AreSmall names → (i : ℕ) → IsSmallContent (get_or names i Name)
 small_at [] small i = tt
 small_at (x ∷ xs) small zero = small.0
 small_at (x ∷ xs) small (suc i) = small_at xs small.1 i
 
 -- an object of a name's own
-abbrev pub IsOwn : Content → Type 0
+abbrev pub IsOwn : SampleEntry → Type 0
 IsOwn Name = ⊥
 IsOwn Symlink = Unit {0}
 IsOwn (File whole rest sparse) = Unit {0}
 
-either_own : (b : Bool) (x y : Content) → IsOwn x → IsOwn y → IsOwn (cond b x y)
+either_own : (b : Bool) (x y : SampleEntry) → IsOwn x → IsOwn y → IsOwn (cond b x y)
 either_own true x y first second = first
 either_own false x y first second = second
 
@@ -99,19 +96,19 @@ contents_own number i lt first =
     own_from number 0 number i lt (subst (λ (k : ℕ). is_further_name k ≡ false) here first)
 
 -- a file has whole blocks and a rest
-abbrev IsFile : Content → Type 0
+abbrev IsFile : SampleEntry → Type 0
 IsFile Name = ⊥
 IsFile Symlink = ⊥
 IsFile (File whole rest sparse) = Unit {0}
 
-either_file : (b : Bool) (x y : Content) → IsFile x → IsFile y → IsFile (cond b x y)
+either_file : (b : Bool) (x y : SampleEntry) → IsFile x → IsFile y → IsFile (cond b x y)
 either_file true x y first second = first
 either_file false x y first second = second
 
 file_file : (class state : ℕ) → IsFile (file_of class state)
 file_file class state = either_file (class == 0) _ _ tt (either_file (class == 1) _ _ tt (either_file (class == 2) _ _ tt (either_file (class == 3) _ _ tt tt)))
 
-link_by : (further link : Bool) (c : Content) → IsFile c → cond further Name (cond link Symlink c) ≡ Symlink → link ≡ true
+link_by : (further link : Bool) (c : SampleEntry) → IsFile c → cond further Name (cond link Symlink c) ≡ Symlink → link ≡ true
 link_by true link c file is = absurd cc
 link_by false true c file is = refl
 link_by false false c file is = absurd (subst IsFile is file)

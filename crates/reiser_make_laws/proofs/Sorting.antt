@@ -1,13 +1,5 @@
 -- Names and paths of a sample ascend with their numbers.
-use Rattle.std.proofs.Common.{◌≡◌, ◌⊎◌, inl, inr, ℕ, ◌+◌, ◌/◌, ◌%◌, ◌≤◌, ◌<◌, List, [], ◌∷◌, refl, ◌∙◌, ap, arith}
-use Rattle.std.specs.declared.cmp.Ordering.{Ordering}
-use Rattle.std.specs.declared.cmp.Ordering.TheVariants.{Less, Equal}
-use Rattle.std.specs.Ordering.{nat_cmp, ordering_then}
-use Rattle.std.specs.Cmp.Lexicographic.{slice_cmp}
-use Rattle.std.proofs.lemmas.Bool.{cases_lt}
-use Rattle.reiser_volume.specs.fs_rows.Rows.{NameList, path_cmp}
-use Rattle.reiser_make.specs.Names.{decimal, directory_name, file_name}
-use Rattle.reiser_make.specs.Rows.{path_of}
+use Rattle.reiser_make_laws.proofs.Imports.{◌≡◌, ◌⊎◌, inl, inr, ℕ, ◌+◌, ◌/◌, ◌%◌, ◌≤◌, ◌<◌, List, [], ◌∷◌, refl, ◌∙◌, ap, arith, Ordering, Less, Equal, nat_cmp, ordering_then, slice_cmp, cases_lt, NameList, path_cmp, decimal, directory_name, file_name, path_of}
 use Rattle.reiser_make_laws.proofs.Ascending.{cmp_less, cmp_same}
 
 abbrev name_cmp : List ℕ → List ℕ → Ordering

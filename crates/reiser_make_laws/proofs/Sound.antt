@@ -1,24 +1,6 @@
 -- A sample keeps the rules of trees.
-use Rattle.std.proofs.Common.{◌≡◌, ◌≢◌, ◌⊎◌, inl, inr, ℕ, ◌+◌, ◌/◌, ◌≤◌, ◌<◌, Bool, true, false, ◌&&◌, ◌||◌, ◌==◌, List, length, refl, sym, ◌∙◌, ap, subst, arith, All, ne_eqb}
-use Rattle.std.specs.Prelude.{nat_le, AllPairs}
-use Rattle.std.proofs.lemmas.Bool.Decides.{nat_tests}
-use Rattle.std.proofs.lemmas.List.FromFn.{length-map-range_with_len}
-use Rattle.reiser_volume.specs.outside.History.{Image, block_at}
-use Rattle.reiser_volume.specs.reiser_bitmap.Bits.{has}
-use Rattle.reiser_volume.specs.reiser_bitmap.Layout.{bitmap_block, is_marked}
-use Rattle.reiser_volume.specs.reiser_bitmap.System.{is_system, is_bitmap_block}
-use Rattle.reiser_make.specs.Inner.{needed, total, root_level, level_nodes}
-use Rattle.reiser_make.specs.Leaf.{leaves}
-use Rattle.reiser_make.specs.Places.{place}
-use Rattle.reiser_make.specs.Shape.{Shape, shape}
-use Rattle.reiser_make.proofs.Placed.{place_below}
-use Rattle.reiser_make.proofs.Rising.{root_low}
-use Rattle.reiser_volume.specs.reiser_walk.Items.{Event}
-use Rattle.reiser_volume.specs.reiser_walk.Tree.{reached_in}
-use Rattle.reiser_volume.specs.reiser_walk.declared.pointer.Pointer.{Pointer}
-use Rattle.reiser_volume.proofs.reiser_walk.Lists.{all_from_each, all_pairs_from_pairs}
+use Rattle.reiser_make_laws.proofs.Imports.{◌≡◌, ◌≢◌, ◌⊎◌, inl, inr, ℕ, ◌+◌, ◌/◌, ◌≤◌, ◌<◌, Bool, true, false, ◌&&◌, ◌||◌, ◌==◌, List, length, refl, sym, ◌∙◌, ap, subst, arith, All, ne_eqb, nat_le, AllPairs, nat_tests, length-map-range_with_len, BITS_IN_BLOCK, SUPER_BLOCK, Image, block_at, has, bitmap_block, is_marked, is_system, is_bitmap_block, needed, total, root_level, level_nodes, leaves, place, Shape, shape, place_below, root_low, Event, reached_in, BlockPointer, all_from_each, all_pairs_from_pairs, superblock, used_of, reiser_tree_of, FitsSample, made, laid_events, SamplesKeepTreeRules, SampleTreesAreSound}
 use Rattle.reiser_volume.proofs.reiser_walk.Rules.{sound_exactly}
-use Rattle.reiser_volume.specs.Volume.{superblock, used_of, tree_of}
 use Rattle.reiser_make_laws.proofs.Ascending.{ascend, each_to}
 use Rattle.reiser_make_laws.proofs.Cleanness.{HasFields, super_made}
 use Rattle.reiser_make_laws.proofs.Items.{edge, edge_in, edge_out, first_leaf_zero, one_root}
@@ -28,8 +10,6 @@ use Rattle.reiser_make_laws.proofs.Places.{place_no_map}
 use Rattle.reiser_make_laws.proofs.Reached.{Reaches, Below, IsPlaced, placed, level_reaches}
 use Rattle.reiser_make_laws.proofs.Small.{length_contents}
 use Rattle.reiser_make_laws.proofs.Walked.{samples_walked}
-use Rattle.reiser_make_laws.specs.Laws.{Fits, made}
-use Rattle.reiser_make_laws.specs.Walk.{laid_events, SamplesKeepTreeRules, SampleTreesAreSound}
 
 none_of : (a b c d : Bool) → a ≡ false → b ≡ false → d ≡ false → (a || (b || (c && d))) ≡ false
 none_of true b c d is-a is-b is-d = cc
@@ -52,10 +32,10 @@ own_none j =
     let high : 8211 ≤ b = place_high j in
     none_of (b == 16) (is_bitmap_block b) (nat_le 18 b) (nat_le b 8210)
     (ne_eqb b 16 (λ is. omega (arith, is, high)))
-    (ne_eqb b (bitmap_block (b / 32768)) (no_map_by j (b / 32768) (grind arith)))
+    (ne_eqb b (bitmap_block (b / BITS_IN_BLOCK)) (no_map_by j (b / BITS_IN_BLOCK) (grind arith)))
     (grind (arith, nat_tests, high))
 
-module _ (number : ℕ) (old : Bool) (blocks : ℕ) (image : Image) (fits : Fits number old blocks image) where
+module _ (number : ℕ) (old : Bool) (blocks : ℕ) (image : Image) (fits : FitsSample number old blocks image) where
   abbrev s : Shape
   s = shape number old
 
@@ -82,7 +62,7 @@ module _ (number : ℕ) (old : Bool) (blocks : ℕ) (image : Image) (fits : Fits
   abbrev events : List Event
   events = laid_events s root 0 16
 
-  has_super : HasFields s blocks (block_at volume 16)
+  has_super : HasFields s blocks (block_at volume SUPER_BLOCK)
   has_super = super_made number old blocks image fits
 
   size : length (used_of volume) ≡ blocks
@@ -91,10 +71,10 @@ module _ (number : ℕ) (old : Bool) (blocks : ℕ) (image : Image) (fits : Fits
   below_needed : (b : ℕ) → IsPlaced number old blocks image fits b → b < needed s
   below_needed b is = let low : place is.at < needed s = place_below is.at (total s) is.low in omega (arith, is.is, low)
 
-  inside : (p : Pointer) → Below number old blocks image fits root 0 count p → p.block < length (used_of volume)
+  inside : (p : BlockPointer) → Below number old blocks image fits root 0 count p → p.block < length (used_of volume)
   inside p below = omega (arith, below_needed p.block (placed number old blocks image fits p below), fits.needed_low, size)
 
-  used : (p : Pointer) → Below number old blocks image fits root 0 count p → has (used_of volume) p.block ≡ true
+  used : (p : BlockPointer) → Below number old blocks image fits root 0 count p → has (used_of volume) p.block ≡ true
   used p below =
       let low : p.block < needed s = below_needed p.block (placed number old blocks image fits p below) in
       marks_used number old blocks image fits p.block (omega (arith, low, fits.needed_low)) ∙ taken_low (needed s) p.block low
@@ -102,7 +82,7 @@ module _ (number : ℕ) (old : Bool) (blocks : ℕ) (image : Image) (fits : Fits
   abbrev IsNone : ℕ → ℕ → ℕ → Type 0
   IsNone first length_of b = is_system first length_of b ≡ false
 
-  no_own : (p : Pointer) → Below number old blocks image fits root 0 count p → is_system (superblock volume).journal_first (superblock volume).journal_size p.block ≡ false
+  no_own : (p : BlockPointer) → Below number old blocks image fits root 0 count p → is_system (superblock volume).journal_first (superblock volume).journal_size p.block ≡ false
   no_own p below =
       let is : IsPlaced number old blocks image fits p.block = placed number old blocks image fits p below in
       subst (λ (n : ℕ). IsNone n (superblock volume).journal_size p.block) (sym has_super.fixed_ones.first)
@@ -128,4 +108,4 @@ tree_kept number old blocks image fits =
 pub trees_sound : SampleTreesAreSound
 trees_sound number old blocks image fits =
     let volume : Image = made (shape number old) blocks image in
-    (sound_exactly (tree_of (superblock volume)) volume (used_of volume)).1 (tree_kept number old blocks image fits)
+    (sound_exactly (reiser_tree_of (superblock volume)) volume (used_of volume)).1 (tree_kept number old blocks image fits)

@@ -1,48 +1,26 @@
 -- A walk of a sample meets the nodes of its layout.
-use Rattle.std.proofs.Common.{◌≡◌, ℕ, zero, suc, ◌+◌, ◌-◌, ◌≤◌, ◌<◌, Bool, true, false, cond, ◌&&◌, List, [], ◌∷◌, ◌++◌, length, map, drop, get_or, refl, sym, ◌∙◌, ap, subst, arith, Some}
-use Rattle.std.specs.Prelude.{nat_lt}
-use Rattle.std.specs.List.{range_with_len, flat_map}
-use Rattle.std.proofs.Math.Seq.{drop-cons, drop-length}
-use Rattle.std.proofs.lemmas.Bool.Decides.{nat_tests}
-use Rattle.std.proofs.lemmas.List.FromFn.{get_or-map-range_with_len, length-map-range_with_len}
-use Rattle.reiser_volume.specs.outside.History.{Image, block_at}
-use Rattle.reiser_volume.specs.reiser_bitmap.Layout.{is_marked}
-use Rattle.reiser_make.specs.Inner.{needed, node_place, leaf_at, level_nodes, root_level, first_child, child_count, child, children}
-use Rattle.reiser_make.specs.Leaf.{leaves}
-use Rattle.reiser_make.specs.Shape.{Shape, shape}
-use Rattle.reiser_make.specs.declared.inner.Child.{Child}
-use Rattle.reiser_make.specs.declared.item.Item as parts
-use Rattle.reiser_make.proofs.Placed.{node_below}
-use Rattle.reiser_make.proofs.Rising.{root_low, nodes_some}
-use Rattle.reiser_make.proofs.Counting.{leaves_some}
-use Rattle.reiser_volume.specs.reiser_node.Inner.{is_inner, child_at}
-use Rattle.reiser_volume.specs.reiser_node.Leaf.{count, is_leaf}
+use Rattle.reiser_make_laws.proofs.Imports.{◌≡◌, ℕ, zero, suc, ◌+◌, ◌-◌, ◌≤◌, ◌<◌, Bool, true, false, cond, ◌&&◌, List, [], ◌∷◌, ◌++◌, length, map, drop, get_or, refl, sym, ◌∙◌, ap, subst, arith, Some, nat_lt, range_with_len, flat_map, drop-cons, drop-length, nat_tests, get_or-map-range_with_len, length-map-range_with_len, SUPER_BLOCK, Image, block_at, is_marked, needed, node_place, leaf_at, level_nodes, root_level, first_child, child_count, child, children, leaves, Shape, shape, DiskChild, node_below, root_low, nodes_some, leaves_some, is_inner, child_block_at, count, is_leaf, Event, node, item_events, item_at, item_of, events_of, leaf_events, node_events, at_children, tree_events, superblock, used_of, reiser_tree_of, FitsSample, made, ReadsAs, NamesChildren, met_item, leaf_items, laid_events, SamplesAreWalked}
 use Rattle.reiser_volume.proofs.reiser_node.Grammar.{leaf_decides, inner_decides}
-use Rattle.reiser_volume.specs.reiser_walk.Items.{Event, node, item_events, item_at, item_of, events_of, leaf_events}
-use Rattle.reiser_volume.specs.reiser_walk.Tree.{node_events, at_children, tree_events}
-use Rattle.reiser_volume.specs.Volume.{superblock, used_of, tree_of}
+use Rattle.reiser_make.specs.declared.sample_item.SampleItem as parts
 use Rattle.reiser_make_laws.proofs.Cleanness.{HasFields, super_made}
 use Rattle.reiser_make_laws.proofs.Held.{leaf_held, inner_held, many_nodes, HasChildren, has_children}
-use Rattle.reiser_make_laws.specs.Laws.{Fits, made}
-use Rattle.reiser_make_laws.specs.Nodes.{ReadsAs, NamesChildren}
-use Rattle.reiser_make_laws.specs.Walk.{met, leaf_items, laid_events, SamplesAreWalked}
 
 -- the items of a leaf from item i on
-leaf_walk : (s : Shape) (b : ℕ) (bytes : List ℕ) (items : List parts.Item) (d : parts.Item) → ReadsAs s items bytes → (i k : ℕ) → i + k ≡ length items
-    → leaf_events b bytes i k ≡ flat_map item_events (map (met s b) (drop i items))
+leaf_walk : (s : Shape) (b : ℕ) (bytes : List ℕ) (items : List parts.SampleItem) (d : parts.SampleItem) → ReadsAs s items bytes → (i k : ℕ) → i + k ≡ length items
+    → leaf_events b bytes i k ≡ flat_map item_events (map (met_item s b) (drop i items))
 leaf_walk s b bytes items d reads i zero whole =
     let done : drop i items ≡ [] = ap (λ n. drop n items) (let same : i ≡ length items = omega (arith, whole) in same) ∙ drop-length items in
-    sym (ap (λ z. flat_map item_events (map (met s b) z)) done)
+    sym (ap (λ z. flat_map item_events (map (met_item s b) z)) done)
 leaf_walk s b bytes items d reads i (suc k) whole =
     let lt : i < length items = omega (arith, whole) in
-    let own : parts.Item = get_or items i d in
-    let item : item_at b bytes i ≡ Some (met s b own) =
+    let own : parts.SampleItem = get_or items i d in
+    let item : item_at b bytes i ≡ Some (met_item s b own) =
     ap (item_of b bytes i) (reads.heads i d lt) ∙ ap (λ body. Some (record { leaf = b; head = own.head; body = body })) (reads.bodies i d lt) in
     ap (λ o. events_of o ++ leaf_events b bytes (suc i) k) item
-    ∙ ap (λ z. item_events (met s b own) ++ z) (leaf_walk s b bytes items d reads (suc i) k (omega (arith, whole)))
-    ∙ sym (ap (λ z. flat_map item_events (map (met s b) z)) (drop-cons items i d lt))
+    ∙ ap (λ z. item_events (met_item s b own) ++ z) (leaf_walk s b bytes items d reads (suc i) k (omega (arith, whole)))
+    ∙ sym (ap (λ z. flat_map item_events (map (met_item s b) z)) (drop-cons items i d lt))
 
-leaf_walk_whole : (s : Shape) (b : ℕ) (bytes : List ℕ) (items : List parts.Item) → ReadsAs s items bytes → leaf_events b bytes 0 (count bytes) ≡ flat_map item_events (map (met s b) items)
+leaf_walk_whole : (s : Shape) (b : ℕ) (bytes : List ℕ) (items : List parts.SampleItem) → ReadsAs s items bytes → leaf_events b bytes 0 (count bytes) ≡ flat_map item_events (map (met_item s b) items)
 leaf_walk_whole s b bytes [] reads = ap (leaf_events b bytes 0) reads.count
 leaf_walk_whole s b bytes (x ∷ xs) reads =
     ap (leaf_events b bytes 0) reads.count ∙ leaf_walk s b bytes (x ∷ xs) x reads 0 (length (x ∷ xs)) (omega arith)
@@ -52,7 +30,7 @@ unfolding child
 child_block s level m = refl
 
 -- the children of a node from child i on
-children_walk : (f g : ℕ → List Event) (bytes : List ℕ) (first total : ℕ) → ((j : ℕ) → j < total → f (child_at bytes j) ≡ g (first + j)) → (i k : ℕ) → i + k ≡ total
+children_walk : (f g : ℕ → List Event) (bytes : List ℕ) (first total : ℕ) → ((j : ℕ) → j < total → f (child_block_at bytes j) ≡ g (first + j)) → (i k : ℕ) → i + k ≡ total
     → at_children f bytes i k ≡ flat_map g (range_with_len (first + i) k)
 children_walk f g bytes first total each i zero whole = refl
 children_walk f g bytes first total each i (suc k) whole =
@@ -65,7 +43,7 @@ opened true true x y first second = refl
 opened true false x y first second = cc
 opened false b x y first second = cc
 
-module _ (number : ℕ) (old : Bool) (blocks : ℕ) (image : Image) (fits : Fits number old blocks image) where
+module _ (number : ℕ) (old : Bool) (blocks : ℕ) (image : Image) (fits : FitsSample number old blocks image) where
   abbrev pub s : Shape
   s = shape number old
 
@@ -113,9 +91,9 @@ module _ (number : ℕ) (old : Bool) (blocks : ℕ) (image : Image) (fits : Fits
       let many : 1 < n = many_nodes leaf_count (suc k) (omega arith) (omega (arith, high)) in
       let has : HasChildren n m = has_children n m (omega (arith, many)) lt in
       let size : length (children s (suc k) m) ≡ total = length-map-range_with_len (child s (suc k)) first total in
-      let below : (j : ℕ) → j < total → node_events volume blocks (suc k) b (child_at bytes j) ≡ laid_events s (suc k) (first + j) b =
+      let below : (j : ℕ) → j < total → node_events volume blocks (suc k) b (child_block_at bytes j) ≡ laid_events s (suc k) (first + j) b =
       λ j low_j.
-      let d : Child = child s (suc k) 0 in
+      let d : DiskChild = child s (suc k) 0 in
       ap (node_events volume blocks (suc k) b) (named.blocks j d (omega (arith, low_j, size)) ∙ ap (λ c. c.block) (get_or-map-range_with_len (child s (suc k)) first total j (first + j) d low_j refl) ∙ child_block s (suc k) (first + j))
       ∙ walk_is (suc k) (first + j) b (omega arith) (omega (arith, high)) (omega (arith, low_j, has.within)) in
       ap (λ z. node (record { block = b; holder = holder }) (suc (suc k)) ∷ z)
@@ -124,9 +102,9 @@ module _ (number : ℕ) (old : Bool) (blocks : ℕ) (image : Image) (fits : Fits
       ∙ children_walk (node_events volume blocks (suc k) b) (λ c. laid_events s (suc k) c b) bytes first total below 0 total (omega arith)
       ∙ ap (λ n. flat_map (λ c. laid_events s (suc k) c b) (range_with_len n total)) (let same : first + 0 ≡ first = omega arith in same))
 
-  walked : tree_events (tree_of (superblock volume)) volume (length (used_of volume)) ≡ laid_events s (root_level leaf_count) 0 16
+  walked : tree_events (reiser_tree_of (superblock volume)) volume (length (used_of volume)) ≡ laid_events s (root_level leaf_count) 0 16
   walked =
-      let has : HasFields s blocks (block_at volume 16) = super_made number old blocks image fits in
+      let has : HasFields s blocks (block_at volume SUPER_BLOCK) = super_made number old blocks image fits in
       let size : length (used_of volume) ≡ blocks = length-map-range_with_len (is_marked volume) 0 (superblock volume).blocks ∙ has.blocks_is in
       let level : (superblock volume).height - 1 ≡ root_level leaf_count = omega (arith, has.height_is) in
       ap (λ n. node_events volume n ((superblock volume).height - 1) 16 (superblock volume).root) size

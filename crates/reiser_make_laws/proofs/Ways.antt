@@ -1,29 +1,11 @@
 -- Which paths lead where in a sample: the root's, one for each directory, and one for each name of a file.
-use Rattle.std.proofs.Common.{◌≡◌, ◌⊎◌, inl, inr, ℕ, ◌-◌, ◌*◌, ◌/◌, ◌≤◌, ◌<◌, true, List, [], ◌∷◌, length, map, refl, sym, ◌∙◌, ap, subst, arith, Contains}
-use Rattle.std.specs.List.{range_with_len, flat_map}
-use Rattle.std.specs.Ordering.{is_le}
-use Rattle.std.proofs.lemmas.Bool.{cond_both}
-use Rattle.std.proofs.lemmas.List.Elements.{Contains-append_left, Contains-append_right}
-use Rattle.reiser_volume.specs.fs_rows.Rows.{NameList, path_cmp}
-use Rattle.reiser_make.specs.Content.{is_further_name}
-use Rattle.reiser_make.specs.Items.{items}
-use Rattle.reiser_make.specs.Names.{directory_name}
-use Rattle.reiser_make.specs.Rows.{path_of}
-use Rattle.reiser_make.specs.Shape.{Shape, directory_count, names_in, named_by}
-use Rattle.reiser_volume.specs.reiser_walk.Items.{Item}
-use Rattle.reiser_volume.specs.reiser_volume_objects.declared.key.ObjectKey.{ObjectKey}
-use Rattle.reiser_volume.specs.reiser_volume_objects.declared.naming.Naming.{Naming}
-use Rattle.reiser_volume.specs.reiser_volume_objects.Keys.{root}
-use Rattle.reiser_volume.specs.reiser_volume_objects.Names.{namings}
-use Rattle.reiser_volume.proofs.fs_paths.Lists.{from_map}
-use Rattle.reiser_volume.specs.Rows.{Leads, IsLeastPath}
+use Rattle.reiser_make_laws.proofs.Imports.{◌≡◌, ◌⊎◌, inl, inr, ℕ, ◌-◌, ◌*◌, ◌/◌, ◌≤◌, ◌<◌, true, List, [], ◌∷◌, length, map, refl, sym, ◌∙◌, ap, subst, arith, Contains, range_with_len, flat_map, is_le, cond_both, Contains-append_left, Contains-append_right, NameList, path_cmp, is_further_name, items, directory_name, path_of, Shape, directory_count, names_in, named_by, ReiserItem, ObjectKey, Naming, root, namings, from_map, LeadsToObject, IsLeastPath, content, laid_content}
 use Rattle.reiser_make_laws.proofs.Held.{in_row, in_rows}
 use Rattle.reiser_make_laws.proofs.Keeping.{dir_number, object_number}
 use Rattle.reiser_make_laws.proofs.Named.{IsLaid, in_root, in_directory, names_are, laid}
 use Rattle.reiser_make_laws.proofs.Namings.{bare, root_naming, file_naming, root_row, names_row, laid_namings}
 use Rattle.reiser_make_laws.proofs.Parts.{directory_key, file_key}
 use Rattle.reiser_make_laws.proofs.Sorting.{path_less, path_same}
-use Rattle.reiser_make_laws.specs.Walk.{content, laid_content}
 
 -- a path and what it leads to
 pub data IsPath (number : ℕ) (path : NameList) (key : ObjectKey) : Type 0 where
@@ -35,7 +17,7 @@ pub data IsPath (number : ℕ) (path : NameList) (key : ObjectKey) : Type 0 wher
 pub first_name : (i : ℕ) → named_by i ≤ i
 first_name i = cond_both (is_further_name i) (i - 1) i (λ n. n ≤ i) (λ _. omega arith) (λ _. omega arith)
 
-module _ (s : Shape) (few : length s.names ≤ 4000) (found : List Item) (are : map content found ≡ map (laid_content s) (items s)) where
+module _ (s : Shape) (few : length s.names ≤ 4000) (found : List ReiserItem) (are : map content found ≡ map (laid_content s) (items s)) where
   abbrev number : ℕ
   number = length s.names
 
@@ -75,17 +57,17 @@ module _ (s : Shape) (few : length s.names ≤ 4000) (found : List Item) (are : 
       (in_rows (names_row number) 0 dirs k m (omega arith) (omega (arith, lt))
       (in_row (file_naming number k) (100 * k) (names_in number k) i (omega arith) (omega (arith, lt)))))
 
-  path_leads_by : (path : NameList) (key : ObjectKey) → IsPath number path key → Leads names root path key
-  path_leads_by path key (at_root is to) = subst (λ (p : NameList). Leads names root p key) (sym is) (sym to)
+  path_leads_by : (path : NameList) (key : ObjectKey) → IsPath number path key → LeadsToObject names root path key
+  path_leads_by path key (at_root is to) = subst (λ (p : NameList). LeadsToObject names root p key) (sym is) (sym to)
   path_leads_by path key (at_directory k lt is to) =
       let f : IsFound (root_naming k) = root_found k lt in
-      subst (λ (p : NameList). Leads names root p key) (sym is) (f.n, f.among, f.dir, f.name, f.target ∙ sym to)
+      subst (λ (p : NameList). LeadsToObject names root p key) (sym is) (f.n, f.among, f.dir, f.name, f.target ∙ sym to)
   path_leads_by path key (at_name i lt is to) =
       let d : IsFound (root_naming (i / 100)) = root_found (i / 100) (omega (arith, lt)) in
       let f : IsFound (file_naming number (i / 100) i) = file_found i lt in
-      subst (λ (p : NameList). Leads names root p key) (sym is) (d.n, d.among, d.dir, d.name, (f.n, f.among, f.dir ∙ sym d.target, f.name, f.target ∙ sym to))
+      subst (λ (p : NameList). LeadsToObject names root p key) (sym is) (d.n, d.among, d.dir, d.name, (f.n, f.among, f.dir ∙ sym d.target, f.name, f.target ∙ sym to))
 
-  pub path_leads : (path : NameList) (key : ObjectKey) → IsPath number path key → Leads names root path key
+  pub path_leads : (path : NameList) (key : ObjectKey) → IsPath number path key → LeadsToObject names root path key
   path_leads path key is = path_leads_by path key is
 
   -- no name is in a file
@@ -93,12 +75,12 @@ module _ (s : Shape) (few : length s.names ≤ 4000) (found : List Item) (are : 
   no_further i n (in_root k lt dir target name) is = omega (arith, ap dir_number (sym dir ∙ is))
   no_further i n (in_directory k j lt inside low high dir target name) is = omega (arith, ap dir_number (sym dir ∙ is))
 
-  in_file : (i : ℕ) (names_left : NameList) (from key : ObjectKey) → from ≡ file_key number i → Leads names from names_left key → (names_left ≡ []) × (key ≡ file_key number i)
+  in_file : (i : ℕ) (names_left : NameList) (from key : ObjectKey) → from ≡ file_key number i → LeadsToObject names from names_left key → (names_left ≡ []) × (key ≡ file_key number i)
   in_file i [] from key is leads = (refl, sym leads ∙ is)
   in_file i (name ∷ more) from key is leads = absurd (no_further i leads.0 (laid_name leads.0 leads.1) (leads.2 ∙ is))
 
   -- below directory k
-  step_file : (k : ℕ) (name : List ℕ) (more : NameList) (key : ObjectKey) (n : Naming) → k < dirs → IsLaid number n → n.dir ≡ directory_key k → n.name ≡ name → Leads names n.target more key → IsPath number (directory_name k ∷ name ∷ more) key
+  step_file : (k : ℕ) (name : List ℕ) (more : NameList) (key : ObjectKey) (n : Naming) → k < dirs → IsLaid number n → n.dir ≡ directory_key k → n.name ≡ name → LeadsToObject names n.target more key → IsPath number (directory_name k ∷ name ∷ more) key
   step_file k name more key n low (in_root j lt dir target called) is named leads = absurd (omega (arith, ap dir_number (sym dir ∙ is)))
   step_file k name more key n low (in_directory j i lt inside above below dir target called) is named leads =
       let same : j ≡ k = omega (arith, ap object_number (sym dir ∙ is)) in
@@ -106,16 +88,16 @@ module _ (s : Shape) (few : length s.names ≤ 4000) (found : List Item) (are : 
       let end = in_file (named_by i) more n.target key target leads in
       at_name i inside (λ t. directory_name (at t) ∷ (sym named ∙ called) t ∷ end.0 t) end.1
 
-  in_directory_by : (k : ℕ) (names_left : NameList) (from key : ObjectKey) → k < dirs → from ≡ directory_key k → Leads names from names_left key → IsPath number (directory_name k ∷ names_left) key
+  in_directory_by : (k : ℕ) (names_left : NameList) (from key : ObjectKey) → k < dirs → from ≡ directory_key k → LeadsToObject names from names_left key → IsPath number (directory_name k ∷ names_left) key
   in_directory_by k [] from key low is leads = at_directory k low refl (sym leads ∙ is)
   in_directory_by k (name ∷ more) from key low is leads = step_file k name more key leads.0 low (laid_name leads.0 leads.1) (leads.2 ∙ is) leads.3 leads.4
 
-  step_directory : (name : List ℕ) (more : NameList) (key : ObjectKey) (n : Naming) → IsLaid number n → n.dir ≡ root → n.name ≡ name → Leads names n.target more key → IsPath number (name ∷ more) key
+  step_directory : (name : List ℕ) (more : NameList) (key : ObjectKey) (n : Naming) → IsLaid number n → n.dir ≡ root → n.name ≡ name → LeadsToObject names n.target more key → IsPath number (name ∷ more) key
   step_directory name more key n (in_root k lt dir target called) is named leads =
       subst (λ (x : List ℕ). IsPath number (x ∷ more) key) (sym called ∙ named) (in_directory_by k more n.target key lt target leads)
   step_directory name more key n (in_directory k i lt inside above below dir target called) is named leads = absurd (omega (arith, ap dir_number (sym dir ∙ is)))
 
-  pub leads_path : (path : NameList) (key : ObjectKey) → Leads names root path key → IsPath number path key
+  pub leads_path : (path : NameList) (key : ObjectKey) → LeadsToObject names root path key → IsPath number path key
   leads_path [] key leads = at_root refl (sym leads)
   leads_path (name ∷ more) key leads = step_directory name more key leads.0 (laid_name leads.0 leads.1) leads.2 leads.3 leads.4
 

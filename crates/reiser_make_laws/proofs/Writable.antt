@@ -1,48 +1,27 @@
 -- Each item of a sample has room in a leaf, its numbers in a head, and a body of the length that its head says.
-use Rattle.std.proofs.Common.{◌≡◌, inr, ℕ, zero, suc, ◌+◌, ◌-◌, ◌*◌, ◌^◌, ◌≤◌, ◌<◌, Bool, true, false, cond, ◌==◌, List, [], ◌∷◌, ◌++◌, length, map, get_or, refl, ◌∙◌, ap, arith, length-append, All}
-use Rattle.std.specs.Prelude.{nat_lt}
-use Rattle.std.specs.List.{range_with_len, flat_map}
-use Rattle.std.proofs.lemmas.List.FromFn.{length-map-range_with_len}
-use Rattle.std.proofs.lemmas.List.Elements.{All-cons}
-use Rattle.byteorder.specs.Endian.{little_bytes}
-use Rattle.reiser_volume.specs.reiser_items.Entries.{EntryValue}
-use Rattle.reiser_volume.specs.reiser_items.Stat.{stat_length}
-use Rattle.reiser_volume.specs.reiser_items.declared.stat.StatData.{StatData}
-use Rattle.reiser_volume.specs.reiser_walk.Laws.{FitsHead}
-use Rattle.reiser_make.specs.Content.{IsSmallContent}
-use Rattle.reiser_make.specs.Directory.{padded, entry_heads, entry_names, entries_length, entries_bytes, directory_entry, root_entries, file_entry, directory_entries}
-use Rattle.reiser_make.specs.Items.{items, items_from, items_of, items_of_content, stat_item, directory_items, pointer_items, byte_items, body_bytes, pointers_of_content, rest_of_content}
-use Rattle.reiser_make.specs.Names.{file_name}
-use Rattle.reiser_make.specs.Shape.{Shape, shape, directory_count, names_in, object_count, root_id, directory_id, file_id, file_bytes, pointer, stored_before}
-use Rattle.reiser_make.specs.declared.content.Content.{Content}
-use Rattle.reiser_make.specs.declared.content.Content.TheVariants.{Name, Symlink, File}
-use Rattle.reiser_make.specs.declared.item.Body.{Body}
-use Rattle.reiser_make.specs.declared.item.Body.TheVariants.{Attributes, Root, Names, Pointers, Bytes, Target}
-use Rattle.reiser_make.specs.declared.item.Item.{Item}
-use Rattle.reiser_make.specs.declared.object.ObjectId.{ObjectId}
-use Rattle.reiser_make.proofs.Entering.{directory_short, file_short}
+use Rattle.reiser_make_laws.proofs.Imports.{◌≡◌, inr, ℕ, zero, suc, ◌+◌, ◌-◌, ◌*◌, ◌^◌, ◌≤◌, ◌<◌, Bool, true, false, cond, ◌==◌, List, [], ◌∷◌, ◌++◌, length, map, get_or, refl, ◌∙◌, ap, arith, length-append, All, nat_lt, range_with_len, flat_map, length-map-range_with_len, All-cons, little_bytes, EntryValue, stat_length, StatData, FitsHead, IsSmallContent, padded, entry_heads, entry_names, entries_length, entries_bytes, directory_entry, root_entries, file_entry, directory_entries, items, items_from, items_of_name, items_of_content, stat_item, directory_items, pointer_items, byte_items, body_bytes, pointers_of_content, rest_of_content, file_name, Shape, shape, directory_count, names_in, object_count, root_id, directory_id, file_id, sample_bytes, stored_before, SampleEntry, Name, Symlink, File, Body, Attributes, Root, Names, Pointers, Bytes, Target, SampleItem, ObjectId, directory_short, file_short, IsWritable}
+use Rattle.reiser_make.specs.Shape.{pointer}
 use Rattle.reiser_make_laws.proofs.Small.{AreSmall, contents_small, length_contents, small_at}
-use Rattle.reiser_make_laws.specs.Nodes.{IsWritable}
 
 -- an item that can be written and fits into a leaf
-pub record IsGood (s : Shape) (item : Item) : Type 0 where
+pub record IsGood (s : Shape) (item : SampleItem) : Type 0 where
   pub writable : IsWritable s item
   pub fits : item.head.length ≤ 4048
   pub body : FitsHead item.head (body_bytes s item.head.old item.body)
 
-abbrev pub AreGood : Shape → List Item → Type 0
+abbrev pub AreGood : Shape → List SampleItem → Type 0
 AreGood s [] = Unit {0}
 AreGood s (x ∷ xs) = IsGood s x × AreGood s xs
 
-pub good-append : (s : Shape) (xs ys : List Item) → AreGood s xs → AreGood s ys → AreGood s (xs ++ ys)
+pub good-append : (s : Shape) (xs ys : List SampleItem) → AreGood s xs → AreGood s ys → AreGood s (xs ++ ys)
 good-append s [] ys first second = second
 good-append s (x ∷ xs) ys first second = (first.0, good-append s xs ys first.1 second)
 
-either_good : (s : Shape) (b : Bool) (xs ys : List Item) → AreGood s xs → AreGood s ys → AreGood s (cond b xs ys)
+either_good : (s : Shape) (b : Bool) (xs ys : List SampleItem) → AreGood s xs → AreGood s ys → AreGood s (cond b xs ys)
 either_good s true xs ys first second = first
 either_good s false xs ys first second = second
 
-pub all_writable : (s : Shape) (xs : List Item) → AreGood s xs → All (IsWritable s) xs
+pub all_writable : (s : Shape) (xs : List SampleItem) → AreGood s xs → All (IsWritable s) xs
 all_writable s [] good = λ k d lt. absurd (omega (arith, lt))
 all_writable s (x ∷ xs) good = All-cons (IsWritable s) x xs good.0.writable (all_writable s xs good.1)
 
@@ -109,17 +88,17 @@ pointers_sized : (first : ℕ) (sparse : Bool) (a n : ℕ) → length (flat_map 
 pointers_sized first sparse a zero = refl
 pointers_sized first sparse a (suc n) = omega (arith, pointers_sized first sparse (a + 1) n)
 
-bytes_sized : (i : ℕ) (sparse : Bool) (j n : ℕ) → length (file_bytes i sparse j n) ≡ n
-unfolding file_bytes
+bytes_sized : (i : ℕ) (sparse : Bool) (j n : ℕ) → length (sample_bytes i sparse j n) ≡ n
+unfolding sample_bytes
 bytes_sized i sparse j n = length-map-range_with_len _ j n
 
 module _ (s : Shape) (i : ℕ) (old : Bool) where
-  pub pointers_body : (content : Content) (whole rest : ℕ) (sparse : Bool) → get_or s.names i Name ≡ content → content ≡ File whole rest sparse → length (body_bytes s old (Pointers i)) ≡ 4 * whole
+  pub pointers_body : (content : SampleEntry) (whole rest : ℕ) (sparse : Bool) → get_or s.names i Name ≡ content → content ≡ File whole rest sparse → length (body_bytes s old (Pointers i)) ≡ 4 * whole
   unfolding body_bytes
   pointers_body content whole rest sparse here is =
       ap (λ c. length (pointers_of_content s i c)) (here ∙ is) ∙ pointers_sized (stored_before s.names i) sparse 0 whole
 
-  pub rest_body : (content : Content) (whole rest : ℕ) (sparse : Bool) → get_or s.names i Name ≡ content → content ≡ File whole rest sparse → length (body_bytes s old (Bytes i)) ≡ rest
+  pub rest_body : (content : SampleEntry) (whole rest : ℕ) (sparse : Bool) → get_or s.names i Name ≡ content → content ≡ File whole rest sparse → length (body_bytes s old (Bytes i)) ≡ rest
   unfolding body_bytes
   rest_body content whole rest sparse here is =
       ap (λ c. length (rest_of_content i c)) (here ∙ is) ∙ bytes_sized i sparse (4096 * whole) rest
@@ -128,7 +107,7 @@ target_sized : (s : Shape) (old : Bool) (i : ℕ) → length (body_bytes s old (
 unfolding body_bytes file_name
 target_sized s old i = refl
 
-content_good : (s : Shape) (i : ℕ) (content : Content) → get_or s.names i Name ≡ content → IsSmallContent content → HasRoomFor (file_id (length s.names) i) → AreGood s (items_of_content s i content)
+content_good : (s : Shape) (i : ℕ) (content : SampleEntry) → get_or s.names i Name ≡ content → IsSmallContent content → HasRoomFor (file_id (length s.names) i) → AreGood s (items_of_content s i content)
 unfolding items_of_content
 content_good s i Name here small room = tt
 content_good s i Symlink here small room = (
@@ -146,8 +125,8 @@ content_good s i (File whole rest sparse) here small room =
     )
 
 module _ (s : Shape) (few : length s.names ≤ 4000) (small : AreSmall s.names) where
-  object_good : (o : ℕ) → o ≤ 5000 → AreGood s (items_of s o)
-  unfolding items_of
+  object_good : (o : ℕ) → o ≤ 5000 → AreGood s (items_of_name s o)
+  unfolding items_of_name
   object_good o low =
       let number : ℕ = length s.names in
       let directories : ℕ = directory_count number in
@@ -160,7 +139,7 @@ module _ (s : Shape) (few : length s.names ≤ 4000) (small : AreSmall s.names) 
 
   from_good : (o n : ℕ) → o + n ≤ 5000 → AreGood s (items_from s o n)
   from_good o zero low = tt
-  from_good o (suc n) low = good-append s (items_of s o) (items_from s (o + 1) n) (object_good o (omega (arith, low))) (from_good (o + 1) n (omega (arith, low)))
+  from_good o (suc n) low = good-append s (items_of_name s o) (items_from s (o + 1) n) (object_good o (omega (arith, low))) (from_good (o + 1) n (omega (arith, low)))
 
   items_good : AreGood s (items s)
   unfolding items

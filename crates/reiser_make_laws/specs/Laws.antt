@@ -16,7 +16,7 @@ abbrev pub made : Shape → ℕ → Image → Image
 made s blocks image = laid_over (volume_blocks s blocks) image
 
 -- the sample of a number fits into a volume of so many blocks, and that on the device
-pub record Fits (number : ℕ) (old : Bool) (blocks : ℕ) (image : Image) : Type 0 where
+pub record FitsSample (number : ℕ) (old : Bool) (blocks : ℕ) (image : Image) : Type 0 where
   pub number_low : number ≤ 4000
   pub needed_low : needed (shape number old) ≤ blocks
   pub blocks_low : blocks ≤ 2 ^ 29
@@ -28,18 +28,18 @@ own_blocks s = system_blocks s.blocks s.journal_first s.journal_size
 
 -- superblock and journal are those of a clean volume
 abbrev pub SamplesAreClean : Type 0
-SamplesAreClean = (number : ℕ) (old : Bool) (blocks : ℕ) (image : Image) → Fits number old blocks image → IsClean (made (shape number old) blocks image)
+SamplesAreClean = (number : ℕ) (old : Bool) (blocks : ℕ) (image : Image) → FitsSample number old blocks image → IsClean (made (shape number old) blocks image)
 
 -- the bitmap marks just the blocks that the sample uses
 abbrev pub SamplesMarkUsed : Type 0
 SamplesMarkUsed =
-    (number : ℕ) (old : Bool) (blocks : ℕ) (image : Image) → Fits number old blocks image → (b : ℕ) → b < blocks
+    (number : ℕ) (old : Bool) (blocks : ℕ) (image : Image) → FitsSample number old blocks image → (b : ℕ) → b < blocks
     → has (used_of (made (shape number old) blocks image)) b ≡ is_taken (needed (shape number old)) b
 
 -- among them are the volume's own
 abbrev pub SamplesMarkSystem : Type 0
 SamplesMarkSystem =
-    (number : ℕ) (old : Bool) (blocks : ℕ) (image : Image) → Fits number old blocks image
+    (number : ℕ) (old : Bool) (blocks : ℕ) (image : Image) → FitsSample number old blocks image
     → (b : ℕ) → Contains (own_blocks (superblock (made (shape number old) blocks image))) b → has (used_of (made (shape number old) blocks image)) b ≡ true
 
 -- Each block of the layout is where the layout puts it: no two of them go to one place.

@@ -1,6 +1,11 @@
 ghost use Rattle.std.specs.Prelude.{◌≡◌, ◌≤◌, ◌+◌, length};
 ghost use Rattle.reiser_node.specs.Head.{old_kind, new_kind, kind_at, head_at};
 
+use reiserfs_format::key::{
+    KEY_FORMAT_3_5, KEY_FORMAT_3_6, TYPE_DIRECT, TYPE_DIRENTRY, TYPE_INDIRECT, TYPE_STAT_DATA,
+    V1_DIRECT_UNIQUENESS, V1_DIRENTRY_UNIQUENESS, V1_INDIRECT_UNIQUENESS, V1_SD_UNIQUENESS,
+};
+use reiserfs_format::size::IH_SIZE;
 use vol_block::{u16_at, u32_at, u64_at};
 
 /// What an item holds.
@@ -41,10 +46,10 @@ fn old_kind(code: u32) -> Option<ItemKind>
     ensures { result ≡ old_kind code }
 {
     match code {
-        0 => Some(ItemKind::Stat),
-        0xFFFF_FFFE => Some(ItemKind::Indirect),
-        0xFFFF_FFFF => Some(ItemKind::Direct),
-        500 => Some(ItemKind::Directory),
+        V1_SD_UNIQUENESS => Some(ItemKind::Stat),
+        V1_INDIRECT_UNIQUENESS => Some(ItemKind::Indirect),
+        V1_DIRECT_UNIQUENESS => Some(ItemKind::Direct),
+        V1_DIRENTRY_UNIQUENESS => Some(ItemKind::Directory),
         _ => None,
     }
 }
@@ -54,10 +59,10 @@ fn new_kind(code: u64) -> Option<ItemKind>
     ensures { result ≡ new_kind code }
 {
     match code {
-        0 => Some(ItemKind::Stat),
-        1 => Some(ItemKind::Indirect),
-        2 => Some(ItemKind::Direct),
-        3 => Some(ItemKind::Directory),
+        TYPE_STAT_DATA => Some(ItemKind::Stat),
+        TYPE_INDIRECT => Some(ItemKind::Indirect),
+        TYPE_DIRECT => Some(ItemKind::Direct),
+        TYPE_DIRENTRY => Some(ItemKind::Directory),
         _ => None,
     }
 }
@@ -65,25 +70,25 @@ fn new_kind(code: u64) -> Option<ItemKind>
 /// The kind that the head from byte `at` on names, by its own version; None where its version is neither 0 nor 1, or
 /// where its type is none of the four.
 pub fn kind_at(bytes: &[u8], at: usize) -> Option<ItemKind>
-    requires { at + 24 ≤ length bytes.now }
+    requires { at + IH_SIZE ≤ length bytes.now }
     ensures { result ≡ kind_at bytes.now at }
 {
     match u16_at(bytes, at + 22) {
-        0 => old_kind(u32_at(bytes, at + 12)),
-        1 => new_kind(u64_at(bytes, at + 8) / (1 << 60)),
+        KEY_FORMAT_3_5 => old_kind(u32_at(bytes, at + 12)),
+        KEY_FORMAT_3_6 => new_kind(u64_at(bytes, at + 8) / (1 << 60)),
         _ => None,
     }
 }
 
 /// The head from byte `at` on, if its version and its kind are known.
 pub fn head_at(bytes: &[u8], at: usize) -> Option<ItemHead>
-    requires { at + 24 ≤ length bytes.now }
+    requires { at + IH_SIZE ≤ length bytes.now }
     ensures { result ≡ head_at bytes.now at }
 {
     let Some(kind) = kind_at(bytes, at) else {
         return None;
     };
-    let old = u16_at(bytes, at + 22) == 0;
+    let old = u16_at(bytes, at + 22) == KEY_FORMAT_3_5;
     let offset = if old {
         u32_at(bytes, at + 8) as u64
     } else {

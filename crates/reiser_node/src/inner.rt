@@ -1,7 +1,8 @@
 ghost use Rattle.std.specs.Prelude.{◌≡◌, ◌<◌, ◌↔◌, IsSome, IfSome, is_some};
-ghost use Rattle.reiser_node.specs.Inner.{IsInner, children, child_at, is_inner};
+ghost use Rattle.reiser_node.specs.Inner.{IsInner, pointer_count, child_block_at, is_inner};
 ghost use Rattle.reiser_node.specs.Leaf.{level};
 
+use reiserfs_format::size::{BLKH_SIZE, DC_SIZE, KEY_SIZE};
 use std::marker::Model;
 use vol_block::{Block, BlockNo, u16_at, u32_at};
 
@@ -38,7 +39,7 @@ impl InnerView<'_> {
         if u16_at(&block.bytes, 0) == level
             && (2..=6).contains(&level)
             && count >= 1
-            && 24 + 16 * count + 8 * (count + 1) <= 4096
+            && BLKH_SIZE + KEY_SIZE * count + DC_SIZE * (count + 1) <= 4096
         {
             Some(InnerView { block })
         } else {
@@ -56,17 +57,20 @@ impl InnerView<'_> {
 
     /// How many children there are: 2 to 170.
     pub fn count(&self) -> usize
-        ensures { result ≡ children self.now }
+        ensures { result ≡ pointer_count self.now }
     {
         u16_at(&self.block.bytes, 2) as usize + 1
     }
 
     /// The block of child `i`, counted from 0 in the order of keys. It may lie past the end of the volume.
     pub fn child(&self, i: usize) -> BlockNo
-        requires { i < children self.now }
-        ensures { result ≡ child_at self.now i }
+        requires { i < pointer_count self.now }
+        ensures { result ≡ child_block_at self.now i }
     {
         let count = u16_at(&self.block.bytes, 2) as usize;
-        u32_at(&self.block.bytes, 24 + 16 * count + 8 * i) as u64
+        u32_at(
+            &self.block.bytes,
+            BLKH_SIZE + KEY_SIZE * count + DC_SIZE * i,
+        ) as u64
     }
 }

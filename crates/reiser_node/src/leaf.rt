@@ -3,6 +3,8 @@ ghost use Rattle.reiser_node.specs.Head.{head_at};
 ghost use Rattle.reiser_node.specs.Leaf.{IsLeaf, head_place, count, body_at, is_leaf};
 
 use crate::head::{ItemHead, head_at, kind_at};
+use reiserfs_format::key::DISK_LEAF_NODE_LEVEL;
+use reiserfs_format::size::{BLKH_SIZE, IH_SIZE};
 use std::marker::Model;
 use vol_block::{Block, u16_at};
 
@@ -61,7 +63,7 @@ impl<'a> LeafView<'a> {
         requires { i < count self.now }
         ensures { head_at self.now (head_place i) ≡ Some result }
     {
-        match head_at(&self.block.bytes, 24 + 24 * i) {
+        match head_at(&self.block.bytes, BLKH_SIZE + IH_SIZE * i) {
             Some(head) => head,
             None => unreachable!(),
         }
@@ -74,8 +76,8 @@ impl<'a> LeafView<'a> {
         ensures { result.now ≡ body_at self.now i }
     {
         let bytes = &self.block.bytes;
-        let location = u16_at(bytes, 24 + 24 * i + 20) as usize;
-        let length = u16_at(bytes, 24 + 24 * i + 18) as usize;
+        let location = u16_at(bytes, BLKH_SIZE + IH_SIZE * i + 20) as usize;
+        let length = u16_at(bytes, BLKH_SIZE + IH_SIZE * i + 18) as usize;
         &bytes[location..location + length]
     }
 }
@@ -86,12 +88,15 @@ fn is_leaf(block: &Block) -> bool
 {
     let bytes = &block.bytes;
     let count = u16_at(bytes, 2) as usize;
-    if u16_at(bytes, 0) != 1 || count == 0 || 24 + 24 * count > 4096 {
+    if u16_at(bytes, 0) != DISK_LEAF_NODE_LEVEL
+        || count == 0
+        || BLKH_SIZE + IH_SIZE * count > 4096
+    {
         return false;
     }
     let mut end = 4096;
     for i in 0..count {
-        let at = 24 + 24 * i;
+        let at = BLKH_SIZE + IH_SIZE * i;
         let location = u16_at(bytes, at + 20) as usize;
         let length = u16_at(bytes, at + 18) as usize;
         if location + length != end || kind_at(bytes, at).is_none() {
@@ -99,5 +104,5 @@ fn is_leaf(block: &Block) -> bool
         }
         end = location;
     }
-    24 + 24 * count <= end
+    BLKH_SIZE + IH_SIZE * count <= end
 }

@@ -1,11 +1,7 @@
 -- No rule of the superblock fails exactly where each of its conditions holds.
-use Rattle.std.proofs.Common.{◌≡◌, ℕ, List, Bool, true, false, cond, refl}
-use Rattle.std.specs.Prelude.{Option, Some, None}
+use Rattle.reiser_super.proofs.Imports.{◌≡◌, ℕ, List, Bool, true, false, cond, refl, Option, Some, None, and_parts, and_from, not-true, leb-true, ltb-true, eqb-true, le-leb, lt-ltb, eq-eqb, not_from_false, Super, IsInBounds, IsCleanSuper, is_in_bounds, superblock_refusal}
 use Rattle.refusals.specs.declared.refusal.VolumeRefusal.{VolumeRefusal}
 use Rattle.std.specs.Bool.{Decides}
-use Rattle.std.proofs.lemmas.Bool.{and_parts, and_from, not-true, leb-true, ltb-true, eqb-true, le-leb, lt-ltb, eq-eqb, not_from_false}
-use Rattle.reiser_super.specs.declared.superblock.Super.{Super}
-use Rattle.reiser_super.specs.Rules.{IsInBounds, IsCleanSuper, is_in_bounds, superblock_refusal}
 
 -- a rule holds, and none of those after it is broken
 holds : (b : Bool) (o : Option VolumeRefusal) (e : VolumeRefusal) → cond b o (Some e) ≡ None → (b ≡ true) × (o ≡ None)

@@ -1,14 +1,7 @@
 -- Which transactions wait depends on the log and its header alone.
-use Rattle.std.proofs.Common.{◌≡◌, ℕ, ◌+◌, ◌<◌, ◌≤◌, true, false, List, [], map, cond, refl, sym, ◌∙◌, ap, arith}
-use Rattle.std.specs.Prelude.{filter}
-use Rattle.std.specs.List.{range_with_len}
-use Rattle.std.proofs.lemmas.Bool.{and_parts, ltb-true}
+use Rattle.reiser_super.proofs.Imports.{◌≡◌, ℕ, ◌+◌, ◌<◌, ◌≤◌, true, false, List, [], map, cond, refl, sym, ◌∙◌, ap, arith, filter, range_with_len, and_parts, ltb-true, length-map-range_with_len, get_or-map-range_with_len, Image, block_at, Super, is_descriptor, transaction, transaction_length, log_block, commit_place, waiting_at, all_transactions, last_flushed, next_place, names_place, pending_transactions}
 use Rattle.std.proofs.lemmas.List.{ext_get_or}
-use Rattle.std.proofs.lemmas.List.FromFn.{length-map-range_with_len, get_or-map-range_with_len}
 use Rattle.std.proofs.lemmas.Nat.{mod_below}
-use Rattle.refusals.specs.outside.History.{Image, block_at}
-use Rattle.reiser_super.specs.declared.superblock.Super.{Super}
-use Rattle.reiser_super.specs.Journal.{is_descriptor, transaction, transaction_length, log_block, commit_place, waiting_at, all_transactions, last_flushed, next_place, names_place, pending_transactions}
 
 -- the blocks of the log and the header are the same
 AgreeOnLog : Super → Image → Image → Type 0

@@ -1,3 +1,4 @@
 pub mod Clean
 pub mod Footprint
+pub mod Imports
 pub mod Waiting

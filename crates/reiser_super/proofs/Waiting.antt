@@ -1,11 +1,5 @@
 -- Which transactions wait, from what was read of a journal.
-use Rattle.std.proofs.Common.{◌≡◌, ℕ, zero, suc, ◌+◌, ◌<◌, Bool, true, false, List, [], ◌∷◌, map, length, get_or, cond, refl, sym, ◌∙◌, ap, arith, subst}
-use Rattle.std.specs.Prelude.{filter, Contains}
-use Rattle.std.specs.List.{range_with_len}
-use Rattle.std.proofs.lemmas.List.FromFn.{length-map-range_with_len, get_or-map-range_with_len, filter_of_map_range_with_len_more}
-use Rattle.refusals.specs.outside.History.{Image, block_at}
-use Rattle.reiser_super.specs.declared.superblock.Super.{Super}
-use Rattle.reiser_super.specs.Journal.{is_descriptor, transaction, transaction_length, log_block, commit_place, is_newer, commits, waiting_at, all_transactions, last_flushed, next_place, names_place, pending_transactions}
+use Rattle.reiser_super.proofs.Imports.{◌≡◌, ℕ, zero, suc, ◌+◌, ◌<◌, Bool, true, false, List, [], ◌∷◌, map, length, get_or, cond, refl, sym, ◌∙◌, ap, arith, subst, filter, Contains, range_with_len, length-map-range_with_len, get_or-map-range_with_len, filter_of_map_range_with_len_more, Image, block_at, Super, is_descriptor, transaction, transaction_length, log_block, commit_place, is_newer, commits, waiting_at, all_transactions, last_flushed, next_place, names_place, pending_transactions}
 
 pub not_newer : (s : Super) (image : Image) (flushed place : ℕ) (bytes : List ℕ) → bytes ≡ log_block s image place → false ≡ is_newer flushed s.journal_size bytes → waiting_at s image flushed place ≡ []
 unfolding waiting_at

@@ -1,16 +1,17 @@
 -- The transactions of a ReiserFS journal that wait, as the structures of its journal have them in the Linux headers.
 use Rattle.std.specs.Prelude.{◌≡◌, ℕ, ◌+◌, ◌%◌, ◌==◌, nat_lt, nat_le, Bool, ◌&&◌, List, [], ◌∷◌, length, map, filter, codes, if◌then◌else◌}
 use Rattle.std.specs.List.{range_with_len}
+use Rattle.reiserfs_format.specs.declared.block.TheConstants.{JOURNAL_MAGIC_OFFSET, SUPER_BLOCK}
 use Rattle.refusals.specs.outside.History.{Image, block_at}
 use Rattle.refusals.specs.vol_block.Format.{has_bytes_at}
 use Rattle.refusals.specs.vol_block.Volume.{field}
 use Rattle.reiser_super.specs.declared.superblock.Super.{Super}
-use Rattle.reiser_super.specs.Superblock.{super_of}
+use Rattle.reiser_super.specs.Superblock.{superblock_fields}
 use Rattle.reiser_super.specs.Rules.{IsCleanSuper}
 
 -- a block that begins a transaction in the log has this magic at byte 4084
 unfoldable pub is_descriptor : List ℕ → Bool
-is_descriptor bytes = has_bytes_at bytes 4084 (codes "ReIsErLB")
+is_descriptor bytes = has_bytes_at bytes JOURNAL_MAGIC_OFFSET (codes "ReIsErLB")
 
 -- both a descriptor and a commit block begin with the transaction's number and its length in blocks
 unfoldable pub transaction : List ℕ → ℕ
@@ -69,5 +70,5 @@ pending_transactions s image =
 
 -- A clean volume: its superblock is in order, and no transaction waits.
 pub record IsClean (image : Image) : Type 0 where
-  pub superblock : IsCleanSuper (block_at image 16) (length image)
-  pub journal : pending_transactions (super_of (block_at image 16)) image ≡ []
+  pub superblock : IsCleanSuper (block_at image SUPER_BLOCK) (length image)
+  pub journal : pending_transactions (superblock_fields (block_at image SUPER_BLOCK)) image ≡ []

@@ -3,8 +3,8 @@ use Rattle.std.specs.Prelude.{ℕ, List, slice_range}
 use Rattle.refusals.specs.vol_block.Volume.{field}
 use Rattle.reiser_super.specs.declared.superblock.Super.{Super}
 
-abbrev pub super_of : List ℕ → Super
-super_of bytes = record {
+abbrev pub superblock_fields : List ℕ → Super
+superblock_fields bytes = record {
   blocks = field 4 bytes 0;
   free = field 4 bytes 4;
   root = field 4 bytes 8;

@@ -6,6 +6,7 @@ ghost use Rattle.reiser_super.specs.State.{IsJournalAnswer, IsPendingIn};
 
 use crate::Super;
 use refusals::{Block, BlockSource, VolAnswer, VolumeRefusal, has_magic, u32_at};
+use reiserfs_format::block::JOURNAL_MAGIC_OFFSET;
 
 /// Whether the journal of a volume holds a transaction that waits to be written back.
 ///
@@ -117,7 +118,7 @@ fn names_place(header: &Block, size: u64) -> bool
 fn is_descriptor(block: &Block) -> bool
     ensures { result ≡ is_descriptor block.now.bytes }
 {
-    has_magic(block, 4084, b"ReIsErLB")
+    has_magic(block, JOURNAL_MAGIC_OFFSET, b"ReIsErLB")
 }
 
 /// The number of the transaction that a descriptor or a commit block belongs to.

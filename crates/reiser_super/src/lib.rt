@@ -10,4 +10,4 @@ mod superblock;
 
 pub use journal::journal_state;
 pub use laws::{clean_is_not_refused, log_decides_journal};
-pub use superblock::{ATTRS_CLEARED, Super};
+pub use superblock::Super;

@@ -4,16 +4,13 @@ ghost use Rattle.std.specs.Result.{MatchResult, result_err};
 use refusals::{
     Block, BlockNo, Feature, Rule, VolumeRefusal, has_magic, has_reiser_magic, u16_at, u32_at,
 };
+use reiserfs_format::block::{SUPER_BLOCK, SUPER_MAGIC_OFFSET, VALID_FS};
 
 /// The most blocks of a volume that is converted: 2 TiB.
 const MAX_BLOCKS: u64 = 1 << 29;
 
-/// The flag of the superblock that says that the attributes of all stat data were cleared at first, and so mean something:
-/// `reiserfs_attrs_cleared` of the Linux headers.
-pub const ATTRS_CLEARED: u32 = 1;
-
 const OUT_OF_BOUNDS: VolumeRefusal = VolumeRefusal::Damaged {
-    block: 16,
+    block: SUPER_BLOCK,
     rule: Rule::SuperField,
 };
 
@@ -41,7 +38,7 @@ pub struct Super {
 }
 
 impl Super {
-    ghost use Rattle.reiser_super.specs.Superblock.{super_of};
+    ghost use Rattle.reiser_super.specs.Superblock.{superblock_fields};
     ghost use Rattle.reiser_super.specs.Rules.{IsCleanSuper, IsInBounds, is_in_bounds, superblock_refusal};
 
     /// Reads the superblock, which is block 16 of a device of `device` blocks. Of a shorter device it may be any block.
@@ -54,7 +51,7 @@ impl Super {
     /// The numbers of free blocks and bitmaps, the version, the object-id map and the hash code are compared with nothing.
     #[tactic(auto, using(crate::proofs::Clean::none_from_clean))]
     pub fn read(block: &Block, device: u64) -> Result<Super, VolumeRefusal>
-        ensures fields { IfOk result (λ s. s ≡ super_of block.now.bytes) }
+        ensures fields { IfOk result (λ s. s ≡ superblock_fields block.now.bytes) }
         ensures refusal { result_err result ≡ superblock_refusal block.now.bytes device }
         ensures clean { IsOk result ↔ IsCleanSuper block.now.bytes device }
         ensures bounds { IfOk result IsInBounds }
@@ -68,7 +65,7 @@ impl Super {
 
     /// The refusal of the first rule that fails.
     fn check_rules(&self, block: &Block, device: u64) -> Result<(), VolumeRefusal>
-        requires { self.now ≡ super_of block.now.bytes }
+        requires { self.now ≡ superblock_fields block.now.bytes }
         ensures { result_err result ≡ superblock_refusal block.now.bytes device }
     {
         let blocks = self.blocks;
@@ -76,9 +73,9 @@ impl Super {
         let journal_device = u32_at(&block.bytes, 16) as u64;
         let checker_state = u16_at(&block.bytes, 62) as u64;
         let state = u16_at(&block.bytes, 50);
-        let is_old = has_magic(block, 52, b"ReIsErFs");
+        let is_old = has_magic(block, SUPER_MAGIC_OFFSET, b"ReIsErFs");
         check(
-            device > 16 && has_reiser_magic(block),
+            device > SUPER_BLOCK && has_reiser_magic(block),
             VolumeRefusal::NotVolume,
         )?;
         check_feature(!is_old, Feature::OldMagic, 35)?;
@@ -86,7 +83,7 @@ impl Super {
         check_feature(journal_device == 0, Feature::JournalDevice, journal_device)?;
         check_feature(checker_state == 0, Feature::FsState, checker_state)?;
         check_feature(blocks <= MAX_BLOCKS, Feature::BlockCount, blocks)?;
-        check(state == 1, VolumeRefusal::Unclean { state })?;
+        check(state == VALID_FS, VolumeRefusal::Unclean { state })?;
         check(self.is_in_bounds(), OUT_OF_BOUNDS)?;
         check(
             blocks <= device,
@@ -99,7 +96,7 @@ impl Super {
 
     /// The fields, whatever they say.
     fn fields_of(block: &Block) -> Super
-        ensures { result ≡ super_of block.now.bytes }
+        ensures { result ≡ superblock_fields block.now.bytes }
     {
         Super {
             blocks: u32_at(&block.bytes, 0) as u64,

@@ -1,10 +1,5 @@
 -- What is answered of a volume, by the parts of the reading.
-use Rattle.std.proofs.Common.{inl, inr}
-use Rattle.reiser_volume_contents.specs.Answers.{IsFileAnswer, IsFaultOrMemory}
-use Rattle.reiser_bitmap.specs.outside.History.{Image}
-use Rattle.reiser_bitmap.specs.refusals.declared.answer.VolAnswer.{VolAnswer}
-use Rattle.reiser_bitmap.specs.refusals.declared.answer.VolAnswer.TheVariants.{Refused, Fault, Memory}
-use Rattle.reiser_volume.specs.Answers.{IsVolumeAnswer, RefusesVolume}
+use Rattle.reiser_volume.proofs.Imports.{inl, inr, IsFileAnswer, IsFaultOrMemory, Image, VolAnswer, Refused, Fault, Memory, IsVolumeAnswer, RefusesVolume}
 use Rattle.reiser_volume.specs.Reading.{IsReadingAnswer}
 
 -- an accepted volume is refused by no rule

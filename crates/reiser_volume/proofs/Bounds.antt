@@ -1,45 +1,13 @@
 -- What an accepted volume holds is bounded by its blocks.
-use Rattle.std.proofs.Common.{◌≡◌, ◌≢◌, ℕ, zero, suc, ◌+◌, ◌-◌, ◌*◌, ◌^◌, ◌<◌, ◌≤◌, Bool, true, false, cond, List, [], ◌∷◌, ◌++◌, map, filter, flat_map, length, drop, sum_by, Contains, AllPairs, Option, Some, None, if◌then◌else◌, eqb, refl, sym, ap, subst, ◌∙◌, arith}
-use Rattle.std.proofs.lemmas.Bool.{eqb-true, ne_eqb}
-use Rattle.std.proofs.lemmas.List.{length-append, length-map, length-take}
-use Rattle.std.proofs.lemmas.List.Elements.{All-contains}
-use Rattle.std.proofs.lemmas.List.Sums.{sum_by-cons, sum_by-append, sum_by-le, sum_by-le-sum_by}
-use Rattle.std.proofs.lemmas.Map.Keys.{IsDistinct-from_apart}
+use Rattle.reiser_volume.proofs.Imports.{◌≡◌, ◌≢◌, ℕ, zero, suc, ◌+◌, ◌-◌, ◌*◌, ◌^◌, ◌<◌, ◌≤◌, Bool, true, false, cond, List, [], ◌∷◌, ◌++◌, map, filter, flat_map, length, drop, sum_by, Contains, AllPairs, Option, Some, None, if◌then◌else◌, eqb, refl, sym, ap, subst, ◌∙◌, arith, eqb-true, ne_eqb, length-append, length-map, length-take, All-contains, sum_by-cons, sum_by-append, sum_by-le, sum_by-le-sum_by, IsDistinct-from_apart, Image, block_at, sum_zero, sum_split, at_head, in_tail, in_map, from_filter, ItemKind, Stat, Indirect, Direct, Directory, IsLeaf, count, head_place, body_length, body_end, location, body_at, are_entries, entries, entries_length, BlockPointer, ReiserTree, ReiserItem, Event, item_of, item_at, IsNode, Visit, tree_events, visits_in, items_of_events, reached_in, items_of_tree, Each, each_from_all, all_from_each, all_pairs_from_pairs, pairs_from_all_pairs, sound_exactly, Distinct, leaf_blocks, each_leaf, leaves_distinct, each_is_leaf, items_by_leaves, ObjectKey, Naming, ObjectStat, first_stat, stat_of_object, same_key, object_key_of, items_of, namings, namings_in, namings_by_kind, naming_by, is_listed, is_followed, same_key-true, AreLinks, AreNamedKeys, AreNames, same_decides, same_laws, links_one, superblock, used_of, reiser_tree_of, volume_items, IsAccepted}
 use Rattle.std.proofs.lemmas.Map.Made.{IsDistinct-from_AllPairs, is_member-Decides, length-le_from_is_member}
 use Rattle.std.proofs.lemmas.Map.Steps.{length-le_from_distinct_below}
 use Rattle.std.proofs.lemmas.Map.Views.{Contains-from_any}
-use Rattle.reiser_bitmap.specs.outside.History.{Image, block_at}
-use Rattle.fs_paths.proofs.Counts.{sum_zero, sum_split}
-use Rattle.fs_paths.proofs.Lists.{at_head, in_tail, in_map, from_filter}
 use Rattle.reiser_volume_objects.specs.reiser_node.declared.head.ItemHead.{ItemHead}
-use Rattle.reiser_volume_objects.specs.reiser_node.declared.head.ItemKind.{ItemKind}
-use Rattle.reiser_volume_objects.specs.reiser_node.declared.head.ItemKind.TheVariants.{Stat, Indirect, Direct, Directory}
 use Rattle.reiser_volume_objects.specs.reiser_node.Head.{head_at}
-use Rattle.reiser_volume_objects.specs.reiser_node.Leaf.{IsLeaf, count, head_place, body_length, body_end, location, body_at}
-use Rattle.reiser_volume_objects.specs.reiser_items.Entries.{are_entries, entries}
 use Rattle.reiser_volume_objects.proofs.reiser_items.Grammar.{entries_decide}
-use Rattle.reiser_volume_objects.proofs.reiser_items.Lists.{entries_length}
-use Rattle.reiser_volume_objects.specs.reiser_walk.declared.pointer.Pointer.{Pointer}
-use Rattle.reiser_volume_objects.specs.reiser_walk.declared.tree.Tree.{Tree}
-use Rattle.reiser_volume_objects.specs.reiser_walk.Items.{Item, Event, item_of, item_at}
-use Rattle.reiser_volume_objects.specs.reiser_walk.Laws.{IsNode}
-use Rattle.reiser_volume_objects.specs.reiser_walk.Tree.{Visit, tree_events, visits_in, items_in, reached_in, items_of as items_of_tree}
-use Rattle.reiser_volume_objects.proofs.reiser_walk.Lists.{Each, each_from_all, all_from_each, all_pairs_from_pairs, pairs_from_all_pairs}
-use Rattle.reiser_volume_objects.proofs.reiser_walk.Rules.{sound_exactly}
 use Rattle.reiser_volume_contents.specs.Reads.{listed, items_from, leaf_items}
-use Rattle.reiser_volume_contents.proofs.Trees.{Distinct, leaf_blocks, each_leaf, leaves_distinct, each_is_leaf, items_by_leaves}
-use Rattle.reiser_volume_objects.specs.declared.key.ObjectKey.{ObjectKey}
-use Rattle.reiser_volume_objects.specs.declared.naming.Naming.{Naming}
-use Rattle.reiser_volume_objects.specs.declared.stat.ObjectStat.{ObjectStat}
-use Rattle.reiser_volume_objects.specs.Items.{first_stat, stat_of_object}
-use Rattle.reiser_volume_objects.specs.Keys.{same_key, key_of, items_of}
-use Rattle.reiser_volume_objects.specs.Names.{namings, namings_in, namings_by_kind, naming_by, is_listed, is_followed}
-use Rattle.reiser_volume_objects.proofs.Tables.{same_key-true}
-use Rattle.reiser_volume_names.specs.Links.{AreLinks, AreNamedKeys}
-use Rattle.reiser_volume_names.specs.Names.{AreNames}
-use Rattle.reiser_volume_names.proofs.Uniqueness.{same_decides, same_laws, links_one}
 use Rattle.reiser_volume.specs.Bounds.{item_bytes, direct_length, direct_bytes, AcceptedIsSmall}
-use Rattle.reiser_volume.specs.Volume.{superblock, used_of, tree_of, volume_items, IsAccepted}
 use Rattle.reiser_volume.proofs.Holding.{used_length}
 use Rattle.reiser_volume.proofs.Leading.{all_of}
 
@@ -47,7 +15,7 @@ use Rattle.reiser_volume.proofs.Leading.{all_of}
 one_item : (leaf : ℕ) (bytes : List ℕ) (i : ℕ) (o : Option ItemHead) → sum_by item_bytes (listed (item_of leaf bytes i o)) ≤ 24 + body_length bytes i
 one_item leaf bytes i None = omega arith
 one_item leaf bytes i (Some head) =
-    let x : Item = record { leaf = leaf; head = head; body = body_at bytes i } in
+    let x : ReiserItem = record { leaf = leaf; head = head; body = body_at bytes i } in
     let one : sum_by item_bytes (x ∷ []) ≡ item_bytes x + sum_by item_bytes [] = sum_by-cons item_bytes x [] in
     let long = length-take (location bytes i + body_length bytes i - location bytes i) (drop (location bytes i) bytes) in
     omega (arith, one, long)
@@ -90,20 +58,20 @@ few_below n bs within distinct =
 -- the items of a tree with which nothing is wrong take at most its volume's blocks
 tree_fits : (image : Image) → IsAccepted image → sum_by item_bytes (volume_items image) ≤ 4096 * (superblock image).blocks
 tree_fits image a =
-    let tree : Tree = tree_of (superblock image) in
+    let tree : ReiserTree = reiser_tree_of (superblock image) in
     let used = used_of image in
     let n : ℕ = length used in
     let events : List Event = tree_events tree image n in
     let k = (sound_exactly tree image used).0 a.tree in
-    let inside : Each (λ b. b < n) (leaf_blocks events) = each_leaf (λ b. b < n) events (each_from_all (λ (p : Pointer). p.block < n) (reached_in events) k.inside) in
+    let inside : Each (λ b. b < n) (leaf_blocks events) = each_leaf (λ b. b < n) events (each_from_all (λ (p : BlockPointer). p.block < n) (reached_in events) k.inside) in
     let leaves : Each (λ b. IsLeaf (block_at image b)) (leaf_blocks events) = each_is_leaf image events (each_from_all (λ (v : Visit). IsNode v.level (block_at image v.to.block)) (visits_in events) k.nodes) in
-    let distinct : Distinct (leaf_blocks events) = leaves_distinct events (pairs_from_all_pairs (λ (p q : Pointer). p.block ≢ q.block) (reached_in events) k.once) in
-    let items : items_in events ≡ flat_map (leaf_items image) (leaf_blocks events) = items_by_leaves image n (tree.height - 1) 16 tree.root inside leaves in
-    let fits : sum_by item_bytes (items_of_tree tree image n) ≤ 4096 * length (leaf_blocks events) = subst (λ (is : List Item). sum_by item_bytes is ≤ 4096 * length (leaf_blocks events)) (sym items) (leaves_fit image (leaf_blocks events) leaves) in
+    let distinct : Distinct (leaf_blocks events) = leaves_distinct events (pairs_from_all_pairs (λ (p q : BlockPointer). p.block ≢ q.block) (reached_in events) k.once) in
+    let items : items_of_events events ≡ flat_map (leaf_items image) (leaf_blocks events) = items_by_leaves image n (tree.height - 1) 16 tree.root inside leaves in
+    let fits : sum_by item_bytes (items_of_tree tree image n) ≤ 4096 * length (leaf_blocks events) = subst (λ (is : List ReiserItem). sum_by item_bytes is ≤ 4096 * length (leaf_blocks events)) (sym items) (leaves_fit image (leaf_blocks events) leaves) in
     let few : length (leaf_blocks events) ≤ n = few_below n (leaf_blocks events) inside distinct in
     subst (λ (m : ℕ). sum_by item_bytes (items_of_tree tree image m) ≤ 4096 * m) (used_length image) (omega (arith, fits, few))
 
-items_take : (items : List Item) → 24 * length items ≤ sum_by item_bytes items
+items_take : (items : List ReiserItem) → 24 * length items ≤ sum_by item_bytes items
 items_take [] = omega arith
 items_take (i ∷ items) =
     let one : sum_by item_bytes (i ∷ items) ≡ item_bytes i + sum_by item_bytes items = sum_by-cons item_bytes i items in
@@ -111,23 +79,23 @@ items_take (i ∷ items) =
     omega (arith, one, rest)
 
 -- an object with stat data has an item
-has_item : (items : List Item) (key : ObjectKey) (stat : ObjectStat) → stat_of_object items key ≡ Some stat → (i : Item) × Contains items i × (key_of i.head ≡ key)
+has_item : (items : List ReiserItem) (key : ObjectKey) (stat : ObjectStat) → stat_of_object items key ≡ Some stat → (i : ReiserItem) × Contains items i × (object_key_of i.head ≡ key)
 has_item items key stat is = by (items_of key items) refl is
   where
-    by : (own : List Item) → items_of key items ≡ own → first_stat own ≡ Some stat → (i : Item) × Contains items i × (key_of i.head ≡ key)
+    by : (own : List ReiserItem) → items_of key items ≡ own → first_stat own ≡ Some stat → (i : ReiserItem) × Contains items i × (object_key_of i.head ≡ key)
     by [] same none = absurd (no none)
       where
         no : None ≡ Some stat → ⊥
         no e = cc
     by (i ∷ own) same has =
-        let kept = from_filter (λ (j : Item). same_key (key_of j.head) key) items i (subst (λ (l : List Item). Contains l i) (sym same) (at_head i own)) in
-        (i, kept.0, same_key-true (key_of i.head) key kept.1)
+        let kept = from_filter (λ (j : ReiserItem). same_key (object_key_of j.head) key) items i (subst (λ (l : List ReiserItem). Contains l i) (sym same) (at_head i own)) in
+        (i, kept.0, same_key-true (object_key_of i.head) key kept.1)
 
 -- the named objects are no more than the items
 objects_few : (image : Image) → IsAccepted image → (keys : List ObjectKey) → AreNamedKeys (volume_items image) keys → length keys ≤ length (volume_items image)
 objects_few image a keys are =
     let items = volume_items image in
-    let own : Item → ObjectKey = λ i. key_of i.head in
+    let own : ReiserItem → ObjectKey = λ i. object_key_of i.head in
     let most = length-le_from_is_member same_laws keys (map own items) (IsDistinct-from_AllPairs same_decides keys are.once)
     (λ q member.
     let object = a.objects.each q ((are.exact q).0 ((is_member-Decides same_decides keys q).0 member)) in
@@ -156,13 +124,13 @@ entries_few leaf key n body true is =
     let all = entries_length n body in
     omega (arith, behind, ordered, long, kept, all)
 
-kind_few : (kind : ItemKind) (i : Item) → 16 * length (namings_by_kind kind i) ≤ length i.body
+kind_few : (kind : ItemKind) (i : ReiserItem) → 16 * length (namings_by_kind kind i) ≤ length i.body
 kind_few Stat i = omega arith
 kind_few Indirect i = omega arith
 kind_few Direct i = omega arith
-kind_few Directory i = entries_few i.leaf (key_of i.head) i.head.count i.body (are_entries i.head.count i.body) refl
+kind_few Directory i = entries_few i.leaf (object_key_of i.head) i.head.count i.body (are_entries i.head.count i.body) refl
 
-namings_few : (items : List Item) → 16 * length (namings items) ≤ sum_by item_bytes items
+namings_few : (items : List ReiserItem) → 16 * length (namings items) ≤ sum_by item_bytes items
 namings_few [] = omega arith
 namings_few (i ∷ items) =
     let one : sum_by item_bytes (i ∷ items) ≡ item_bytes i + sum_by item_bytes items = sum_by-cons item_bytes i items in
@@ -200,22 +168,22 @@ weighed {K} q w (k ∷ keys) apart = by (q k) refl (weighed q w keys (λ i j d b
         omega (arith, head, own, rest)
 
 -- what the items of different objects have is no more than what all items have
-module _ (f : Item → ℕ) (keys : List ObjectKey) (once : AllPairs (λ a b. a ≢ b) keys) where
-  abbrev of : Item → ObjectKey → Bool
-  of i key = same_key (key_of i.head) key
+module _ (f : ReiserItem → ℕ) (keys : List ObjectKey) (once : AllPairs (λ a b. a ≢ b) keys) where
+  abbrev of : ReiserItem → ObjectKey → Bool
+  of i key = same_key (object_key_of i.head) key
 
-  one_more : (i : Item) (items : List Item) (key : ObjectKey) → sum_by f (items_of key (i ∷ items)) ≡ cond (of i key) (f i) 0 + sum_by f (items_of key items)
+  one_more : (i : ReiserItem) (items : List ReiserItem) (key : ObjectKey) → sum_by f (items_of key (i ∷ items)) ≡ cond (of i key) (f i) 0 + sum_by f (items_of key items)
   one_more i items key = by (of i key)
     where
       by : (b : Bool) → sum_by f (cond b (i ∷ items_of key items) (items_of key items)) ≡ cond b (f i) 0 + sum_by f (items_of key items)
       by true = sum_by-cons f i (items_of key items)
       by false = omega arith
 
-  pub by_objects : (items : List Item) → sum_by (λ key. sum_by f (items_of key items)) keys ≤ sum_by f items
+  pub by_objects : (items : List ReiserItem) → sum_by (λ key. sum_by f (items_of key items)) keys ≤ sum_by f items
   by_objects [] = let none = sum_zero (λ (key : ObjectKey). sum_by f (items_of key [])) keys (λ key. refl) in omega (arith, none)
   by_objects (i ∷ items) =
       let split = sum_split (λ (key : ObjectKey). cond (of i key) (f i) 0) (λ (key : ObjectKey). sum_by f (items_of key items)) (λ (key : ObjectKey). sum_by f (items_of key (i ∷ items))) keys (one_more i items) in
-      let own = weighed (of i) (f i) keys (λ x y d below within first second. once x y d below within (sym (same_key-true (key_of i.head) _ first) ∙ same_key-true (key_of i.head) _ second)) in
+      let own = weighed (of i) (f i) keys (λ x y d below within first second. once x y d below within (sym (same_key-true (object_key_of i.head) _ first) ∙ same_key-true (object_key_of i.head) _ second)) in
       let rest = by_objects items in
       let all : sum_by f (i ∷ items) ≡ f i + sum_by f items = sum_by-cons f i items in
       omega (arith, split, own, rest, all)
@@ -227,7 +195,7 @@ direct_few Direct body = omega arith
 direct_few Directory body = omega arith
 
 module _ (image : Image) (a : IsAccepted image) where
-  abbrev items : List Item
+  abbrev items : List ReiserItem
   items = volume_items image
 
   blocks : (superblock image).blocks ≤ 2 ^ 29

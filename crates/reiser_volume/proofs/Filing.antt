@@ -1,26 +1,12 @@
 -- A named object that is told by its place.
-use Rattle.std.proofs.Common.{◌≡◌, ℕ, true, List, [], ◌∷◌, Option, Some, Contains, unwrap_or, refl, sym, ap, ◌∙◌}
-use Rattle.std.specs.Prelude.{slice_get}
-use Rattle.std.proofs.lemmas.Option.{slice_get_within, get_or_from_slice_get}
-use Rattle.indexmap.specs.IndexMap.{keys, get}
-use Rattle.reiser_bitmap.specs.outside.History.{Image}
-use Rattle.reiser_volume_objects.specs.declared.key.ObjectKey.{ObjectKey}
-use Rattle.reiser_volume_objects.specs.declared.naming.Naming.{Naming}
-use Rattle.reiser_volume_objects.specs.declared.stat.ObjectStat.{ObjectStat}
-use Rattle.reiser_volume_objects.specs.Keys.{same_key}
-use Rattle.reiser_volume_objects.specs.Names.{namings, is_followed, IsNamed}
-use Rattle.reiser_volume_objects.specs.reiser_walk.Items.{Item}
-use Rattle.reiser_volume.specs.declared.volume.Volume.{Volume}
-use Rattle.reiser_volume.specs.Made.{IsOf, no_stat, stat_at}
-use Rattle.reiser_volume.specs.Opened.{IsOpened, links_in}
-use Rattle.reiser_volume.specs.Volume.{IsAccepted, volume_items}
+use Rattle.reiser_volume.proofs.Imports.{◌≡◌, ℕ, true, List, [], ◌∷◌, Option, Some, Contains, unwrap_or, refl, sym, ap, ◌∙◌, slice_get, slice_get_within, get_or_from_slice_get, keys, get, Image, ObjectKey, Naming, ObjectStat, same_key, namings, is_followed, IsNamed, ReiserItem, Volume, IsOfVolume, no_stat, stat_at, IsOpened, links_in, IsAccepted, volume_items}
 use Rattle.reiser_volume.proofs.Leading.{link_entry, leads_named}
 
 module _ (image : Image) (volume : Volume) (accepted : IsAccepted image) (opened : IsOpened volume image) (i : ℕ) (key : ObjectKey) (at : slice_get (keys volume.named) i ≡ Some key) where
   among : Contains (keys volume.named) key
   among = (i, slice_get_within (keys volume.named) i key at, get_or_from_slice_get (keys volume.named) i key key at)
 
-  pub placed : IsOf image volume key
+  pub placed : IsOfVolume image volume key
   placed = record { accepted = accepted; opened = opened; named = (opened.are_keys.exact key).0 among }
 
   -- its size is that of its stat data
@@ -28,7 +14,7 @@ module _ (image : Image) (volume : Volume) (accepted : IsAccepted image) (opened
   size_there stat is = ap (λ (o : Option ObjectStat). (unwrap_or o no_stat).fields.size) (sym is ∙ opened.stats key among)
 
 module _ (image : Image) (volume : Volume) (opened : IsOpened volume image) (n : Naming) (link : Contains (links_in volume) n) where
-  abbrev items : List Item
+  abbrev items : List ReiserItem
   items = volume_items image
 
   entry : Contains (namings items) n × (is_followed n ≡ true) × IsNamed items n.dir

@@ -1,36 +1,9 @@
 -- The objects of an accepted volume can be read again.
-use Rattle.std.proofs.Common.{◌≡◌, ℕ, List, [], true, false, length, Option, Some, None, replicate, sym, ap, subst, ◌∙◌, arith}
-use Rattle.std.specs.List.{list_any, range_with_len}
-use Rattle.std.proofs.lemmas.List.{length-map}
+use Rattle.reiser_volume.proofs.Imports.{◌≡◌, ℕ, List, [], true, false, length, Option, Some, None, replicate, sym, ap, subst, ◌∙◌, arith, list_any, range_with_len, length-map, Image, VolAnswer, Refused, Fault, Memory, Kind, File, Symlink, is_marked, is_save_link, ReiserItem, items_of_tree, file_bytes, file_byte, ObjectKey, ObjectStat, fits_kind, stat_of_object, items_of, kind_of_mode, IsObject, HasNoted, some_same, IsFault, IsFaultOrMemory, HoldsObject, HoldsLink, object_items, KnownObject, Volume, IsContent, IsKnownAt, IsOfVolume, bytes_at, superblock, used_of, reiser_tree_of, volume_items}
 use Rattle.std.proofs.lemmas.List.FromFn.{length-range_with_len}
-use Rattle.reiser_bitmap.specs.outside.History.{Image}
-use Rattle.reiser_bitmap.specs.refusals.declared.answer.VolAnswer.{VolAnswer}
-use Rattle.reiser_bitmap.specs.refusals.declared.answer.VolAnswer.TheVariants.{Refused, Fault, Memory}
 use Rattle.fs_rows.specs.Mark.{mark_of_bytes}
-use Rattle.fs_rows.specs.declared.row.Kind.{Kind}
-use Rattle.fs_rows.specs.declared.row.Kind.TheVariants.{File, Symlink}
-use Rattle.reiser_bitmap.specs.Layout.{is_marked}
-use Rattle.reiser_volume_objects.specs.reiser_walk.Bodies.{is_save_link}
-use Rattle.reiser_volume_objects.specs.reiser_walk.Items.{Item}
-use Rattle.reiser_volume_objects.specs.reiser_walk.Tree.{items_of as items_of_tree}
-use Rattle.reiser_volume_files.specs.Bytes.{file_bytes, file_byte}
 use Rattle.fs_rows.proofs.Functions.{length_bytes}
-use Rattle.reiser_volume_objects.specs.declared.key.ObjectKey.{ObjectKey}
-use Rattle.reiser_volume_objects.specs.declared.stat.ObjectStat.{ObjectStat}
-use Rattle.reiser_volume_files.specs.Laws.{AreApart}
-use Rattle.reiser_volume_objects.specs.Items.{fits_kind, stat_of_object}
-use Rattle.reiser_volume_objects.specs.Keys.{items_of}
-use Rattle.reiser_volume_objects.specs.Kinds.{kind_of_mode}
-use Rattle.reiser_volume_objects.specs.Rules.{IsObject}
-use Rattle.reiser_volume_objects.specs.Table.{HasNoted}
-use Rattle.reiser_volume_objects.proofs.Broken.{some_same}
-use Rattle.reiser_volume_contents.specs.Answers.{IsFault, IsFaultOrMemory}
-use Rattle.reiser_volume_contents.specs.Holds.{HoldsObject, HoldsLink, object_items}
-use Rattle.reiser_volume.specs.declared.row.Known.{Known}
-use Rattle.reiser_volume.specs.declared.volume.Volume.{Volume}
-use Rattle.fs_rows.specs.Content.{IsContent}
-use Rattle.reiser_volume.specs.Made.{IsKnownAt, IsOf, bytes_at}
-use Rattle.reiser_volume.specs.Volume.{superblock, used_of, tree_of, volume_items}
+use Rattle.reiser_volume_files.specs.Laws.{AreItemsApart}
 
 pub fault_or : (e : VolAnswer) → IsFault e → IsFaultOrMemory e
 fault_or (Refused r) is = is
@@ -47,11 +20,11 @@ pub used_length : (image : Image) → length (used_of image) ≡ (superblock ima
 used_length image = length-map (range_with_len 0 (superblock image).blocks) (is_marked image) ∙ length-range_with_len 0 (superblock image).blocks
 
 -- the items of an object, as both have them
-pub same_items : (image : Image) (key : ObjectKey) → object_items (tree_of (superblock image)) image (used_of image) key ≡ items_of key (volume_items image)
-same_items image key = ap (λ (n : ℕ). items_of key (items_of_tree (tree_of (superblock image)) image n)) (used_length image)
+pub same_items : (image : Image) (key : ObjectKey) → object_items (reiser_tree_of (superblock image)) image (used_of image) key ≡ items_of key (volume_items image)
+same_items image key = ap (λ (n : ℕ). items_of key (items_of_tree (reiser_tree_of (superblock image)) image n)) (used_length image)
 
-module _ (image : Image) (volume : Volume) (key : ObjectKey) (of : IsOf image volume key) where
-  abbrev items : List Item
+module _ (image : Image) (volume : Volume) (key : ObjectKey) (of : IsOfVolume image volume key) where
+  abbrev items : List ReiserItem
   items = volume_items image
 
   abbrev pub object : IsObject items key
@@ -61,48 +34,48 @@ module _ (image : Image) (volume : Volume) (key : ObjectKey) (of : IsOf image vo
   pub known_stat : (stat : ObjectStat) → Some stat ≡ stat_of_object items key → object.stat ≡ stat
   known_stat stat is = some_same (stat_of_object items key) object.stat stat object.has_stat (sym is)
 
-  pub holds : HoldsObject volume.objects key (tree_of (superblock image)) image (used_of image)
+  pub holds : HoldsObject volume.objects key (reiser_tree_of (superblock image)) image (used_of image)
   holds =
       let long = used_length image in
       let fits = of.accepted.clean.superblock.fits in
       record {
         sound = of.accepted.tree;
         within = omega (arith, long, fits);
-        noted = subst (λ (n : ℕ). HasNoted volume.objects (items_of_tree (tree_of (superblock image)) image n)) (sym long) of.opened.noted;
-        no_save_link = subst (λ (n : ℕ). list_any (λ i. is_save_link i.head) (items_of_tree (tree_of (superblock image)) image n) ≡ false) (sym long) of.accepted.objects.no_save_link;
-        apart = subst (λ (l : List Item). AreApart l) (sym (same_items image key)) object.apart;
+        noted = subst (λ (n : ℕ). HasNoted volume.objects (items_of_tree (reiser_tree_of (superblock image)) image n)) (sym long) of.opened.noted;
+        no_save_link = subst (λ (n : ℕ). list_any (λ i. is_save_link i.head) (items_of_tree (reiser_tree_of (superblock image)) image n) ≡ false) (sym long) of.accepted.objects.no_save_link;
+        apart = subst (λ (l : List ReiserItem). AreItemsApart l) (sym (same_items image key)) object.apart;
       }
 
-  module _ (known : Known) (at : IsKnownAt items key known) where
+  module _ (known : KnownObject) (at : IsKnownAt items key known) where
     same_stat : object.stat ≡ known.stat
     same_stat = some_same (stat_of_object items key) object.stat known.stat object.has_stat at.stat
 
     pub same_kind : object.kind ≡ known.kind
     same_kind = some_same (kind_of_mode known.stat.fields.mode) object.kind known.kind (sym (ap (λ (s : ObjectStat). kind_of_mode s.fields.mode) same_stat) ∙ object.known) at.kind
 
-    pub holds_link : known.kind ≡ Symlink → HoldsLink volume.objects key (tree_of (superblock image)) image (used_of image)
+    pub holds_link : known.kind ≡ Symlink → HoldsLink volume.objects key (reiser_tree_of (superblock image)) image (used_of image)
     holds_link is = record {
       object = holds;
-      fits = subst (λ (l : List Item). fits_kind Symlink l ≡ true) (sym (same_items image key)) (subst (λ (k : Kind). fits_kind k (items_of key items) ≡ true) (same_kind ∙ is) object.fits);
+      fits = subst (λ (l : List ReiserItem). fits_kind Symlink l ≡ true) (sym (same_items image key)) (subst (λ (k : Kind). fits_kind k (items_of key items) ≡ true) (same_kind ∙ is) object.fits);
     }
 
     long_bytes : length (file_bytes image (items_of key items) known.stat.fields.size) ≡ known.stat.fields.size
     long_bytes = length_bytes known.stat.fields.size (file_byte image (items_of key items)) 0
 
     -- what was read of a file
-    pub file_read : (mark target : List ℕ) → mark ≡ mark_of_bytes (file_bytes image (object_items (tree_of (superblock image)) image (used_of image) key) known.stat.fields.size) → target ≡ []
+    pub file_read : (mark target : List ℕ) → mark ≡ mark_of_bytes (file_bytes image (object_items (reiser_tree_of (superblock image)) image (used_of image) key) known.stat.fields.size) → target ≡ []
         → IsContent File (bytes_at image items key known.stat File) known.stat.fields.size mark target
     file_read mark target is none = record {
       is_length = sym long_bytes;
-      is_mark = is ∙ ap (λ (l : List Item). mark_of_bytes (file_bytes image l known.stat.fields.size)) (same_items image key);
+      is_mark = is ∙ ap (λ (l : List ReiserItem). mark_of_bytes (file_bytes image l known.stat.fields.size)) (same_items image key);
       is_target = none;
     }
 
     -- and of a symlink
-    pub link_read : (mark target : List ℕ) → mark ≡ replicate 32 0 → target ≡ file_bytes image (object_items (tree_of (superblock image)) image (used_of image) key) known.stat.fields.size
+    pub link_read : (mark target : List ℕ) → mark ≡ replicate 32 0 → target ≡ file_bytes image (object_items (reiser_tree_of (superblock image)) image (used_of image) key) known.stat.fields.size
         → IsContent Symlink (bytes_at image items key known.stat Symlink) known.stat.fields.size mark target
     link_read mark target none is = record {
       is_length = sym long_bytes;
       is_mark = none;
-      is_target = is ∙ ap (λ (l : List Item). file_bytes image l known.stat.fields.size) (same_items image key);
+      is_target = is ∙ ap (λ (l : List ReiserItem). file_bytes image l known.stat.fields.size) (same_items image key);
     }

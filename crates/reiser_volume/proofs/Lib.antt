@@ -15,6 +15,7 @@ pub mod Answering
 pub mod Bounds
 pub mod Filing
 pub mod Holding
+pub mod Imports
 pub mod Leading
 pub mod Mapping
 pub mod Numbered

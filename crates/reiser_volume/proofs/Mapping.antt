@@ -1,40 +1,16 @@
 -- The map of a file tells exactly the blocks that it owns.
-use Rattle.std.proofs.Common.{◌≡◌, ◌≢◌, ℕ, zero, suc, ◌+◌, ◌-◌, ◌*◌, ◌<◌, ◌≤◌, ◌==◌, nat_lt, Bool, true, false, List, [], ◌∷◌, length, get_or, Contains, All, AllPairs, Option, Some, None, unwrap_or, ⊎_elim, if◌then◌else◌, refl, sym, ap, subst, ◌∙◌, true≢false, arith}
-use Rattle.std.proofs.lemmas.Bool.{eqb-true, eqb-false, ltb-true, lt-ltb}
-use Rattle.std.proofs.lemmas.Bool.Decides.{nat_tests}
-use Rattle.std.proofs.lemmas.List.Elements.{All-contains}
-use Rattle.reiser_bitmap.specs.outside.History.{Image}
-use Rattle.fs_rows.specs.declared.row.Kind.{Kind}
-use Rattle.fs_rows.specs.declared.row.Kind.TheVariants.{Directory, File, Symlink, Character, Block, Fifo, Socket, Subvolume}
-use Rattle.fs_paths.proofs.Lists.{at_head, in_tail, from_filter}
-use Rattle.reiser_volume_objects.specs.reiser_walk.Items.{Item}
-use Rattle.reiser_volume_objects.specs.reiser_walk.Laws.{FitsHead}
-use Rattle.reiser_volume_objects.specs.reiser_walk.Tree.{items_of as items_of_tree}
-use Rattle.reiser_volume_objects.proofs.reiser_walk.Rules.{sound_exactly}
-use Rattle.reiser_volume_files.specs.declared.map.FileRun.{FileRun}
+use Rattle.reiser_volume.proofs.Imports.{◌≡◌, ◌≢◌, ℕ, zero, suc, ◌+◌, ◌-◌, ◌*◌, ◌<◌, ◌≤◌, ◌==◌, nat_lt, Bool, true, false, List, [], ◌∷◌, length, get_or, Contains, All, AllPairs, Option, Some, None, unwrap_or, ⊎_elim, if◌then◌else◌, refl, sym, ap, subst, ◌∙◌, true≢false, arith, eqb-true, eqb-false, ltb-true, lt-ltb, nat_tests, All-contains, Image, Kind, File, Symlink, Character, Block, Fifo, Socket, Subvolume, at_head, in_tail, from_filter, ReiserItem, FitsHead, items_of_tree, sound_exactly, FileRun, named_block, IsAligned, is_held, disk_or_hole, block_from, next_from, is_in_run, lies_at, IsFileRunBefore, AreRunsOf, file_runs, one_sort, items_name, ObjectKey, ObjectStat, stat_of_object, same_key, object_key_of, items_of, may_have, is_file, IsNamed, IsObject, no_stat, stat_at, Owns, TellsOwned, MapsTellOwned, superblock, used_of, reiser_tree_of, volume_items, IsAccepted}
+use Rattle.fs_rows.specs.declared.row.Kind.TheVariants.{Directory}
 use Rattle.reiser_volume_files.specs.declared.map.RunFrom.{RunFrom}
 use Rattle.reiser_volume_files.specs.declared.map.RunFrom.TheVariants.{Disk, Tail}
-use Rattle.reiser_volume_files.specs.Bytes.{named_block, IsAligned}
-use Rattle.reiser_volume_files.specs.Runs.{is_held, disk_or_hole, block_from, next_from, is_in_run, lies_at, IsBefore, AreRunsOf, file_runs}
 use Rattle.reiser_volume_files.proofs.Ascending.{in_run, past_run, lies_in, lies_on, file_runs_are}
-use Rattle.reiser_volume_files.proofs.Sorts.{one_sort, items_name}
 use Rattle.reiser_volume_contents.proofs.Files.{aligned_by}
-use Rattle.reiser_volume_objects.specs.declared.key.ObjectKey.{ObjectKey}
-use Rattle.reiser_volume_objects.specs.declared.stat.ObjectStat.{ObjectStat}
-use Rattle.reiser_volume_objects.specs.Items.{stat_of_object}
-use Rattle.reiser_volume_objects.specs.Keys.{same_key, key_of, items_of}
-use Rattle.reiser_volume_objects.specs.Kinds.{may_have, is_file}
-use Rattle.reiser_volume_objects.specs.Names.{IsNamed}
-use Rattle.reiser_volume_objects.specs.Rules.{IsObject}
-use Rattle.reiser_volume.specs.Made.{no_stat, stat_at}
-use Rattle.reiser_volume.specs.Owners.{Owns, TellsOwned, MapsTellOwned}
-use Rattle.reiser_volume.specs.Volume.{superblock, used_of, tree_of, volume_items, IsAccepted}
 use Rattle.reiser_volume.proofs.Holding.{used_length}
 use Rattle.reiser_volume.proofs.Leading.{all_of, fits_each}
 use Rattle.reiser_volume.proofs.SameRows.{none_saves}
 
 -- where a block of one of the runs lies
-lies_within : (runs : List FileRun) → AllPairs IsBefore runs → (r : FileRun) (i : ℕ) → Contains runs r → i < r.count → lies_at runs (r.at + i) ≡ Some (next_from r.from i)
+lies_within : (runs : List FileRun) → AllPairs IsFileRunBefore runs → (r : FileRun) (i : ℕ) → Contains runs r → i < r.count → lies_at runs (r.at + i) ≡ Some (next_from r.from i)
 lies_within [] pairs r i among below = absurd (omega (arith, among.1))
 lies_within (s ∷ runs) pairs r i among below =
     first among.0 among.1 among.2 (λ later. lies_within runs (λ x y d less within. pairs (suc x) (suc y) d (omega (arith, less)) (omega (arith, within))) r i later below)
@@ -47,7 +23,7 @@ lies_within (s ∷ runs) pairs r i among below =
 
     there : (k : ℕ) → suc k < length (s ∷ runs) → get_or (s ∷ runs) (suc k) r ≡ r → lies_at runs (r.at + i) ≡ Some (next_from r.from i) → lies_at (s ∷ runs) (r.at + i) ≡ Some (next_from r.from i)
     there k within is rest =
-        let before : IsBefore s r = subst (IsBefore s) is (pairs 0 (suc k) r (omega arith) within) in
+        let before : IsFileRunBefore s r = subst (IsFileRunBefore s) is (pairs 0 (suc k) r (omega arith) within) in
         let past = before.apart in
         lies_on s runs (r.at + i) (past_run s (r.at + i) (omega (arith, past))) ∙ rest
 
@@ -115,7 +91,7 @@ only_file Socket is = absurd (true≢false (sym is))
 only_file Subvolume is = absurd (true≢false (sym is))
 
 module _ (image : Image) (a : IsAccepted image) (key : ObjectKey) (named : IsNamed (volume_items image) key) where
-  abbrev items : List Item
+  abbrev items : List ReiserItem
   items = items_of key (volume_items image)
 
   abbrev object : IsObject (volume_items image) key
@@ -131,16 +107,16 @@ module _ (image : Image) (a : IsAccepted image) (key : ObjectKey) (named : IsNam
   is_regular : (k : ℕ) → named_block items k ≢ 0 → object.kind ≡ File
   is_regular k some =
       let n = items_name items k some in
-      let may : may_have object.kind n.item.head.kind ≡ true = fits_each (λ (i : Item). may_have object.kind i.head.kind) items n.item object.fits n.among in
+      let may : may_have object.kind n.item.head.kind ≡ true = fits_each (λ (i : ReiserItem). may_have object.kind i.head.kind) items n.item object.fits n.among in
       only_file object.kind (sym (ap (may_have object.kind) n.indirect) ∙ may)
 
   aligned : All IsAligned items
   aligned = all_of IsAligned items (λ i among.
-      let whole = (from_filter (λ (j : Item). same_key (key_of j.head) key) (volume_items image) i among).0 in
+      let whole = (from_filter (λ (j : ReiserItem). same_key (object_key_of j.head) key) (volume_items image) i among).0 in
       let n : ℕ = (superblock image).blocks in
-      let bodies : All (λ (j : Item). FitsHead j.head j.body) (volume_items image) =
-      subst (λ (n : ℕ). All (λ (j : Item). FitsHead j.head j.body) (items_of_tree (tree_of (superblock image)) image n)) (used_length image) ((sound_exactly (tree_of (superblock image)) image (used_of image)).0 a.tree).bodies in
-      let fits : FitsHead i.head i.body = All-contains (λ (j : Item). FitsHead j.head j.body) (volume_items image) i bodies whole in
+      let bodies : All (λ (j : ReiserItem). FitsHead j.head j.body) (volume_items image) =
+      subst (λ (n : ℕ). All (λ (j : ReiserItem). FitsHead j.head j.body) (items_of_tree (reiser_tree_of (superblock image)) image n)) (used_length image) ((sound_exactly (reiser_tree_of (superblock image)) image (used_of image)).0 a.tree).bodies in
+      let fits : FitsHead i.head i.body = All-contains (λ (j : ReiserItem). FitsHead j.head j.body) (volume_items image) i bodies whole in
       ⊎_elim (λ save. absurd (true≢false (sym save ∙ none_saves (volume_items image) i a.objects.no_save_link whole))) (λ f. aligned_by i.head.kind i.head i.body f.0) fits)
 
   owned : (k block : ℕ) → block_from items size k ≡ Some (Disk block) → Owns image key k block

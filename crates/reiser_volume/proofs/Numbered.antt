@@ -1,20 +1,8 @@
 -- The inodes of objects whose keys ascend.
-use Rattle.std.proofs.Common.{◌≡◌, ◌<◌, ◌≤◌, ℕ, zero, suc, ◌+◌, ◌-◌, Bool, true, false, cond, not, ◌&&◌, ◌||◌, List, [], ◌∷◌, filter, get_or, count_by, Option, Some, None, refl, sym, ap, subst, ◌∙◌, if◌then◌else◌, nat_eq, ⊎_elim, arith}
-use Rattle.std.specs.Prelude.{slice_get, unwrap_or}
-use Rattle.std.specs.List.{list_any, IsDistinct, AllByRecursion}
+use Rattle.reiser_volume.proofs.Imports.{◌≡◌, ◌<◌, ◌≤◌, ℕ, zero, suc, ◌+◌, ◌-◌, Bool, true, false, cond, not, ◌&&◌, ◌||◌, List, [], ◌∷◌, filter, get_or, count_by, Option, Some, None, refl, sym, ap, subst, ◌∙◌, if◌then◌else◌, nat_eq, ⊎_elim, arith, slice_get, list_any, IsDistinct, AllByRecursion, is_eq, is_lt, ordering_reverse, cases_lt, nat_tests, Less-from_sorted, slice_get_within, unwrap_or-slice_get, ObjectKey, same_key, root, same_key-self, object_cmp, ino_of_key, object_ties, object_total}
+use Rattle.std.specs.Prelude.{unwrap_or}
 use Rattle.std.specs.List.Sorted.{IsStrictlySortedBy}
-use Rattle.std.specs.Ordering.{is_eq, is_lt, ordering_reverse}
 use Rattle.std.specs.declared.cmp.Ordering.TheVariants.{Less}
-use Rattle.std.proofs.lemmas.Bool.{cases_lt}
-use Rattle.std.proofs.lemmas.Bool.Decides.{nat_tests}
-use Rattle.std.proofs.lemmas.Map.Keys.{Less-from_sorted}
-use Rattle.std.proofs.lemmas.Option.{slice_get_within, unwrap_or-slice_get}
-use Rattle.reiser_volume_objects.specs.declared.key.ObjectKey.{ObjectKey}
-use Rattle.reiser_volume_objects.specs.Keys.{same_key, root}
-use Rattle.reiser_volume_objects.proofs.Tables.{same_key-self}
-use Rattle.reiser_volume_names.specs.Links.{object_cmp}
-use Rattle.reiser_volume_names.specs.Names.{inode_of}
-use Rattle.reiser_volume_names.proofs.Tabling.{object_ties, object_total}
 use Rattle.reiser_volume_names.proofs.Numbering.{place_counts, root_apart}
 use Rattle.reiser_volume.specs.Numbers.{by_inode, AreNumbered}
 
@@ -67,20 +55,20 @@ module _ (keys : List ObjectKey) (at : ℕ) (numbered : AreNumbered at keys) (pl
       ap (λ (c : Bool). count_by (λ k. before k && not (same_key k root)) keys + cond c 1 0) (sym (ap (λ (c : Bool). c && before root) (any_at keys at root numbered.has_root) ∙ is))
       ∙ (root_apart before keys (sorted_apart keys numbered.ascends) ∙ place_counts keys place key numbered.ascends there)
 
-  pub inode_of_root : place ≡ at → inode_of keys key ≡ 256
+  pub inode_of_root : place ≡ at → ino_of_key keys key ≡ 256
   inode_of_root same =
       let own : Some root ≡ Some key = sym numbered.has_root ∙ (ap (slice_get keys) (sym same) ∙ there) in
       let is : root ≡ key = cc in
       ap (λ (b : Bool). if b then 256 else 257 + count_by (λ k. before k && not (same_key k root)) keys) (ap (λ (k : ObjectKey). same_key k root) (sym is) ∙ same_key-self root)
 
-  pub inode_before : place < at → inode_of keys key ≡ 257 + place
+  pub inode_before : place < at → ino_of_key keys key ≡ 257 + place
   inode_before less =
       let order = less_at keys place at key root numbered.ascends less there numbered.has_root in
       let count = counted false (behind key root order) in
       ap (λ (b : Bool). if b then 256 else 257 + count_by (λ k. before k && not (same_key k root)) keys) (other key root order)
       ∙ omega (arith, count)
 
-  pub inode_behind : at < place → inode_of keys key ≡ 256 + place
+  pub inode_behind : at < place → ino_of_key keys key ≡ 256 + place
   inode_behind less =
       let order = less_at keys at place root key numbered.ascends less numbered.has_root there in
       let count = counted true (ap is_lt order) in

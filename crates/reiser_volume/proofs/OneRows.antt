@@ -1,26 +1,7 @@
 -- The rows of a volume are one list.
-use Rattle.std.proofs.Common.{◌≡◌, ℕ, List, [], ◌∷◌, get_or, Contains, AllPairs, Some, ⊎_elim, sym, ap, subst, ◌∙◌, arith}
+use Rattle.reiser_volume.proofs.Imports.{◌≡◌, ℕ, List, [], ◌∷◌, get_or, Contains, AllPairs, Some, ⊎_elim, sym, ap, subst, ◌∙◌, arith, cases_lt, get_or_default, Image, NameList, WholeRow, name_count, Kind, neither_above, ReiserItem, ObjectKey, Naming, ObjectStat, stat_of_object, root, kind_of_mode, AreNames, links_one, RowsAreOne, row_by, bytes_at, LeadsToObject, IsRow, IsLeastPath, superblock, volume_items}
 use Rattle.std.specs.Prelude.{◌≢◌}
-use Rattle.std.proofs.lemmas.Bool.{cases_lt}
-use Rattle.std.proofs.lemmas.List.{get_or_default}
-use Rattle.reiser_bitmap.specs.outside.History.{Image}
-use Rattle.fs_rows.specs.Rows.{NameList, WholeRow, name_count}
-use Rattle.fs_rows.specs.declared.row.Kind.{Kind}
-use Rattle.fs_paths.proofs.FirstPlaces.{neither_above}
 use Rattle.fs_paths.proofs.OneList.{rows_one}
-use Rattle.reiser_volume_objects.specs.reiser_walk.Items.{Item}
-use Rattle.reiser_volume_objects.specs.declared.key.ObjectKey.{ObjectKey}
-use Rattle.reiser_volume_objects.specs.declared.naming.Naming.{Naming}
-use Rattle.reiser_volume_objects.specs.declared.stat.ObjectStat.{ObjectStat}
-use Rattle.reiser_volume_objects.specs.Items.{stat_of_object}
-use Rattle.reiser_volume_objects.specs.Keys.{root}
-use Rattle.reiser_volume_objects.specs.Kinds.{kind_of_mode}
-use Rattle.reiser_volume_names.specs.Names.{AreNames}
-use Rattle.reiser_volume_names.proofs.Uniqueness.{links_one}
-use Rattle.reiser_volume.specs.Laws.{RowsAreOne}
-use Rattle.reiser_volume.specs.Made.{row_by, bytes_at}
-use Rattle.reiser_volume.specs.Rows.{Leads, IsRow, IsLeastPath}
-use Rattle.reiser_volume.specs.Volume.{superblock, volume_items}
 use Rattle.reiser_volume.proofs.Leading.{names_apart}
 
 -- no directory has one name twice
@@ -41,17 +22,17 @@ module _ (links : List Naming) (apart : AreApart links) where
       (cases_lt first.0 second.0)
 
   -- a path leads to one object
-  pub leads_one : (from : ObjectKey) (path : NameList) (a b : ObjectKey) → Leads links from path a → Leads links from path b → a ≡ b
+  pub leads_one : (from : ObjectKey) (path : NameList) (a b : ObjectKey) → LeadsToObject links from path a → LeadsToObject links from path b → a ≡ b
   leads_one from [] a b first second = sym first ∙ second
   leads_one from (name ∷ names) a b first second =
       let same : first.0 ≡ second.0 = one_name first.0 second.0 first.1 second.1 (first.2 ∙ sym second.2) (first.3 ∙ sym second.3) in
-      leads_one first.0.target names a b first.4 (subst (λ (n : Naming). Leads links n.target names b) (sym same) second.4)
+      leads_one first.0.target names a b first.4 (subst (λ (n : Naming). LeadsToObject links n.target names b) (sym same) second.4)
 
   -- an object has one least path
   pub least_one : (key : ObjectKey) (p q : NameList) → IsLeastPath links key p → IsLeastPath links key q → p ≡ q
   least_one key p q first second = neither_above p q (first.least q second.leads) (second.least p first.leads)
 
-module _ (image : Image) (flags : ℕ) (items : List Item) where
+module _ (image : Image) (flags : ℕ) (items : List ReiserItem) where
   -- the row of an object with these names
   pub row_for : ObjectKey → ObjectStat → Kind → NameList → NameList → ℕ → WholeRow
   row_for key stat kind path least names = row_by flags stat kind path least names (bytes_at image items key stat kind)
@@ -82,7 +63,7 @@ module _ (image : Image) (flags : ℕ) (items : List Item) where
   module _ (links : List Naming) (apart : AreApart links) (rows others : List WholeRow) (a b : WholeRow) (p q : ObjectKey)
       (first : IsRow image flags items links rows p a) (second : IsRow image flags items links others q b) (same : a.path ≡ b.path) where
     one_object : p ≡ q
-    one_object = leads_one links apart root a.path p q first.leads (subst (λ (path : NameList). Leads links root path q) (sym same) second.leads)
+    one_object = leads_one links apart root a.path p q first.leads (subst (λ (path : NameList). LeadsToObject links root path q) (sym same) second.leads)
 
     pub one_least : a.least ≡ b.least
     one_least = least_one links apart p a.least b.least first.least (subst (λ (key : ObjectKey). IsLeastPath links key b.least) (sym one_object) second.least)
@@ -108,7 +89,7 @@ rows_are_one image accepted rows others first second =
     let apart : AreApart first.links = subst AreApart known (names_apart items names.visible names.links names.are_links accepted.objects names.keys names.keeps) in
     let each = λ (row : WholeRow) (among : Contains others row). (let e = second.each row among in subst (λ (links : List Naming). (key : ObjectKey) × IsRow image flags items links others key row) (sym same) e) in
     rows_one rows others first.ascends second.ascends
-    (λ row among. let e = first.each row among in second.whole row.path e.0 (subst (λ (links : List Naming). Leads links root row.path e.0) same e.1.leads))
+    (λ row among. let e = first.each row among in second.whole row.path e.0 (subst (λ (links : List Naming). LeadsToObject links root row.path e.0) same e.1.leads))
     (λ row among. let e = each row among in first.whole row.path e.0 e.1.leads)
     (λ a b among other path. let p = first.each a among in let q = each b other in one_least image flags items first.links apart rows others a b p.0 q.0 p.1 q.1 path)
     (λ counts a b among other path. let p = first.each a among in let q = each b other in one_row image flags items first.links apart rows others a b p.0 q.0 p.1 q.1 path counts)

@@ -1,45 +1,19 @@
 -- A block that a file's map names has one owner.
-use Rattle.std.proofs.Common.{◌≡◌, ◌≢◌, ℕ, ◌+◌, ◌-◌, ◌/◌, ◌<◌, ◌≤◌, ◌==◌, true, false, List, length, get_or, count_by, sum_by, Contains, All, AllPairs, ⊎_elim, refl, sym, ap, subst, ◌∙◌, true≢false, arith}
-use Rattle.std.proofs.lemmas.Bool.{eqb-true, eq-eqb, cases_lt}
-use Rattle.std.proofs.lemmas.List.{get_or_default}
-use Rattle.std.proofs.lemmas.List.Elements.{All-contains}
-use Rattle.std.proofs.lemmas.List.Sums.{get_or-le-sum_by}
-use Rattle.reiser_bitmap.specs.outside.History.{Image}
-use Rattle.fs_paths.proofs.Counts.{count_once, count_twice}
-use Rattle.fs_paths.proofs.Lists.{from_filter}
-use Rattle.reiser_bitmap.specs.Bits.{has}
-use Rattle.reiser_bitmap.specs.System.{is_system}
-use Rattle.reiser_bitmap.proofs.MoreLaws.{system_pass}
-use Rattle.reiser_volume_objects.specs.reiser_items.Pointers.{pointers}
-use Rattle.reiser_volume_objects.proofs.reiser_items.Lists.{pointers_length}
-use Rattle.reiser_volume_objects.specs.reiser_walk.declared.pointer.Pointer.{Pointer}
-use Rattle.reiser_volume_objects.specs.reiser_walk.declared.tree.Tree.{Tree}
-use Rattle.reiser_volume_objects.specs.reiser_walk.Items.{Item, Event}
-use Rattle.reiser_volume_objects.specs.reiser_walk.Laws.{KeepsRules}
-use Rattle.reiser_volume_objects.specs.reiser_walk.Rules.{is_system_of}
-use Rattle.reiser_volume_objects.specs.reiser_walk.Tree.{tree_events, visits_in, reached_in}
-use Rattle.reiser_volume_objects.proofs.reiser_walk.Rules.{sound_exactly}
-use Rattle.reiser_volume_files.specs.Bytes.{first_byte}
-use Rattle.reiser_volume_files.proofs.Sorts.{NamesBlock, named_place}
-use Rattle.reiser_volume_objects.specs.declared.key.ObjectKey.{ObjectKey}
-use Rattle.reiser_volume_objects.specs.Keys.{same_key, key_of, items_of}
-use Rattle.reiser_volume_objects.proofs.Tables.{same_key-true}
-use Rattle.reiser_volume.specs.Owners.{Owns, HoldsData, OwnersAreOne}
-use Rattle.reiser_volume.specs.Volume.{superblock, used_of, tree_of, volume_items, IsAccepted}
+use Rattle.reiser_volume.proofs.Imports.{◌≡◌, ◌≢◌, ℕ, ◌+◌, ◌-◌, ◌/◌, ◌<◌, ◌≤◌, ◌==◌, true, false, List, length, get_or, count_by, sum_by, Contains, All, AllPairs, ⊎_elim, refl, sym, ap, subst, ◌∙◌, true≢false, arith, eqb-true, eq-eqb, cases_lt, get_or_default, All-contains, get_or-le-sum_by, Image, count_once, count_twice, from_filter, has, is_system, system_pass, pointers, pointers_length, BlockPointer, ReiserTree, ReiserItem, Event, KeepsRules, is_system_of, tree_events, visits_in, reached_in, sound_exactly, first_byte, NamesBlock, named_place, ObjectKey, same_key, object_key_of, items_of, same_key-true, Owns, HoldsData, OwnersAreOne, superblock, used_of, reiser_tree_of, volume_items, IsAccepted}
 use Rattle.reiser_volume.proofs.Holding.{used_length}
 use Rattle.reiser_volume.proofs.Reaching.{count_some, counted, sum_two, leads_there, visits_there, names_there, Counted, counted_inside, named_as_pointers}
 use Rattle.reiser_volume.proofs.SameRows.{none_saves}
 
 -- an item of the tree names the block, for this file block of this object
-record Names (items : List Item) (key : ObjectKey) (k block : ℕ) : Type 0 where
-  item : Item
+record Names (items : List ReiserItem) (key : ObjectKey) (k block : ℕ) : Type 0 where
+  item : ReiserItem
   among : Contains items item
-  own : key_of item.head ≡ key
+  own : object_key_of item.head ≡ key
   names : NamesBlock k block item
 
 module _ (image : Image) (a : IsAccepted image) where
-  abbrev tree : Tree
-  tree = tree_of (superblock image)
+  abbrev tree : ReiserTree
+  tree = reiser_tree_of (superblock image)
 
   abbrev events : List Event
   events = tree_events tree image (superblock image).blocks
@@ -72,26 +46,26 @@ module _ (image : Image) (a : IsAccepted image) where
     few_named = let all = parts in let one = few in omega (arith, all, one)
 
     -- what an item names for a file block is one of its pointers
-    once : (i : Item) (k : ℕ) → Contains (volume_items image) i → b ≢ 0 → NamesBlock k b i → names_there b i ≡ count_by (λ c. c == b) (pointers i.body)
+    once : (i : ReiserItem) (k : ℕ) → Contains (volume_items image) i → b ≢ 0 → NamesBlock k b i → names_there b i ≡ count_by (λ c. c == b) (pointers i.body)
     once i k among some n = named_as_pointers b i n.names.kind (none_saves (volume_items image) i a.objects.no_save_link among) some
 
-    pointer_there : (i : Item) (k : ℕ) → NamesBlock k b i → get_or (pointers i.body) (k - first_byte i / 4096) 0 ≡ b
+    pointer_there : (i : ReiserItem) (k : ℕ) → NamesBlock k b i → get_or (pointers i.body) (k - first_byte i / 4096) 0 ≡ b
     pointer_there i k n = sym n.names.is ∙ n.block_is
 
-    place_within : (i : Item) (k : ℕ) → NamesBlock k b i → k - first_byte i / 4096 < length (pointers i.body)
+    place_within : (i : ReiserItem) (k : ℕ) → NamesBlock k b i → k - first_byte i / 4096 < length (pointers i.body)
     place_within i k n = let from = n.names.from in let to = n.names.to in let long = pointers_length i.body in omega (arith, from, to, long)
 
     passes : (c : ℕ) → c ≡ b → (c == b) ≡ true
     passes c is = eq-eqb c b is
 
-    at_least : (i : Item) (k : ℕ) → Contains (volume_items image) i → b ≢ 0 → NamesBlock k b i → 1 ≤ names_there b i
+    at_least : (i : ReiserItem) (k : ℕ) → Contains (volume_items image) i → b ≢ 0 → NamesBlock k b i → 1 ≤ names_there b i
     at_least i k among some n =
         let place : ℕ = k - first_byte i / 4096 in
         let own = counted (λ c. c == b) (pointers i.body) b (place, place_within i k n, sym (get_or_default (pointers i.body) place 0 b (place_within i k n)) ∙ pointer_there i k n) (passes b refl) in
         let same = once i k among some n in
         omega (arith, own, same)
 
-    one_place : (i : Item) (k j : ℕ) → Contains (volume_items image) i → b ≢ 0 → NamesBlock k b i → NamesBlock j b i → ¬ (k < j)
+    one_place : (i : ReiserItem) (k j : ℕ) → Contains (volume_items image) i → b ≢ 0 → NamesBlock k b i → NamesBlock j b i → ¬ (k < j)
     one_place i k j among some m n less =
         let start : ℕ = first_byte i / 4096 in
         let from = m.names.from in
@@ -103,7 +77,7 @@ module _ (image : Image) (a : IsAccepted image) where
         let all = few_named in
         omega (arith, two, same, part, own, all)
 
-    one_item : (i j : Item) (k l : ℕ) (first : Contains (volume_items image) i) (second : Contains (volume_items image) j) → b ≢ 0 → NamesBlock k b i → NamesBlock l b j → ¬ (first.0 < second.0)
+    one_item : (i j : ReiserItem) (k l : ℕ) (first : Contains (volume_items image) i) (second : Contains (volume_items image) j) → b ≢ 0 → NamesBlock k b i → NamesBlock l b j → ¬ (first.0 < second.0)
     one_item i j k l first second some m n less =
         let both : names_there b (get_or (volume_items image) first.0 i) + names_there b (get_or (volume_items image) second.0 i) ≤ sum_by (names_there b) (volume_items image) = sum_two (names_there b) (volume_items image) first.0 second.0 i less second.1 in
         let one : names_there b (get_or (volume_items image) first.0 i) ≡ names_there b i = ap (names_there b) first.2 in
@@ -123,14 +97,14 @@ module _ (image : Image) (a : IsAccepted image) where
         at_one place =
             let same : m.item ≡ n.item = sym m.among.2 ∙ (ap (λ (p : ℕ). get_or (volume_items image) p m.item) place ∙ (get_or_default (volume_items image) n.among.0 m.item n.item n.among.1 ∙ n.among.2)) in
             let moved : NamesBlock j b m.item = subst (NamesBlock j b) (sym same) n.names in (
-              sym m.own ∙ (ap (λ (i : Item). key_of i.head) same ∙ n.own),
+              sym m.own ∙ (ap (λ (i : ReiserItem). object_key_of i.head) same ∙ n.own),
               ⊎_elim (λ less. absurd (one_place m.item k j m.among some m.names moved less))
                   (λ not_less. ⊎_elim (λ more. absurd (one_place m.item j k m.among some moved m.names more)) (λ not_more. omega (arith, not_less, not_more)) (cases_lt j k))
                   (cases_lt k j),
             )
 
     -- where an item names the block, it is reached, and not as a node
-    holds_data : (i : Item) (k : ℕ) → Contains (volume_items image) i → b ≢ 0 → NamesBlock k b i → HoldsData image b
+    holds_data : (i : ReiserItem) (k : ℕ) → Contains (volume_items image) i → b ≢ 0 → NamesBlock k b i → HoldsData image b
     holds_data i k among some n =
         let part : names_there b (get_or (volume_items image) among.0 i) ≤ sum_by (names_there b) (volume_items image) = get_or-le-sum_by (names_there b) (volume_items image) among.0 i among.1 in
         let own : names_there b (get_or (volume_items image) among.0 i) ≡ names_there b i = ap (names_there b) among.2 in
@@ -139,10 +113,10 @@ module _ (image : Image) (a : IsAccepted image) where
         let p = count_some (leads_there b) (reached_in events) (omega (arith, part, own, low, all)) in
         let there : p.0.block ≡ b = eqb-true p.0.block b p.2 in
         let bounds = a.clean.superblock.bounds in
-        let free : is_system (superblock image).journal_first (superblock image).journal_size b ≡ false = subst (λ (c : ℕ). is_system_of tree c ≡ false) there (All-contains (λ (p : Pointer). is_system_of tree p.block ≡ false) (reached_in events) p.0 rules.2 p.1) in
+        let free : is_system (superblock image).journal_first (superblock image).journal_size b ≡ false = subst (λ (c : ℕ). is_system_of tree c ≡ false) there (All-contains (λ (p : BlockPointer). is_system_of tree p.block ≡ false) (reached_in events) p.0 rules.2 p.1) in
         record {
-          within = subst (λ (c : ℕ). c < (superblock image).blocks) there (All-contains (λ (p : Pointer). p.block < (superblock image).blocks) (reached_in events) p.0 rules.0 p.1);
-          used = subst (λ (c : ℕ). has (used_of image) c ≡ true) there (All-contains (λ (p : Pointer). has (used_of image) p.block ≡ true) (reached_in events) p.0 rules.1 p.1);
+          within = subst (λ (c : ℕ). c < (superblock image).blocks) there (All-contains (λ (p : BlockPointer). p.block < (superblock image).blocks) (reached_in events) p.0 rules.0 p.1);
+          used = subst (λ (c : ℕ). has (used_of image) c ≡ true) there (All-contains (λ (p : BlockPointer). has (used_of image) p.block ≡ true) (reached_in events) p.0 rules.1 p.1);
           no_node = λ v visited is.
               let seen = counted (visits_there b) (visits_in events) v visited (passes v.to.block is) in
               let one = few in
@@ -155,10 +129,10 @@ module _ (image : Image) (a : IsAccepted image) where
 
   names_by : (key : ObjectKey) (k block : ℕ) → Owns image key k block → Names (volume_items image) key k block
   names_by key k block o =
-      let items : List Item = items_of key (volume_items image) in
+      let items : List ReiserItem = items_of key (volume_items image) in
       let n = named_place items k (λ none. o.some (sym o.points ∙ none)) in
-      let kept = from_filter (λ (i : Item). same_key (key_of i.head) key) (volume_items image) n.item (n.place, n.within, n.is) in
-      record { item = n.item; among = kept.0; own = same_key-true (key_of n.item.head) key kept.1; names = subst (λ (c : ℕ). NamesBlock k c n.item) o.points n.fact }
+      let kept = from_filter (λ (i : ReiserItem). same_key (object_key_of i.head) key) (volume_items image) n.item (n.place, n.within, n.is) in
+      record { item = n.item; among = kept.0; own = same_key-true (object_key_of n.item.head) key kept.1; names = subst (λ (c : ℕ). NamesBlock k c n.item) o.points n.fact }
 
 pub owners_are_one : OwnersAreOne
 owners_are_one = record {

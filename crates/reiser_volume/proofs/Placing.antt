@@ -1,8 +1,5 @@
 -- The places of those elements of a list that pass a test.
-use Rattle.std.proofs.Common.{◌≡◌, ℕ, ◌+◌, ◌<◌, Bool, true, false, List, [], ◌∷◌, ◌++◌, length, get_or, map, take, filter, Option, Some, None, if◌then◌else◌, refl, sym, ap, subst, ◌∙◌, arith}
-use Rattle.std.specs.Prelude.{slice_get}
-use Rattle.std.proofs.lemmas.List.{get_or-map, get_or_default, length-map, map-append, append-nil}
-use Rattle.std.proofs.lemmas.Option.{slice_get_read, slice_get_within, get_or_from_slice_get}
+use Rattle.reiser_volume.proofs.Imports.{◌≡◌, ℕ, ◌+◌, ◌<◌, Bool, true, false, List, [], ◌∷◌, ◌++◌, length, get_or, map, take, filter, Option, Some, None, if◌then◌else◌, refl, sym, ap, subst, ◌∙◌, arith, slice_get, get_or-map, get_or_default, length-map, map-append, append-nil, slice_get_read, slice_get_within, get_or_from_slice_get}
 use Rattle.reiser_volume_names.proofs.Lists.{kept_step}
 
 module _ {X : Type 0} (p : X → Bool) (xs : List X) (places : List ℕ) (i : ℕ) (x : X) (within : i < length xs) (at : x ≡ get_or xs i x)

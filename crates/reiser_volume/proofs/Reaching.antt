@@ -1,22 +1,7 @@
 -- How often a walk of the tree reaches a block: as often as it visits it, and as items name it.
-use Rattle.std.proofs.Common.{◌≡◌, ◌≢◌, ℕ, zero, suc, ◌+◌, ◌<◌, ◌≤◌, ◌==◌, Bool, true, false, cond, ◌&&◌, not, nat_lt, List, [], ◌∷◌, ◌++◌, map, length, get_or, filter, sum_by, count_by, Contains, Option, Some, None, if◌then◌else◌, refl, ap, ◌∙◌, arith}
-use Rattle.std.proofs.lemmas.Bool.{eqb-true, and_parts, and_from, ne_eqb}
-use Rattle.std.proofs.lemmas.List.Sums.{sum_by-cons, sum_by-append, get_or-le-sum_by}
-use Rattle.reiser_bitmap.specs.outside.History.{Image, block_at}
-use Rattle.fs_paths.proofs.Counts.{count_cons, count_append, count_filter, count_same}
-use Rattle.fs_paths.proofs.FirstPlaces.{both_ways}
-use Rattle.fs_paths.proofs.Lists.{at_head, in_tail}
-use Rattle.reiser_volume_objects.specs.reiser_node.declared.head.ItemKind.{ItemKind}
-use Rattle.reiser_volume_objects.specs.reiser_node.declared.head.ItemKind.TheVariants.{Indirect}
-use Rattle.reiser_volume_objects.specs.reiser_node.Leaf.{count, is_leaf}
-use Rattle.reiser_volume_objects.specs.reiser_node.Inner.{is_inner, children}
-use Rattle.reiser_volume_objects.specs.reiser_items.Pointers.{pointers}
-use Rattle.reiser_volume_objects.specs.reiser_walk.declared.pointer.Pointer.{Pointer}
-use Rattle.reiser_volume_objects.specs.reiser_walk.Bodies.{is_save_link}
-use Rattle.reiser_volume_objects.specs.reiser_walk.Items.{Item, Event, node, pointer, is_indirect, is_no_hole, held_by, blocks_named, item_at, events_of, leaf_events}
-use Rattle.reiser_volume_objects.specs.reiser_walk.Tree.{Visit, at_children, node_events, visits_in, items_in, reached_in}
+use Rattle.reiser_volume.proofs.Imports.{◌≡◌, ◌≢◌, ℕ, zero, suc, ◌+◌, ◌<◌, ◌≤◌, ◌==◌, Bool, true, false, cond, ◌&&◌, not, nat_lt, List, [], ◌∷◌, ◌++◌, map, length, get_or, filter, sum_by, count_by, Contains, Option, Some, None, if◌then◌else◌, refl, ap, ◌∙◌, arith, eqb-true, and_parts, and_from, ne_eqb, sum_by-cons, sum_by-append, get_or-le-sum_by, Image, block_at, count_cons, count_append, count_filter, count_same, both_ways, at_head, in_tail, ItemKind, Indirect, count, is_leaf, pointers, BlockPointer, is_save_link, ReiserItem, Event, node, pointer, is_indirect, is_no_hole, held_by, blocks_named, item_at, events_of, leaf_events, Visit, at_children, node_events, visits_in, items_of_events, reached_in, at_each}
+use Rattle.reiser_volume_objects.specs.reiser_node.Inner.{is_inner, pointer_count}
 use Rattle.reiser_volume_objects.proofs.reiser_walk.Events.{visits_in-append, items_in-append, reached_in-append}
-use Rattle.reiser_volume_contents.proofs.Trees.{at_each}
 
 -- an element that passes, where one is counted
 pub count_some : {X : Type 0} (p : X → Bool) (xs : List X) → 1 ≤ count_by p xs → (x : X) × Contains xs x × (p x ≡ true)
@@ -52,57 +37,57 @@ sum_two f (x ∷ xs) (suc i) (suc j) d below within =
     omega (arith, head, rest)
 
 module _ (b : ℕ) where
-  abbrev pub leads_there : Pointer → Bool
+  abbrev pub leads_there : BlockPointer → Bool
   leads_there p = p.block == b
 
   abbrev pub visits_there : Visit → Bool
   visits_there v = v.to.block == b
 
-  abbrev pub names_there : Item → ℕ
+  abbrev pub names_there : ReiserItem → ℕ
   names_there i = count_by (λ c. c == b) (blocks_named i.head i.body)
 
   abbrev pub Counted : List Event → Type 0
-  Counted events = count_by leads_there (reached_in events) ≡ count_by visits_there (visits_in events) + sum_by names_there (items_in events)
+  Counted events = count_by leads_there (reached_in events) ≡ count_by visits_there (visits_in events) + sum_by names_there (items_of_events events)
 
   counted_both : (xs ys : List Event) → Counted xs → Counted ys → Counted (xs ++ ys)
   counted_both xs ys one two =
       let r : count_by leads_there (reached_in (xs ++ ys)) ≡ count_by leads_there (reached_in xs) + count_by leads_there (reached_in ys) = ap (count_by leads_there) (reached_in-append xs ys) ∙ count_append leads_there (reached_in xs) (reached_in ys) in
       let v : count_by visits_there (visits_in (xs ++ ys)) ≡ count_by visits_there (visits_in xs) + count_by visits_there (visits_in ys) = ap (count_by visits_there) (visits_in-append xs ys) ∙ count_append visits_there (visits_in xs) (visits_in ys) in
-      let s : sum_by names_there (items_in (xs ++ ys)) ≡ sum_by names_there (items_in xs) + sum_by names_there (items_in ys) = ap (sum_by names_there) (items_in-append xs ys) ∙ sum_by-append names_there (items_in xs) (items_in ys) in
+      let s : sum_by names_there (items_of_events (xs ++ ys)) ≡ sum_by names_there (items_of_events xs) + sum_by names_there (items_of_events ys) = ap (sum_by names_there) (items_in-append xs ys) ∙ sum_by-append names_there (items_of_events xs) (items_of_events ys) in
       omega (arith, r, v, s, one, two)
 
-  counted_node : (p : Pointer) (level : ℕ) (events : List Event) → Counted events → Counted (node p level ∷ events)
+  counted_node : (p : BlockPointer) (level : ℕ) (events : List Event) → Counted events → Counted (node p level ∷ events)
   counted_node p level events rest =
       let v : Visit = record { to = p; level = level } in
       let r : count_by leads_there (p ∷ reached_in events) ≡ cond (p.block == b) 1 0 + count_by leads_there (reached_in events) = count_cons leads_there p (reached_in events) in
       let s : count_by visits_there (v ∷ visits_in events) ≡ cond (p.block == b) 1 0 + count_by visits_there (visits_in events) = count_cons visits_there v (visits_in events) in
       omega (arith, r, s, rest)
 
-  no_items : (ps : List Pointer) → items_in (map pointer ps) ≡ []
+  no_items : (ps : List BlockPointer) → items_of_events (map pointer ps) ≡ []
   no_items [] = refl
   no_items (p ∷ ps) = no_items ps
 
-  no_visits : (ps : List Pointer) → visits_in (map pointer ps) ≡ []
+  no_visits : (ps : List BlockPointer) → visits_in (map pointer ps) ≡ []
   no_visits [] = refl
   no_visits (p ∷ ps) = no_visits ps
 
   counted_pointers : (leaf : ℕ) (bs : List ℕ) → count_by leads_there (reached_in (map pointer (held_by leaf bs))) ≡ count_by (λ c. c == b) bs
   counted_pointers leaf [] = refl
   counted_pointers leaf (c ∷ bs) =
-      let p : Pointer = record { block = c; holder = leaf } in
+      let p : BlockPointer = record { block = c; holder = leaf } in
       let r : count_by leads_there (p ∷ reached_in (map pointer (held_by leaf bs))) ≡ cond (c == b) 1 0 + count_by leads_there (reached_in (map pointer (held_by leaf bs))) = count_cons leads_there p (reached_in (map pointer (held_by leaf bs))) in
       let s : count_by (λ c. c == b) (c ∷ bs) ≡ cond (c == b) 1 0 + count_by (λ c. c == b) bs = count_cons (λ c. c == b) c bs in
       let rest = counted_pointers leaf bs in
       omega (arith, r, s, rest)
 
-  counted_one : (o : Option Item) → Counted (events_of o)
+  counted_one : (o : Option ReiserItem) → Counted (events_of o)
   counted_one None = omega arith
   counted_one (Some i) =
       let bs : List ℕ = blocks_named i.head i.body in
       let r = counted_pointers i.leaf bs in
       let v : count_by visits_there (visits_in (map pointer (held_by i.leaf bs))) ≡ 0 = ap (count_by visits_there) (no_visits (held_by i.leaf bs)) in
-      let s : sum_by names_there (i ∷ items_in (map pointer (held_by i.leaf bs))) ≡ names_there i + sum_by names_there (items_in (map pointer (held_by i.leaf bs))) = sum_by-cons names_there i (items_in (map pointer (held_by i.leaf bs))) in
-      let none : sum_by names_there (items_in (map pointer (held_by i.leaf bs))) ≡ 0 = ap (sum_by names_there) (no_items (held_by i.leaf bs)) in
+      let s : sum_by names_there (i ∷ items_of_events (map pointer (held_by i.leaf bs))) ≡ names_there i + sum_by names_there (items_of_events (map pointer (held_by i.leaf bs))) = sum_by-cons names_there i (items_of_events (map pointer (held_by i.leaf bs))) in
+      let none : sum_by names_there (items_of_events (map pointer (held_by i.leaf bs))) ≡ 0 = ap (sum_by names_there) (no_items (held_by i.leaf bs)) in
       omega (arith, r, v, s, none)
 
   counted_leaf : (leaf : ℕ) (bytes : List ℕ) (i k : ℕ) → Counted (leaf_events leaf bytes i k)
@@ -120,15 +105,15 @@ module _ (b : ℕ) where
       by false = omega arith
   counted_inside image n (suc (suc level)) holder at =
       counted_node (record { block = at; holder = holder }) (suc (suc level))
-      (if nat_lt at n && is_inner (suc (suc level)) (block_at image at) then at_children (node_events image n (suc level) at) (block_at image at) 0 (children (block_at image at)) else [])
+      (if nat_lt at n && is_inner (suc (suc level)) (block_at image at) then at_children (node_events image n (suc level) at) (block_at image at) 0 (pointer_count (block_at image at)) else [])
       (by (λ c. counted_inside image n (suc level) at c) (nat_lt at n && is_inner (suc (suc level)) (block_at image at)))
     where
-      by : ((c : ℕ) → Counted (node_events image n (suc level) at c)) → (t : Bool) → Counted (if t then at_children (node_events image n (suc level) at) (block_at image at) 0 (children (block_at image at)) else [])
-      by below true = at_each Counted (omega arith) counted_both (node_events image n (suc level) at) below (block_at image at) 0 (children (block_at image at))
+      by : ((c : ℕ) → Counted (node_events image n (suc level) at c)) → (t : Bool) → Counted (if t then at_children (node_events image n (suc level) at) (block_at image at) 0 (pointer_count (block_at image at)) else [])
+      by below true = at_each Counted (omega arith) counted_both (node_events image n (suc level) at) below (block_at image at) 0 (pointer_count (block_at image at))
       by below false = omega arith
 
   -- how often an item names a block that is no hole: as its pointers do
-  pub named_as_pointers : (i : Item) → i.head.kind ≡ Indirect → is_save_link i.head ≡ false → b ≢ 0 → names_there i ≡ count_by (λ c. c == b) (pointers i.body)
+  pub named_as_pointers : (i : ReiserItem) → i.head.kind ≡ Indirect → is_save_link i.head ≡ false → b ≢ 0 → names_there i ≡ count_by (λ c. c == b) (pointers i.body)
   named_as_pointers i kind own some =
       let test : (is_indirect i.head.kind && not (is_save_link i.head)) ≡ true = ap (λ (k : ItemKind). is_indirect k && not (is_save_link i.head)) kind ∙ ap not own in
       ap (λ (t : Bool). count_by (λ c. c == b) (if t then filter is_no_hole (pointers i.body) else [])) test

@@ -1,42 +1,22 @@
 -- What is refused of a volume, group by group, and that an accepted one is not refused.
-use Rattle.std.proofs.Common.{◌≡◌, ℕ, ◌≤◌, ◌&&◌, Bool, true, false, cond, List, [], ◌∷◌, length, Option, Some, None, Contains, All, refl, sym, ap, subst, ◌∙◌, true≢false, arith}
-use Rattle.std.specs.Prelude.{nat_lt, Result, Err, IfErr}
-use Rattle.std.proofs.lemmas.Bool.Decides.{nat_tests}
-use Rattle.std.proofs.lemmas.List.Elements.{All-cons, All-contains}
-use Rattle.reiser_bitmap.specs.outside.History.{Image, block_at}
-use Rattle.reiser_bitmap.specs.refusals.declared.answer.VolAnswer.{VolAnswer}
-use Rattle.reiser_bitmap.specs.refusals.declared.answer.VolAnswer.TheVariants.{Refused, Fault, Memory}
+use Rattle.reiser_volume.proofs.Imports.{◌≡◌, ℕ, ◌≤◌, ◌&&◌, Bool, true, false, cond, List, [], ◌∷◌, length, Option, Some, None, Contains, All, refl, sym, ap, subst, ◌∙◌, true≢false, arith, Result, Err, IfErr, nat_tests, All-cons, All-contains, SUPER_BLOCK, Image, block_at, VolAnswer, Refused, Fault, Memory, has, bitmap_of, system_blocks, NamesFreeBlock, Super, superblock_fields, IsCleanSuper, superblock_refusal, superblock_rules, first_refusal, IsClean, pending_transactions, tree_damages, items_of_tree, HasNoted, AreObjects, IsObjectsRefusal, IsVolumeRule, IsVolumeAnswer, IsVerdict, RefusesVolume, IsSuperOf, IsBitmapOf, IsFoundSound, IsFrontOf, IsFrontRule, NamesFrontRule, IsFrontAnswer, RefusesFront, IsAccepted, IsRefusal, IsFrontAccepted, IsFrontRefusal, superblock, used_of, reiser_tree_of, volume_items, superblock_rule, journal_rule, bitmap_rule, front_rule, tree_rule, objects_rule, names_rule}
+use Rattle.std.specs.Prelude.{nat_lt}
 use Rattle.reiser_bitmap.specs.refusals.declared.refusal.VolumeRefusal.{VolumeRefusal}
 use Rattle.reiser_bitmap.specs.refusals.declared.refusal.VolumeRefusal.TheVariants.{NotVolume, Unclean, Unsupported, Short, JournalPending, Damaged, HasAttributes, PendingLinks, NameTaken, NameTooLong, HashCrowd}
 use Rattle.reiser_bitmap.specs.refusals.declared.rule.Rule.{Rule}
 use Rattle.reiser_bitmap.specs.refusals.declared.rule.Rule.TheVariants.{SuperField, SystemFree, NodeHead, Layout, KeyOrder, BlockFree, BlockRange, BlockTwice, Body, EntryForm, ObjectForm, Overlap, NameTwice, DirTwice, SizeRange, Reread}
 use Rattle.reiser_bitmap.specs.vol_block.Format.{has_reiser_magic}
-use Rattle.reiser_bitmap.specs.Bits.{has}
-use Rattle.reiser_bitmap.specs.Layout.{bitmap_of}
-use Rattle.reiser_bitmap.specs.System.{system_blocks, NamesFreeBlock}
-use Rattle.reiser_super.specs.declared.superblock.Super.{Super}
-use Rattle.reiser_super.specs.Superblock.{super_of}
-use Rattle.reiser_super.specs.Rules.{IsCleanSuper, superblock_refusal, superblock_rules, first_refusal}
-use Rattle.reiser_super.specs.Journal.{IsClean, pending_transactions}
 use Rattle.reiser_super.specs.State.{IsPendingIn, IsJournalAnswer}
 use Rattle.reiser_super.proofs.Clean.{none_from_clean}
 use Rattle.reiser_bitmap.specs.Answers.{IsNoRefusal}
 use Rattle.reiser_volume_objects.specs.reiser_walk.Answers.{IsTreeRule}
-use Rattle.reiser_volume_objects.specs.reiser_walk.Rules.{tree_damages}
-use Rattle.reiser_volume_objects.specs.reiser_walk.Tree.{items_of}
 use Rattle.reiser_volume_objects.specs.declared.table.Objects.{Objects}
-use Rattle.reiser_volume_objects.specs.Table.{HasNoted}
-use Rattle.reiser_volume_objects.specs.Read.{IsReadAnswer, BlamesTree}
+use Rattle.reiser_volume_objects.specs.Read.{IsObjectsReadAnswer, BlamesTree}
 use Rattle.reiser_volume_objects.specs.Reach.{Refuses, IsObjectsAnswer, object_rules}
-use Rattle.reiser_volume_objects.specs.Rules.{AreObjects, IsObjectsRefusal}
-use Rattle.reiser_volume_objects.proofs.Broken as objects
-use Rattle.reiser_volume.specs.Answers.{IsVolumeRule, IsVolumeAnswer, IsVerdict, RefusesVolume, IsSuperOf, IsBitmapOf}
-use Rattle.reiser_volume.specs.Opened.{IsFound}
 use Rattle.reiser_volume_names.specs.Refuses.{RefusesNames, IsNamesRule, IsNamesAnswer}
 use Rattle.reiser_volume.specs.declared.front.Front.{Front}
-use Rattle.reiser_volume.specs.Front.{IsFrontOf, IsFrontRule, NamesFrontRule, IsFrontAnswer, RefusesFront}
-use Rattle.reiser_volume.specs.Volume.{IsAccepted, IsRefusal, IsFrontAccepted, IsFrontRefusal, superblock, used_of, tree_of, volume_items, superblock_rule, journal_rule, bitmap_rule, front_rule, tree_rule, objects_rule, names_rule}
 use Rattle.reiser_volume_names.proofs.Broken.{names_broken}
+use Rattle.reiser_volume_objects.proofs.Broken as objects
 use Rattle.reiser_volume.proofs.Holding.{used_length}
 
 in_none : {X : Type 0} (xs : List X) (x : X) → xs ≡ [] → Contains xs x → ⊥
@@ -71,16 +51,16 @@ no_block true magic o is = absurd (true≢false is)
 
 pub short_refused : (image : Image) → length image ≤ 16 → IsFrontRefusal image NotVolume
 short_refused image short =
-    let no : nat_lt 16 (length image) ≡ false = grind (arith, nat_tests) in
-    superblock_rule (no_block (nat_lt 16 (length image)) (has_reiser_magic (block_at image 16)) _ no)
+    let no : nat_lt SUPER_BLOCK (length image) ≡ false = grind (arith, nat_tests) in
+    superblock_rule (no_block (nat_lt SUPER_BLOCK (length image)) (has_reiser_magic (block_at image SUPER_BLOCK)) _ no)
 
-pub super_found : (image : Image) (bytes : List ℕ) (device : ℕ) (s : Super) → s ≡ super_of bytes → IsCleanSuper bytes device → bytes ≡ block_at image 16 → device ≡ length image → IsSuperOf image s
+pub super_found : (image : Image) (bytes : List ℕ) (device : ℕ) (s : Super) → s ≡ superblock_fields bytes → IsCleanSuper bytes device → bytes ≡ block_at image SUPER_BLOCK → device ≡ length image → IsSuperOf image s
 super_found image bytes device s fields clean same size = record {
-  fields = fields ∙ ap super_of same;
+  fields = fields ∙ ap superblock_fields same;
   clean = subst (λ (b : List ℕ). IsCleanSuper b (length image)) same (subst (λ (n : ℕ). IsCleanSuper bytes n) size clean);
 }
 
-pub super_refused : (image : Image) (bytes : List ℕ) (device : ℕ) (r : VolumeRefusal) → Some r ≡ superblock_refusal bytes device → bytes ≡ block_at image 16 → device ≡ length image → IsFrontRefusal image r
+pub super_refused : (image : Image) (bytes : List ℕ) (device : ℕ) (r : VolumeRefusal) → Some r ≡ superblock_refusal bytes device → bytes ≡ block_at image SUPER_BLOCK → device ≡ length image → IsFrontRefusal image r
 super_refused image bytes device r is same size =
     superblock_rule (subst (λ (b : List ℕ). superblock_refusal b (length image) ≡ Some r) same (subst (λ (n : ℕ). superblock_refusal bytes n ≡ Some r) size (sym is)))
 
@@ -121,7 +101,7 @@ module _ (image : Image) (s : Super) (found : IsSuperOf image s) where
     bits = bits_found used is;
   }
 
-module _ (image : Image) (s : Super) (used : List Bool) (found : IsFound image s used) where
+module _ (image : Image) (s : Super) (used : List Bool) (found : IsFoundSound image s used) where
   pub objects_refused : (e : VolAnswer) → Refuses s.root (volume_items image) e → RefusesVolume image e
   objects_refused (Refused r) is = objects_rule found.clean found.system found.tree (subst (λ (t : Super). IsObjectsRefusal t.root (volume_items image) r) found.fields is)
   objects_refused Fault is = tt
@@ -133,24 +113,24 @@ module _ (image : Image) (s : Super) (used : List Bool) (found : IsFound image s
   names_refused Memory are is = tt
 
 module _ (image : Image) (s : Super) (used : List Bool) (found : IsSuperOf image s) (marked : IsBitmapOf image used) where
-  pub tree_refused : (e : VolAnswer) → BlamesTree (tree_of s) image used e → RefusesVolume image e
+  pub tree_refused : (e : VolAnswer) → BlamesTree (reiser_tree_of s) image used e → RefusesVolume image e
   tree_refused (Refused r) is =
       tree_rule marked.clean marked.system
-      (subst (λ (u : List Bool). Contains (tree_damages (tree_of (superblock image)) image u) r) marked.bits (subst (λ (t : Super). Contains (tree_damages (tree_of t) image used) r) found.fields is))
+      (subst (λ (u : List Bool). Contains (tree_damages (reiser_tree_of (superblock image)) image u) r) marked.bits (subst (λ (t : Super). Contains (tree_damages (reiser_tree_of t) image used) r) found.fields is))
   tree_refused Fault is = tt
   tree_refused Memory is = tt
 
-  pub tree_found : tree_damages (tree_of s) image used ≡ [] → IsFound image s used
+  pub tree_found : tree_damages (reiser_tree_of s) image used ≡ [] → IsFoundSound image s used
   tree_found none = record {
     fields = found.fields;
     clean = marked.clean;
     system = marked.system;
     bits = marked.bits;
-    tree = subst (λ (u : List Bool). tree_damages (tree_of (superblock image)) image u ≡ []) marked.bits (subst (λ (t : Super). tree_damages (tree_of t) image used ≡ []) found.fields none);
+    tree = subst (λ (u : List Bool). tree_damages (reiser_tree_of (superblock image)) image u ≡ []) marked.bits (subst (λ (t : Super). tree_damages (reiser_tree_of t) image used ≡ []) found.fields none);
   }
 
-  pub items_found : (objects : Objects) → length used ≡ s.blocks → HasNoted objects (items_of (tree_of s) image (length used)) → HasNoted objects (volume_items image)
-  items_found objects size noted = subst (λ (t : Super). HasNoted objects (items_of (tree_of t) image t.blocks)) found.fields (subst (λ (n : ℕ). HasNoted objects (items_of (tree_of s) image n)) size noted)
+  pub items_found : (objects : Objects) → length used ≡ s.blocks → HasNoted objects (items_of_tree (reiser_tree_of s) image (length used)) → HasNoted objects (volume_items image)
+  items_found objects size noted = subst (λ (t : Super). HasNoted objects (items_of_tree (reiser_tree_of t) image t.blocks)) found.fields (subst (λ (n : ℕ). HasNoted objects (items_of_tree (reiser_tree_of s) image n)) size noted)
 
 -- what each group answers, whatever the source gives
 abbrev all_known : List (Bool × VolumeRefusal) → Type 0
@@ -281,7 +261,7 @@ objects_rule_known : (rule : Rule) → Contains object_rules rule → IsVolumeRu
 objects_rule_known rule among =
     All-contains IsVolumeRule object_rules rule (All-cons IsVolumeRule ObjectForm (Overlap ∷ SizeRange ∷ []) tt (All-cons IsVolumeRule Overlap (SizeRange ∷ []) tt (All-cons IsVolumeRule SizeRange [] tt (λ k d within. absurd (omega (arith, within)))))) among
 
-pub tree_known : (e : VolAnswer) → IsReadAnswer e → IsVolumeAnswer e
+pub tree_known : (e : VolAnswer) → IsObjectsReadAnswer e → IsVolumeAnswer e
 tree_known (Refused (Damaged block rule)) is = tree_rule_known rule is
 tree_known (Refused NotVolume) is = tt
 tree_known (Refused (Unclean state)) is = tt

@@ -1,51 +1,12 @@
 -- The rows that are made for the paths of a volume are its rows.
-use Rattle.std.proofs.Common.{◌≡◌, ℕ, ◌+◌, ◌<◌, ◌≤◌, ◌%◌, ◌^◌, true, List, [], ◌∷◌, ◌++◌, map, length, get_or, take, Contains, Option, Some, None, unwrap_or, refl, sym, ap, subst, ◌∙◌, if◌then◌else◌, arith}
-use Rattle.std.specs.Ordering.{is_le}
+use Rattle.reiser_volume.proofs.Imports.{◌≡◌, ℕ, ◌+◌, ◌<◌, ◌≤◌, ◌%◌, ◌^◌, true, List, [], ◌∷◌, ◌++◌, map, length, get_or, take, Contains, Option, Some, None, unwrap_or, refl, sym, ap, subst, ◌∙◌, if◌then◌else◌, arith, is_le, MatchOption, Result, Ok, Err, slice_get, map-map, get_or-map, length-map, length-take, get_or-take, map-append, take_more, slice_get_within, get_or_from_slice_get, All-contains, Image, VolAnswer, IsFaultOrMemory, NameList, WholeRow, AscendsByPath, path_cmp, is_same_path, name_count, row_of, Kind, File, PathTo, NodeId, ArePaths, first_path, first_in, first_leads, first_before, is_least, names_counted, count_map, count_same, in_map, from_map, ReiserItem, ObjectKey, Naming, ObjectStat, stat_of_object, root, kind_of_mode, is_directory, IsNamed, IsObject, KnownObject, Volume, IsContent, IsKnownAt, IsOfVolume, row_by, bytes_at, no_stat, stat_at, kind_by, whole_row, IsOpened, links_in, LeadsToObject, IsLeastPath, IsRow, IsAccepted, AreRowsOf, superblock, volume_items, link_of, HasPaths, node_of, key_at, FitsKey}
 use Rattle.std.proofs.Math.Nat.{mod-eq_of_lt}
-use Rattle.std.specs.Option.{MatchOption}
-use Rattle.std.specs.Prelude.{Result, Ok, Err}
 use Rattle.std.specs.Result.{MatchResult}
-use Rattle.std.proofs.lemmas.Simd.{map-map}
-use Rattle.std.specs.Prelude.{slice_get}
-use Rattle.std.proofs.lemmas.List.{get_or-map, length-map, length-take, get_or-take, map-append, take_more}
-use Rattle.std.proofs.lemmas.Option.{slice_get_within, get_or_from_slice_get}
-use Rattle.std.proofs.lemmas.List.Elements.{All-contains}
-use Rattle.reiser_bitmap.specs.outside.History.{Image}
-use Rattle.reiser_bitmap.specs.refusals.declared.answer.VolAnswer.{VolAnswer}
-use Rattle.reiser_volume_contents.specs.Answers.{IsFaultOrMemory}
-use Rattle.fs_rows.specs.Rows.{NameList, WholeRow, AscendsByPath, path_cmp, is_same_path, name_count, row_of}
 use Rattle.fs_rows.specs.declared.row.Row.{Row}
-use Rattle.fs_rows.specs.declared.row.Kind.{Kind}
-use Rattle.fs_rows.specs.declared.row.Kind.TheVariants.{File}
-use Rattle.fs_paths.specs.declared.link.PathTo.{PathTo}
-use Rattle.fs_paths.specs.declared.node.NodeId.{NodeId}
-use Rattle.fs_paths.specs.Paths.{ArePaths, first_path}
-use Rattle.fs_paths.proofs.FirstPlaces.{first_in, first_leads, first_before, is_least, names_counted}
-use Rattle.fs_paths.proofs.Counts.{count_map, count_same}
-use Rattle.fs_paths.proofs.Lists.{in_map}
-use Rattle.reiser_volume_objects.specs.reiser_walk.Items.{Item}
-use Rattle.reiser_volume_objects.specs.declared.key.ObjectKey.{ObjectKey}
-use Rattle.reiser_volume_objects.specs.declared.naming.Naming.{Naming}
-use Rattle.reiser_volume_objects.specs.declared.stat.ObjectStat.{ObjectStat}
-use Rattle.reiser_volume_objects.specs.Items.{stat_of_object}
-use Rattle.reiser_volume_objects.specs.Keys.{root}
-use Rattle.reiser_volume_objects.specs.Kinds.{kind_of_mode, is_directory}
-use Rattle.reiser_volume_objects.specs.Names.{IsNamed}
-use Rattle.reiser_volume_objects.specs.Rules.{IsObject}
-use Rattle.reiser_volume.specs.declared.row.Known.{Known}
-use Rattle.reiser_volume.specs.declared.volume.Volume.{Volume}
-use Rattle.fs_rows.specs.Content.{IsContent}
-use Rattle.reiser_volume.specs.Made.{IsKnownAt, IsOf, row_by, bytes_at, no_stat, stat_at, kind_by, whole_row}
-use Rattle.reiser_volume.specs.Opened.{IsOpened, links_in}
-use Rattle.reiser_volume.specs.Rows.{Leads, IsLeastPath, IsRow}
-use Rattle.reiser_volume.specs.Volume.{IsAccepted, AreRowsOf, superblock, volume_items}
-use Rattle.reiser_volume.specs.Ways.{link_of, HasPaths}
-use Rattle.fs_paths.proofs.Lists.{from_map}
-use Rattle.reiser_volume_objects.specs.Nodes.{node_of, key_at, Fits}
 use Rattle.reiser_volume.proofs.Leading.{up, down, leads_named}
 
 -- a node whose numbers have 32 bits stands for the object that it was made of
-pub key_back : (node : NodeId) (key : ObjectKey) → Fits node → node ≡ node_of key → key_at node ≡ key
+pub key_back : (node : NodeId) (key : ObjectKey) → FitsKey node → node ≡ node_of key → key_at node ≡ key
 key_back node key fits is =
     let dir : node.space % 2 ^ 32 ≡ key.dir = mod-eq_of_lt fits.space ∙ ap (λ (n : NodeId). n.space) is in
     let object : node.number % 2 ^ 32 ≡ key.object = mod-eq_of_lt fits.number ∙ ap (λ (n : NodeId). n.number) is in
@@ -73,7 +34,7 @@ module _ (image : Image) (list : List PathTo) (p : PathTo) where
       ∙ ap (λ (k : Kind). row_by (superblock image).flags stat k p.path (first_path list p) p.names (bytes_at image items key stat k)) kind_same
 
 module _ (image : Image) (volume : Volume) (list : List PathTo) (accepted : IsAccepted image) (opened : IsOpened volume image) (has : HasPaths volume list) where
-  abbrev items : List Item
+  abbrev items : List ReiserItem
   items = volume_items image
 
   abbrev links : List Naming
@@ -88,10 +49,10 @@ module _ (image : Image) (volume : Volume) (list : List PathTo) (accepted : IsAc
   root_named : IsNamed items root
   root_named = (0, refl)
 
-  leads_to_key : (p : PathTo) → Contains list p → (key : ObjectKey) × (key_at p.target ≡ key) × (p.target ≡ node_of key) × Leads links root p.path key
+  leads_to_key : (p : PathTo) → Contains list p → (key : ObjectKey) × (key_at p.target ≡ key) × (p.target ≡ node_of key) × LeadsToObject links root p.path key
   leads_to_key p among =
       let u = up links root p.target p.path (are.leads p among) in
-      (u.0, key_back p.target u.0 (All-contains (λ (q : PathTo). Fits q.target) list p has.fit among) u.1, u.1, u.2)
+      (u.0, key_back p.target u.0 (All-contains (λ (q : PathTo). FitsKey q.target) list p has.fit among) u.1, u.1, u.2)
 
   pub path_named : (p : PathTo) → Contains list p → IsNamed items (key_at p.target)
   path_named p among =
@@ -106,7 +67,7 @@ module _ (image : Image) (volume : Volume) (list : List PathTo) (accepted : IsAc
       let u = leads_to_key q inside in
       let own = leads_to_key p among in
       record {
-        leads = subst (Leads links root q.path) (sym u.1 ∙ ap key_at to) u.3;
+        leads = subst (LeadsToObject links root q.path) (sym u.1 ∙ ap key_at to) u.3;
         least = λ other leads.
             let w = are.whole other (node_of (key_at p.target)) (down links root (key_at p.target) other leads) in
             let same : w.0.target ≡ p.target = w.3 ∙ (ap node_of own.1 ∙ sym own.2) in
@@ -125,7 +86,7 @@ module _ (image : Image) (volume : Volume) (list : List PathTo) (accepted : IsAc
       let o : IsObject items key = accepted.objects.each key (path_named p among) in
       let u = leads_to_key p among in
       subst (IsRow image (superblock image).flags items links rows key) (sym (row_is image list p o.stat o.kind o.has_stat o.known)) (record {
-        leads = subst (Leads links root p.path) (sym u.1) u.3;
+        leads = subst (LeadsToObject links root p.path) (sym u.1) u.3;
         stat = o.stat;
         has_stat = o.has_stat;
         fields = record { kind = o.known; mode = refl; uid = refl; gid = refl; atime = refl; mtime = refl; ctime = refl; sync = refl; immutable = refl; append = refl; nodump = refl; noatime = refl; major = refl; minor = refl };
@@ -177,7 +138,7 @@ module _ (image : Image) (volume : Volume) (list : List PathTo) (accepted : IsAc
   among : Contains list p
   among = (i, within, get_or_from_slice_get list i p p at)
 
-  pub is_of : IsOf image volume (key_at p.target)
+  pub is_of : IsOfVolume image volume (key_at p.target)
   is_of = record { accepted = accepted; opened = opened; named = path_named image volume list accepted opened has p among }
 
   long : length rows ≡ i
@@ -199,7 +160,7 @@ module _ (image : Image) (volume : Volume) (list : List PathTo) (accepted : IsAc
       ∙ (ap (λ (l : List Row). get_or l p.least row) before
       ∙ (get_or-map made (take i list) p.least p row (omega (arith, low, within, long_take)) ∙ ap made (get_or-take i list p.least p low)))
 
-  module _ (known : Known) (is : IsKnownAt (volume_items image) (key_at p.target) known) where
+  module _ (known : KnownObject) (is : IsKnownAt (volume_items image) (key_at p.target) known) where
     abbrev bytes : List ℕ
     bytes = bytes_at image (volume_items image) (key_at p.target) known.stat known.kind
 

@@ -1,42 +1,24 @@
 -- Keys and bodies of the items decide the rows, with what the files' blocks hold.
-use Rattle.std.proofs.Common.{◌≡◌, ℕ, ◌==◌, Bool, true, false, ◌&&◌, not, List, [], if◌then◌else◌, refl, sym, ap, subst, ◌∙◌}
+use Rattle.reiser_volume.proofs.Imports.{◌≡◌, ℕ, ◌==◌, Bool, true, false, ◌&&◌, not, List, [], if◌then◌else◌, refl, sym, ap, subst, ◌∙◌, Image, WholeRow, Kind, attrs_cleared_bit, ReiserItem, file_bytes, named_decide, ObjectKey, Naming, ObjectStat, stat_of_object, root, items_of, has_bytes, kind_of_mode, is_symlink, IsNamed, AreLinks, SameFileBlocks, ItemsDecideRows, flag, HasStat, IsRow, AreReiserRows}
 use Rattle.std.specs.Prelude.{Some}
 use Rattle.std.specs.Int.{bit_at}
-use Rattle.reiser_bitmap.specs.outside.History.{Image}
-use Rattle.fs_rows.specs.Rows.{WholeRow}
-use Rattle.fs_rows.specs.declared.row.Kind.{Kind}
-use Rattle.reiser_super.specs.Superblock.{attrs_cleared_bit}
-use Rattle.reiser_volume_objects.specs.reiser_walk.Items.{Item}
-use Rattle.reiser_volume_files.specs.Bytes.{file_bytes}
-use Rattle.reiser_volume_files.proofs.Deciding.{named_decide}
-use Rattle.reiser_volume_objects.specs.declared.key.ObjectKey.{ObjectKey}
-use Rattle.reiser_volume_objects.specs.declared.naming.Naming.{Naming}
-use Rattle.reiser_volume_objects.specs.declared.stat.ObjectStat.{ObjectStat}
-use Rattle.reiser_volume_objects.specs.Items.{stat_of_object}
-use Rattle.reiser_volume_objects.specs.Keys.{root, items_of}
-use Rattle.fs_rows.specs.Kinds.{has_bytes}
-use Rattle.reiser_volume_objects.specs.Kinds.{kind_of_mode, is_symlink}
-use Rattle.reiser_volume_objects.specs.Names.{IsNamed}
-use Rattle.reiser_volume_names.specs.Links.{AreLinks}
-use Rattle.reiser_volume.specs.Laws.{SameFileBlocks, ItemsDecideRows}
-use Rattle.reiser_volume.specs.Rows.{flag, HasStat, IsRow, AreReiserRows}
 use Rattle.reiser_volume.proofs.Leading.{leads_named}
 use Rattle.reiser_volume.proofs.Unplaced.{rows_to, rows_from}
 
 -- the files of named objects have the same bytes in both
-abbrev SameBytes : Image → Image → List Item → Type 0
+abbrev SameBytes : Image → Image → List ReiserItem → Type 0
 SameBytes image other items =
     (key : ObjectKey) (stat : ObjectStat) (kind : Kind) → IsNamed items key → stat_of_object items key ≡ Some stat → kind_of_mode stat.fields.mode ≡ Some kind → has_bytes kind ≡ true
     → file_bytes other (items_of key items) stat.fields.size ≡ file_bytes image (items_of key items) stat.fields.size
 
-bytes_from_blocks : (image other : Image) (items : List Item) → SameFileBlocks image other items → SameBytes image other items
+bytes_from_blocks : (image other : Image) (items : List ReiserItem) → SameFileBlocks image other items → SameBytes image other items
 bytes_from_blocks image other items same key stat kind named stated known has =
     named_decide image other (items_of key items) stat.fields.size (λ k low some. same key stat kind k named stated known has low some)
 
 flag_same : (flags others : ℕ) (stat : ObjectStat) (b : ℕ) → bit_at others attrs_cleared_bit ≡ bit_at flags attrs_cleared_bit → flag flags stat b ≡ flag others stat b
 flag_same flags others stat b same = ap (λ (n : ℕ). (n == 1) && (not stat.old_form && (bit_at stat.fields.attrs b == 1))) (sym same)
 
-module _ (image other : Image) (flags others : ℕ) (items : List Item) (same : bit_at others attrs_cleared_bit ≡ bit_at flags attrs_cleared_bit) (bytes : SameBytes image other items) where
+module _ (image other : Image) (flags others : ℕ) (items : List ReiserItem) (same : bit_at others attrs_cleared_bit ≡ bit_at flags attrs_cleared_bit) (bytes : SameBytes image other items) where
   fields_seen : (stat : ObjectStat) (row : WholeRow) → HasStat flags stat row → HasStat others stat row
   fields_seen stat row f = record {
     kind = f.kind;
@@ -83,7 +65,7 @@ module _ (image other : Image) (flags others : ℕ) (items : List Item) (same : 
 pub items_decide_rows : ItemsDecideRows
 items_decide_rows image other flags others items moved reads rows =
     let bytes : SameBytes image other items = bytes_from_blocks image other items reads.blocks in (
-      λ h. rows_from other others moved rows (subst (λ (xs : List Item). AreReiserRows other others xs rows) (sym reads.same) (rows_to other others items rows (rows_seen image other flags others items reads.flagged bytes rows h))),
+      λ h. rows_from other others moved rows (subst (λ (xs : List ReiserItem). AreReiserRows other others xs rows) (sym reads.same) (rows_to other others items rows (rows_seen image other flags others items reads.flagged bytes rows h))),
       λ h. rows_seen other image others flags items (sym reads.flagged) (λ key stat kind named stated known has. sym (bytes key stat kind named stated known has)) rows
-          (rows_from other others items rows (subst (λ (xs : List Item). AreReiserRows other others xs rows) reads.same (rows_to other others moved rows h))),
+          (rows_from other others items rows (subst (λ (xs : List ReiserItem). AreReiserRows other others xs rows) reads.same (rows_to other others moved rows h))),
     )

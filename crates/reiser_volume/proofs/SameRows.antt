@@ -1,50 +1,24 @@
 -- The used blocks of an accepted volume decide the bytes of its files, and so its rows.
-use Rattle.std.proofs.Common.{◌≡◌, ◌≢◌, ◌-◌, ℕ, Bool, true, false, not, ◌&&◌, List, [], length, filter, Contains, if◌then◌else◌, sym, ◌∙◌, ap, subst, true≢false}
-use Rattle.std.specs.List.{list_any}
-use Rattle.std.proofs.lemmas.Bool.{false_from_ne_true, ne_eqb}
-use Rattle.std.proofs.lemmas.List.Elements.{All-contains}
+use Rattle.reiser_volume.proofs.Imports.{◌≡◌, ◌≢◌, ◌-◌, ℕ, Bool, true, false, not, ◌&&◌, List, [], length, filter, Contains, if◌then◌else◌, sym, ◌∙◌, ap, subst, true≢false, list_any, false_from_ne_true, ne_eqb, All-contains, Image, WholeRow, has, ItemKind, Indirect, pointers, is_save_link, BlockPointer, ReiserTree, ReiserItem, is_indirect, is_no_hole, blocks_named, tree_damages, tree_events, reached_in, items_of_tree, Each, each_from_all, all_from_each, sound_exactly, named_block, file_bytes, named_decide, items_name, ObjectKey, Naming, object_key_of, same_key, items_of, has_bytes, SameUsed, IsRow, AreReiserRows}
 use Rattle.std.proofs.lemmas.List.Folds.{list_any-from_Any}
-use Rattle.reiser_bitmap.specs.outside.History.{Image}
-use Rattle.fs_rows.specs.Rows.{WholeRow}
-use Rattle.reiser_bitmap.specs.Bits.{has}
 use Rattle.reiser_bitmap.proofs.Ranges.{contains_filter, filter_contains}
-use Rattle.reiser_volume_objects.specs.reiser_node.declared.head.ItemKind.{ItemKind}
-use Rattle.reiser_volume_objects.specs.reiser_node.declared.head.ItemKind.TheVariants.{Indirect}
-use Rattle.reiser_volume_objects.specs.reiser_items.Pointers.{pointers}
-use Rattle.reiser_volume_objects.specs.reiser_walk.Bodies.{is_save_link}
-use Rattle.reiser_volume_objects.specs.reiser_walk.declared.pointer.Pointer.{Pointer}
-use Rattle.reiser_volume_objects.specs.reiser_walk.declared.tree.Tree.{Tree}
-use Rattle.reiser_volume_objects.specs.reiser_walk.Items.{Item, is_indirect, is_no_hole, blocks_named}
-use Rattle.reiser_volume_objects.specs.reiser_walk.Rules.{tree_damages}
-use Rattle.reiser_volume_objects.specs.reiser_walk.Tree.{tree_events, reached_in, items_of as items_of_tree}
-use Rattle.reiser_volume_objects.proofs.reiser_walk.Lists.{Each, each_from_all, all_from_each}
-use Rattle.reiser_volume_objects.proofs.reiser_walk.Rules.{sound_exactly}
-use Rattle.reiser_volume_files.specs.Bytes.{named_block, file_bytes}
-use Rattle.reiser_volume_files.proofs.Deciding.{named_decide}
-use Rattle.reiser_volume_files.proofs.Sorts.{items_name}
-use Rattle.reiser_volume_objects.specs.declared.key.ObjectKey.{ObjectKey}
-use Rattle.reiser_volume_objects.specs.declared.naming.Naming.{Naming}
-use Rattle.reiser_volume_objects.specs.Keys.{key_of, same_key, items_of}
-use Rattle.fs_rows.specs.Kinds.{has_bytes}
-use Rattle.reiser_volume_contents.specs.Laws.{SameUsed}
 use Rattle.reiser_volume_contents.proofs.Inside.{Names, named_inside}
-use Rattle.reiser_volume.specs.Rows.{IsRow, AreReiserRows}
 
-pub none_saves : (items : List Item) (i : Item) → list_any (λ x. is_save_link x.head) items ≡ false → Contains items i → is_save_link i.head ≡ false
+pub none_saves : (items : List ReiserItem) (i : ReiserItem) → list_any (λ x. is_save_link x.head) items ≡ false → Contains items i → is_save_link i.head ≡ false
 none_saves items i none among =
     false_from_ne_true (is_save_link i.head) (λ is. true≢false (sym (list_any-from_Any (λ x. is_save_link x.head) items (among.0, i, among.1, among.2, is)) ∙ none))
 
 -- a pointer of an indirect item that is no save link, and no hole, is a block that the item names
-pub is_named : (i : Item) (b : ℕ) → i.head.kind ≡ Indirect → is_save_link i.head ≡ false → Contains (pointers i.body) b → b ≢ 0 → Contains (blocks_named i.head i.body) b
+pub is_named : (i : ReiserItem) (b : ℕ) → i.head.kind ≡ Indirect → is_save_link i.head ≡ false → Contains (pointers i.body) b → b ≢ 0 → Contains (blocks_named i.head i.body) b
 is_named i b kind own among some =
     let no_hole : is_no_hole b ≡ true = ap not (ne_eqb b 0 some) in
     subst (λ (k : ItemKind). Contains (if is_indirect k && not (is_save_link i.head) then filter is_no_hole (pointers i.body) else []) b) (sym kind)
     (subst (λ (t : Bool). Contains (if not t then filter is_no_hole (pointers i.body) else []) b) (sym own) (contains_filter is_no_hole (pointers i.body) b no_hole among))
 
 -- the files of a tree with which nothing is wrong, and that has no save link
-module _ (tree : Tree) (image other : Image) (used : List Bool) (sound : tree_damages tree image used ≡ []) (same : SameUsed used image other)
+module _ (tree : ReiserTree) (image other : Image) (used : List Bool) (sound : tree_damages tree image used ≡ []) (same : SameUsed used image other)
     (none : list_any (λ i. is_save_link i.head) (items_of_tree tree image (length used)) ≡ false) where
-  abbrev items : List Item
+  abbrev items : List ReiserItem
   items = items_of_tree tree image (length used)
 
   abbrev Used : ℕ → Type 0
@@ -53,9 +27,9 @@ module _ (tree : Tree) (image other : Image) (used : List Bool) (sound : tree_da
   names_used : Each (Names Used) items
   names_used =
       named_inside Used image (length used) (tree.height - 1) 16 tree.root
-      (each_from_all (λ (p : Pointer). has used p.block ≡ true) (reached_in (tree_events tree image (length used))) ((sound_exactly tree image used).0 sound).all_used)
+      (each_from_all (λ (p : BlockPointer). has used p.block ≡ true) (reached_in (tree_events tree image (length used))) ((sound_exactly tree image used).0 sound).all_used)
 
-  block_used : (i : Item) (b : ℕ) → Contains items i → Contains (blocks_named i.head i.body) b → Used b
+  block_used : (i : ReiserItem) (b : ℕ) → Contains items i → Contains (blocks_named i.head i.body) b → Used b
   block_used i b among named =
       All-contains Used (blocks_named i.head i.body) b (all_from_each Used (blocks_named i.head i.body) (All-contains (Names Used) items i (all_from_each (Names Used) items names_used) among)) named
 
@@ -63,12 +37,12 @@ module _ (tree : Tree) (image other : Image) (used : List Bool) (sound : tree_da
   bytes_same key size =
       named_decide image other (items_of key items) size (λ k low some.
       let n = items_name (items_of key items) k some in
-      let among : Contains items n.item = (filter_contains (λ i. same_key (key_of i.head) key) items n.item n.among).0 in
+      let among : Contains items n.item = (filter_contains (λ i. same_key (object_key_of i.head) key) items n.item n.among).0 in
       same (named_block (items_of key items) k)
       (block_used n.item (named_block (items_of key items) k) among (is_named n.item (named_block (items_of key items) k) n.indirect (none_saves items n.item none among) n.pointer some)))
 
 -- where the files have the same bytes, the rows are the same
-module _ (image other : Image) (flags : ℕ) (items : List Item) (same : (key : ObjectKey) (size : ℕ) → file_bytes other (items_of key items) size ≡ file_bytes image (items_of key items) size) where
+module _ (image other : Image) (flags : ℕ) (items : List ReiserItem) (same : (key : ObjectKey) (size : ℕ) → file_bytes other (items_of key items) size ≡ file_bytes image (items_of key items) size) where
   row_same : (links : List Naming) (rows : List WholeRow) (key : ObjectKey) (row : WholeRow) → IsRow image flags items links rows key row → IsRow other flags items links rows key row
   row_same links rows key row r = record {
     leads = r.leads;

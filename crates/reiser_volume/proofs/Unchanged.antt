@@ -1,40 +1,9 @@
 -- The used blocks decide an accepted volume.
-use Rattle.std.proofs.Common.{◌≡◌, ◌≤◌, ◌↔◌, ◌+◌, ℕ, true, false, Bool, List, [], length, sym, ◌∙◌, ap, subst, arith}
+use Rattle.reiser_volume.proofs.Imports.{◌≡◌, ◌≤◌, ◌↔◌, ◌+◌, ℕ, true, false, Bool, List, [], length, sym, ◌∙◌, ap, subst, arith, list_any, SUPER_BLOCK, Image, block_at, WholeRow, keys, has, bitmap_block, bitmap_of, system_blocks, bitmap_decided, Super, superblock_fields, IsCleanSuper, pending_transactions, IsClean, ReiserTree, is_save_link, ReiserItem, tree_damages, items_of_events, items_of_tree, file_bytes, SameUsed, ObjectKey, stat_of_object, items_of, AreObjects, HasNoted, AreLinks, AreNamedKeys, AreNames, AreReiserRows, IsSameVolume, UsedBlocksDecide, IsOpened, links_in, superblock, used_of, reiser_tree_of, volume_items, AreRowsOf, IsAccepted, IsSoundTree, MarksSystem, Volume}
 use Rattle.std.specs.Prelude.{Contains}
-use Rattle.std.specs.List.{list_any}
-use Rattle.reiser_bitmap.specs.outside.History.{Image, block_at}
-use Rattle.fs_rows.specs.Rows.{WholeRow}
-use Rattle.indexmap.specs.IndexMap.{keys}
-use Rattle.reiser_bitmap.specs.Bits.{has}
-use Rattle.reiser_bitmap.specs.Layout.{bitmap_block, bitmap_of}
-use Rattle.reiser_bitmap.specs.System.{system_blocks}
-use Rattle.reiser_bitmap.proofs.MoreLaws.{bitmap_decided}
 use Rattle.reiser_bitmap.proofs.SystemBlocks.{superblock_in, bitmap_in, journal_in}
-use Rattle.reiser_super.specs.declared.superblock.Super.{Super}
-use Rattle.reiser_super.specs.Superblock.{super_of}
-use Rattle.reiser_super.specs.Rules.{IsCleanSuper}
-use Rattle.reiser_super.specs.Journal.{pending_transactions, IsClean}
 use Rattle.reiser_super.proofs.Footprint.{same_pending}
-use Rattle.reiser_volume_objects.specs.reiser_walk.declared.tree.Tree.{Tree}
-use Rattle.reiser_volume_objects.specs.reiser_walk.Bodies.{is_save_link}
-use Rattle.reiser_volume_objects.specs.reiser_walk.Items.{Item}
-use Rattle.reiser_volume_objects.specs.reiser_walk.Rules.{tree_damages}
-use Rattle.reiser_volume_objects.specs.reiser_walk.Tree.{items_in, items_of as items_of_tree}
-use Rattle.reiser_volume_files.specs.Bytes.{file_bytes}
-use Rattle.reiser_volume_contents.specs.Laws.{SameUsed}
 use Rattle.reiser_volume_contents.proofs.Same.{same_tree}
-use Rattle.reiser_volume_objects.specs.declared.key.ObjectKey.{ObjectKey}
-use Rattle.reiser_volume_objects.specs.Items.{stat_of_object}
-use Rattle.reiser_volume_objects.specs.Keys.{items_of}
-use Rattle.reiser_volume_objects.specs.Rules.{AreObjects}
-use Rattle.reiser_volume_objects.specs.Table.{HasNoted}
-use Rattle.reiser_volume_names.specs.Links.{AreLinks, AreNamedKeys}
-use Rattle.reiser_volume_names.specs.Names.{AreNames}
-use Rattle.reiser_volume.specs.Rows.{AreReiserRows}
-use Rattle.reiser_volume.specs.Laws.{IsSameVolume, UsedBlocksDecide}
-use Rattle.reiser_volume.specs.Opened.{IsOpened, links_in}
-use Rattle.reiser_volume.specs.Volume.{superblock, used_of, tree_of, volume_items, AreRowsOf, IsAccepted, IsSoundTree, MarksSystem}
-use Rattle.reiser_volume.specs.declared.volume.Volume.{Volume}
 use Rattle.reiser_volume.proofs.Holding.{used_length}
 use Rattle.reiser_volume.proofs.SameRows.{bytes_same, rows_same}
 
@@ -43,7 +12,7 @@ abbrev Marks : Super → List Bool → Type 0
 Marks s used = (b : ℕ) → Contains (system_blocks s.blocks s.journal_first s.journal_size) b → has used b ≡ true
 
 -- the superblock's rules ask of the device only that it has room
-clean_elsewhere : (bytes : List ℕ) (device room : ℕ) → (super_of bytes).blocks ≤ room → IsCleanSuper bytes device → IsCleanSuper bytes room
+clean_elsewhere : (bytes : List ℕ) (device room : ℕ) → (superblock_fields bytes).blocks ≤ room → IsCleanSuper bytes device → IsCleanSuper bytes room
 clean_elsewhere bytes device room fits c = record {
   there = omega (arith, c.bounds.blocks, fits);
   magic = c.magic;
@@ -62,11 +31,11 @@ module _ (image other : Image) (a : IsAccepted image) (same : SameUsed (used_of 
   system_same : (b : ℕ) → Contains (system_blocks (superblock image).blocks (superblock image).journal_first (superblock image).journal_size) b → block_at other b ≡ block_at image b
   system_same b h = same b (a.system b h)
 
-  block_same : block_at other 16 ≡ block_at image 16
+  block_same : block_at other SUPER_BLOCK ≡ block_at image SUPER_BLOCK
   block_same = let s = superblock image in system_same 16 (superblock_in s.blocks s.journal_first s.journal_size)
 
   fields_same : superblock other ≡ superblock image
-  fields_same = ap super_of block_same
+  fields_same = ap superblock_fields block_same
 
   clean_same : (superblock image).blocks ≤ length other → IsClean other
   clean_same room =
@@ -74,7 +43,7 @@ module _ (image other : Image) (a : IsAccepted image) (same : SameUsed (used_of 
       let none : pending_transactions s other ≡ [] =
       same_pending s other image (λ place low. system_same (s.journal_first + place) (journal_in s.blocks s.journal_first s.journal_size (s.journal_first + place) (omega arith) (omega (arith, low)))) ∙ a.clean.journal in
       record {
-        superblock = subst (λ (bytes : List ℕ). IsCleanSuper bytes (length other)) (sym block_same) (clean_elsewhere (block_at image 16) (length image) (length other) room a.clean.superblock);
+        superblock = subst (λ (bytes : List ℕ). IsCleanSuper bytes (length other)) (sym block_same) (clean_elsewhere (block_at image SUPER_BLOCK) (length image) (length other) room a.clean.superblock);
         journal = subst (λ (t : Super). pending_transactions t other ≡ []) (sym fields_same) none;
       }
 
@@ -89,21 +58,21 @@ module _ (image other : Image) (a : IsAccepted image) (same : SameUsed (used_of 
 
   tree_sound : IsSoundTree other
   tree_sound =
-      let sound = (same_tree (tree_of (superblock image)) image other (used_of image) a.tree same).sound in
-      subst (λ (t : Super). tree_damages (tree_of t) other (used_of other) ≡ []) (sym fields_same)
-      (subst (λ (used : List Bool). tree_damages (tree_of (superblock image)) other used ≡ []) (sym used_same) sound)
+      let sound = (same_tree (reiser_tree_of (superblock image)) image other (used_of image) a.tree same).sound in
+      subst (λ (t : Super). tree_damages (reiser_tree_of t) other (used_of other) ≡ []) (sym fields_same)
+      (subst (λ (used : List Bool). tree_damages (reiser_tree_of (superblock image)) other used ≡ []) (sym used_same) sound)
 
   items_same : volume_items other ≡ volume_items image
   items_same =
       let s = superblock image in
       let size : length (used_of image) ≡ s.blocks = used_length image in
-      let events = (same_tree (tree_of s) image other (used_of image) a.tree same).events in
-      ap (λ (t : Super). items_of_tree (tree_of t) other t.blocks) fields_same
-      ∙ subst (λ (n : ℕ). items_of_tree (tree_of s) other n ≡ items_of_tree (tree_of s) image n) size (ap items_in events)
+      let events = (same_tree (reiser_tree_of s) image other (used_of image) a.tree same).events in
+      ap (λ (t : Super). items_of_tree (reiser_tree_of t) other t.blocks) fields_same
+      ∙ subst (λ (n : ℕ). items_of_tree (reiser_tree_of s) other n ≡ items_of_tree (reiser_tree_of s) image n) size (ap items_of_events events)
 
   files_same : (key : ObjectKey) (size : ℕ) → file_bytes other (items_of key (volume_items image)) size ≡ file_bytes image (items_of key (volume_items image)) size
   files_same =
-      let t : Tree = tree_of (superblock image) in
+      let t : ReiserTree = reiser_tree_of (superblock image) in
       let same_in : ℕ → Type 0 = λ n. (key : ObjectKey) (size : ℕ) → file_bytes other (items_of key (items_of_tree t image n)) size ≡ file_bytes image (items_of key (items_of_tree t image n)) size in
       let none = subst (λ (n : ℕ). list_any (λ i. is_save_link i.head) (items_of_tree t image n) ≡ false) (sym (used_length image)) a.objects.no_save_link in
       subst same_in (used_length image) (bytes_same t image other (used_of image) a.tree same none)
@@ -114,8 +83,8 @@ rows_both : (image other : Image) → superblock other ≡ superblock image → 
     → (rows : List WholeRow) → AreRowsOf image rows ↔ AreRowsOf other rows
 rows_both image other fields items bytes rows =
     let flags = (superblock image).flags in (
-      λ h. subst (λ (s : Super). AreReiserRows other s.flags (volume_items other) rows) (sym fields) (subst (λ (xs : List Item). AreReiserRows other flags xs rows) (sym items) (rows_same image other flags (volume_items image) bytes rows h)),
-      λ h. rows_same other image flags (volume_items image) (λ key size. sym (bytes key size)) rows (subst (λ (xs : List Item). AreReiserRows other flags xs rows) items (subst (λ (s : Super). AreReiserRows other s.flags (volume_items other) rows) fields h)),
+      λ h. subst (λ (s : Super). AreReiserRows other s.flags (volume_items other) rows) (sym fields) (subst (λ (xs : List ReiserItem). AreReiserRows other flags xs rows) (sym items) (rows_same image other flags (volume_items image) bytes rows h)),
+      λ h. rows_same other image flags (volume_items image) (λ key size. sym (bytes key size)) rows (subst (λ (xs : List ReiserItem). AreReiserRows other flags xs rows) items (subst (λ (s : Super). AreReiserRows other s.flags (volume_items other) rows) fields h)),
     )
 
 pub same_volume : UsedBlocksDecide
@@ -126,8 +95,8 @@ same_volume image other a same room =
         clean = clean_same image other a same room;
         system = system_marked image other a same;
         tree = tree_sound image other a same;
-        objects = subst (λ (is : List Item). AreObjects is) (sym items) a.objects;
-        names = subst (λ (is : List Item). AreNames is) (sym items) a.names;
+        objects = subst (λ (is : List ReiserItem). AreObjects is) (sym items) a.objects;
+        names = subst (λ (is : List ReiserItem). AreNames is) (sym items) a.names;
       };
       fields = fields_same image other a same;
       used = used_same image other a same;
@@ -142,10 +111,10 @@ opened_same volume image other v o =
     record {
       sup = o.sup ∙ sym v.fields;
       bitmap = o.bitmap ∙ sym v.used;
-      noted = subst (λ (items : List Item). HasNoted volume.objects items) back o.noted;
-      are_keys = subst (λ (items : List Item). AreNamedKeys items (keys volume.named)) back o.are_keys;
+      noted = subst (λ (items : List ReiserItem). HasNoted volume.objects items) back o.noted;
+      are_keys = subst (λ (items : List ReiserItem). AreNamedKeys items (keys volume.named)) back o.are_keys;
       ascends = o.ascends;
-      stats = λ key named. o.stats key named ∙ ap (λ (items : List Item). stat_of_object items key) back;
+      stats = λ key named. o.stats key named ∙ ap (λ (items : List ReiserItem). stat_of_object items key) back;
       visible = o.visible;
-      are_links = subst (λ (items : List Item). AreLinks items o.visible (links_in volume)) back o.are_links;
+      are_links = subst (λ (items : List ReiserItem). AreLinks items o.visible (links_in volume)) back o.are_links;
     }

@@ -1,5 +1,6 @@
 -- What is answered of a volume.
 use Rattle.std.specs.Prelude.{◌≡◌, List, Bool, length}
+use Rattle.reiserfs_format.specs.declared.block.TheConstants.{SUPER_BLOCK}
 use Rattle.reiser_bitmap.specs.outside.History.{Image, block_at}
 use Rattle.reiser_bitmap.specs.refusals.declared.answer.VolAnswer.{VolAnswer}
 use Rattle.reiser_bitmap.specs.refusals.declared.answer.VolAnswer.TheVariants.{Refused, Fault, Memory}
@@ -66,7 +67,7 @@ RefusesVolume image Memory = Unit {0}
 -- the fields of a superblock in order
 pub record IsSuperOf (image : Image) (s : Super) : Type 0 where
   pub fields : s ≡ superblock image
-  pub clean : IsCleanSuper (block_at image 16) (length image)
+  pub clean : IsCleanSuper (block_at image SUPER_BLOCK) (length image)
 
 -- superblock, journal and bitmap are in order, and these are the used blocks
 pub record IsBitmapOf (image : Image) (used : List Bool) : Type 0 where

@@ -3,7 +3,7 @@ use Rattle.std.specs.Prelude.{◌≢◌, ◌≤◌, ◌^◌, ℕ, ◌+◌, List,
 use Rattle.reiser_bitmap.specs.outside.History.{Image}
 use Rattle.reiser_volume_objects.specs.reiser_node.declared.head.ItemKind.{ItemKind}
 use Rattle.reiser_volume_objects.specs.reiser_node.declared.head.ItemKind.TheVariants.{Stat, Indirect, Direct, Directory}
-use Rattle.reiser_volume_objects.specs.reiser_walk.Items.{Item}
+use Rattle.reiser_volume_objects.specs.reiser_walk.Items.{ReiserItem}
 use Rattle.reiser_volume_objects.specs.declared.key.ObjectKey.{ObjectKey}
 use Rattle.reiser_volume_objects.specs.declared.naming.Naming.{Naming}
 use Rattle.reiser_volume_objects.specs.Keys.{items_of}
@@ -11,7 +11,7 @@ use Rattle.reiser_volume_names.specs.Links.{AreLinks, AreNamedKeys}
 use Rattle.reiser_volume.specs.Volume.{superblock, volume_items, IsAccepted}
 
 -- the bytes that an item takes of a leaf: its head and its body
-abbrev pub item_bytes : Item → ℕ
+abbrev pub item_bytes : ReiserItem → ℕ
 item_bytes i = 24 + length i.body
 
 -- the bytes of a file that an item itself holds
@@ -21,12 +21,12 @@ direct_length Indirect body = 0
 direct_length Direct body = length body
 direct_length Directory body = 0
 
-abbrev pub direct_bytes : Item → ℕ
+abbrev pub direct_bytes : ReiserItem → ℕ
 direct_bytes i = direct_length i.head.kind i.body
 
 -- Bounds of what a volume has: blocks, bytes of its items, named objects, links with the bytes of their names, and the bytes that
 -- the items of different objects hold.
-pub record IsSmall (image : Image) : Type 0 where
+pub record IsSmallVolume (image : Image) : Type 0 where
   pub blocks : (superblock image).blocks ≤ 2 ^ 29
   pub bytes : sum_by item_bytes (volume_items image) ≤ 2 ^ 41
   pub objects : (keys : List ObjectKey) → AreNamedKeys (volume_items image) keys → length keys ≤ 2 ^ 37
@@ -35,4 +35,4 @@ pub record IsSmall (image : Image) : Type 0 where
   pub direct : (keys : List ObjectKey) → AllPairs (λ a b. a ≢ b) keys → sum_by (λ key. sum_by direct_bytes (items_of key (volume_items image))) keys ≤ 2 ^ 41
 
 abbrev pub AcceptedIsSmall : Type 0
-AcceptedIsSmall = (image : Image) → IsAccepted image → IsSmall image
+AcceptedIsSmall = (image : Image) → IsAccepted image → IsSmallVolume image

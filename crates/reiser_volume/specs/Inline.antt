@@ -5,7 +5,7 @@ use Rattle.fs_rows.specs.declared.row.Kind.TheVariants.{Directory, File, Symlink
 use Rattle.reiser_volume_files.specs.declared.map.RunFrom.{RunFrom}
 use Rattle.reiser_volume_files.specs.declared.map.RunFrom.TheVariants.{Disk, Tail}
 use Rattle.reiser_volume_files.specs.Runs.{block_from}
-use Rattle.reiser_volume_objects.specs.reiser_walk.Items.{Item}
+use Rattle.reiser_volume_objects.specs.reiser_walk.Items.{ReiserItem}
 
 -- a block of a file lies in direct items
 abbrev pub is_tail : Option RunFrom → Bool
@@ -15,12 +15,12 @@ is_tail (Some Tail) = true
 
 -- A file of at most 2048 bytes is inline where that is asked for and its only block lies in direct items: so it has at least
 -- one byte. A symlink always is.
-abbrev pub is_inline : Bool → List Item → ℕ → Kind → Bool
-is_inline inline items size File = inline && (nat_le size 2048 && is_tail (block_from items size 0))
-is_inline inline items size Symlink = true
-is_inline inline items size Directory = false
-is_inline inline items size Character = false
-is_inline inline items size Block = false
-is_inline inline items size Fifo = false
-is_inline inline items size Socket = false
-is_inline inline items size Subvolume = false
+abbrev pub stays_in_tree : Bool → List ReiserItem → ℕ → Kind → Bool
+stays_in_tree inline items size File = inline && (nat_le size 2048 && is_tail (block_from items size 0))
+stays_in_tree inline items size Symlink = true
+stays_in_tree inline items size Directory = false
+stays_in_tree inline items size Character = false
+stays_in_tree inline items size Block = false
+stays_in_tree inline items size Fifo = false
+stays_in_tree inline items size Socket = false
+stays_in_tree inline items size Subvolume = false

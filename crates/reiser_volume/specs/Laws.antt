@@ -7,7 +7,7 @@ use Rattle.fs_rows.specs.Rows.{WholeRow}
 use Rattle.fs_rows.specs.declared.row.Kind.{Kind}
 use Rattle.reiser_volume_contents.specs.Laws.{SameUsed}
 use Rattle.reiser_super.specs.Superblock.{attrs_cleared_bit}
-use Rattle.reiser_volume_objects.specs.reiser_walk.Items.{Item}
+use Rattle.reiser_volume_objects.specs.reiser_walk.Items.{ReiserItem}
 use Rattle.reiser_volume_files.specs.Bytes.{named_block}
 use Rattle.reiser_volume_objects.specs.declared.key.ObjectKey.{ObjectKey}
 use Rattle.reiser_volume_objects.specs.declared.stat.ObjectStat.{ObjectStat}
@@ -45,17 +45,17 @@ abbrev pub RowsAreOne : Type 0
 RowsAreOne = (image : Image) → IsAccepted image → (rows others : List WholeRow) → AreRowsOf image rows → AreRowsOf image others → rows ≡ others
 
 -- the items without the leaves that they lie in: their keys, what else their heads say, and their bodies
-abbrev pub unplaced : List Item → List Item
+abbrev pub unplaced : List ReiserItem → List ReiserItem
 unplaced items = map (λ i. record { leaf = 0; head = i.head; body = i.body }) items
 
 -- The other image has the same in each block that the items of a named file or symlink name for a file block below its size.
-abbrev pub SameFileBlocks : Image → Image → List Item → Type 0
+abbrev pub SameFileBlocks : Image → Image → List ReiserItem → Type 0
 SameFileBlocks image other items =
     (key : ObjectKey) (stat : ObjectStat) (kind : Kind) (k : ℕ) → IsNamed items key → stat_of_object items key ≡ Some stat → kind_of_mode stat.fields.mode ≡ Some kind → has_bytes kind ≡ true
     → 4096 * k < stat.fields.size → named_block (items_of key items) k ≢ 0 → block_at other (named_block (items_of key items) k) ≡ block_at image (named_block (items_of key items) k)
 
 -- All that rows read is the same of both: the superblock's flag for attributes, the items up to where they lie, and the files' blocks.
-pub record ReadsSame (image other : Image) (flags others : ℕ) (items moved : List Item) : Type 0 where
+pub record ReadsSame (image other : Image) (flags others : ℕ) (items moved : List ReiserItem) : Type 0 where
   pub flagged : bit_at others attrs_cleared_bit ≡ bit_at flags attrs_cleared_bit
   pub same : unplaced moved ≡ unplaced items
   pub blocks : SameFileBlocks image other items
@@ -63,5 +63,5 @@ pub record ReadsSame (image other : Image) (flags others : ℕ) (items moved : L
 -- The rows depend on nothing else: not on where the leaves of the items lie.
 abbrev pub ItemsDecideRows : Type 0
 ItemsDecideRows =
-    (image other : Image) (flags others : ℕ) (items moved : List Item) → ReadsSame image other flags others items moved
+    (image other : Image) (flags others : ℕ) (items moved : List ReiserItem) → ReadsSame image other flags others items moved
     → (rows : List WholeRow) → AreReiserRows image flags items rows ↔ AreReiserRows other others moved rows

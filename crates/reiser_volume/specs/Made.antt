@@ -4,9 +4,9 @@ use Rattle.reiser_bitmap.specs.outside.History.{Image}
 use Rattle.fs_rows.specs.Rows.{NameList, WholeRow}
 use Rattle.fs_rows.specs.declared.row.Kind.{Kind}
 use Rattle.fs_rows.specs.declared.row.Kind.TheVariants.{File}
-use Rattle.fs_paths.specs.declared.link.PathTo.{PathTo}
+use Rattle.fs_paths.specs.declared.node_link.PathTo.{PathTo}
 use Rattle.fs_paths.specs.Paths.{first_path}
-use Rattle.reiser_volume_objects.specs.reiser_walk.Items.{Item}
+use Rattle.reiser_volume_objects.specs.reiser_walk.Items.{ReiserItem}
 use Rattle.reiser_volume_files.specs.Bytes.{file_bytes}
 use Rattle.reiser_volume_objects.specs.declared.key.ObjectKey.{ObjectKey}
 use Rattle.reiser_volume_objects.specs.declared.stat.ObjectStat.{ObjectStat}
@@ -15,7 +15,7 @@ use Rattle.reiser_volume_objects.specs.Keys.{items_of}
 use Rattle.fs_rows.specs.Kinds.{is_directory, is_symlink, is_device, has_bytes}
 use Rattle.reiser_volume_objects.specs.Kinds.{kind_of_mode}
 use Rattle.reiser_volume_objects.specs.Names.{IsNamed}
-use Rattle.reiser_volume.specs.declared.row.Known.{Known}
+use Rattle.reiser_volume.specs.declared.row.KnownObject.{KnownObject}
 use Rattle.reiser_volume.specs.declared.volume.Volume.{Volume}
 use Rattle.reiser_volume.specs.Opened.{IsOpened}
 use Rattle.reiser_volume.specs.Rows.{flag, sync_bit, immutable_bit, append_bit, nodump_bit, noatime_bit, major_of, minor_of, time_of}
@@ -46,16 +46,16 @@ row_by flags stat kind path least names bytes = record {
 }
 
 -- the bytes of a file, or of the target of a symlink
-abbrev pub bytes_at : Image → List Item → ObjectKey → ObjectStat → Kind → List ℕ
+abbrev pub bytes_at : Image → List ReiserItem → ObjectKey → ObjectStat → Kind → List ℕ
 bytes_at image items key stat kind = if has_bytes kind then file_bytes image (items_of key items) stat.fields.size else []
 
 -- the stat data of an object and its kind
-pub record IsKnownAt (items : List Item) (key : ObjectKey) (known : Known) : Type 0 where
+pub record IsKnownAt (items : List ReiserItem) (key : ObjectKey) (known : KnownObject) : Type 0 where
   pub stat : stat_of_object items key ≡ Some known.stat
   pub kind : kind_of_mode known.stat.fields.mode ≡ Some known.kind
 
 -- a named object of an accepted volume that was opened
-pub record IsOf (image : Image) (volume : Volume) (key : ObjectKey) : Type 0 where
+pub record IsOfVolume (image : Image) (volume : Volume) (key : ObjectKey) : Type 0 where
   pub accepted : IsAccepted image
   pub opened : IsOpened volume image
   pub named : IsNamed (volume_items image) key
@@ -69,7 +69,7 @@ no_stat = record {
 }
 
 -- the stat data of an object; each named one has it
-abbrev pub stat_at : List Item → ObjectKey → ObjectStat
+abbrev pub stat_at : List ReiserItem → ObjectKey → ObjectStat
 stat_at items key = unwrap_or (stat_of_object items key) no_stat
 
 -- its kind, which is known of each named object

@@ -17,7 +17,7 @@ use Rattle.reiser_volume_names.specs.Links.{AreLinks, AreNamedKeys, object_cmp}
 use Rattle.reiser_volume.specs.Volume.{superblock, used_of, volume_items, MarksSystem, IsSoundTree}
 
 -- superblock, journal, bitmap and tree are in order, and these are the superblock's fields and the used blocks
-pub record IsFound (image : Image) (s : Super) (used : List Bool) : Type 0 where
+pub record IsFoundSound (image : Image) (s : Super) (used : List Bool) : Type 0 where
   pub fields : s ≡ superblock image
   pub clean : IsClean image
   pub system : MarksSystem image

@@ -16,7 +16,7 @@ use Rattle.reiser_volume_objects.specs.Keys.{items_of}
 use Rattle.reiser_volume_objects.specs.Kinds.{kind_of_mode}
 use Rattle.reiser_volume_objects.specs.Names.{IsNamed}
 use Rattle.reiser_volume.specs.Made.{stat_at}
-use Rattle.reiser_volume.specs.Volume.{superblock, used_of, tree_of, volume_items, IsAccepted}
+use Rattle.reiser_volume.specs.Volume.{superblock, used_of, reiser_tree_of, volume_items, IsAccepted}
 
 -- The block holds file block k of a named regular file: the file's items name it for k, and k begins below the file's size.
 pub record Owns (image : Image) (key : ObjectKey) (k block : ℕ) : Type 0 where
@@ -32,7 +32,7 @@ pub record Owns (image : Image) (key : ObjectKey) (k block : ℕ) : Type 0 where
 pub record HoldsData (image : Image) (block : ℕ) : Type 0 where
   pub within : block < (superblock image).blocks
   pub used : has (used_of image) block ≡ true
-  pub no_node : (v : Visit) → Contains (visits (tree_of (superblock image)) image (superblock image).blocks) v → v.to.block ≢ block
+  pub no_node : (v : Visit) → Contains (visits (reiser_tree_of (superblock image)) image (superblock image).blocks) v → v.to.block ≢ block
   pub no_system : ¬ Contains (system_blocks (superblock image).blocks (superblock image).journal_first (superblock image).journal_size) block
 
 -- A block that has an owner holds data, and it has no other one.

@@ -4,7 +4,7 @@ use Rattle.std.specs.Int.{bit_at}
 use Rattle.std.specs.Ordering.{is_le}
 use Rattle.reiser_bitmap.specs.outside.History.{Image}
 use Rattle.reiser_super.specs.Superblock.{attrs_cleared_bit}
-use Rattle.reiser_volume_objects.specs.reiser_walk.Items.{Item}
+use Rattle.reiser_volume_objects.specs.reiser_walk.Items.{ReiserItem}
 use Rattle.reiser_volume_files.specs.Bytes.{file_bytes}
 use Rattle.fs_rows.specs.Rows.{NameList, WholeRow, AscendsByPath, path_cmp, name_count}
 use Rattle.fs_rows.specs.declared.row.Time.{Time}
@@ -18,9 +18,9 @@ use Rattle.reiser_volume_objects.specs.Kinds.{kind_of_mode}
 use Rattle.reiser_volume_names.specs.Links.{AreLinks}
 
 -- from one object to another by the names of a path
-abbrev pub Leads : List Naming → ObjectKey → NameList → ObjectKey → Type 0
-Leads links key [] target = key ≡ target
-Leads links key (name ∷ names) target = (n : Naming) × Contains links n × (n.dir ≡ key) × (n.name ≡ name) × Leads links n.target names target
+abbrev pub LeadsToObject : List Naming → ObjectKey → NameList → ObjectKey → Type 0
+LeadsToObject links key [] target = key ≡ target
+LeadsToObject links key (name ∷ names) target = (n : Naming) × Contains links n × (n.dir ≡ key) × (n.name ≡ name) × LeadsToObject links n.target names target
 
 -- seconds, read without a sign
 abbrev pub time_of : ℕ → Time
@@ -75,12 +75,12 @@ pub record HasStat (flags : ℕ) (stat : ObjectStat) (row : WholeRow) : Type 0 w
 
 -- a path of the object, and no path of it is below
 pub record IsLeastPath (links : List Naming) (key : ObjectKey) (path : NameList) : Type 0 where
-  pub leads : Leads links root path key
-  pub least : (other : NameList) → Leads links root other key → is_le (path_cmp path other) ≡ true
+  pub leads : LeadsToObject links root path key
+  pub least : (other : NameList) → LeadsToObject links root other key → is_le (path_cmp path other) ≡ true
 
 -- the row of a path that leads to an object
-pub record IsRow (image : Image) (flags : ℕ) (items : List Item) (links : List Naming) (rows : List WholeRow) (key : ObjectKey) (row : WholeRow) : Type 0 where
-  pub leads : Leads links root row.path key
+pub record IsRow (image : Image) (flags : ℕ) (items : List ReiserItem) (links : List Naming) (rows : List WholeRow) (key : ObjectKey) (row : WholeRow) : Type 0 where
+  pub leads : LeadsToObject links root row.path key
   pub stat : ObjectStat
   pub has_stat : stat_of_object items key ≡ Some stat
   pub fields : HasStat flags stat row
@@ -89,10 +89,10 @@ pub record IsRow (image : Image) (flags : ℕ) (items : List Item) (links : List
   pub bytes : row.bytes ≡ (if has_bytes row.kind then file_bytes image (items_of key items) stat.fields.size else [])
 
 -- The rows, which ascend by path: one for each path of a named object, and no others.
-pub record AreReiserRows (image : Image) (flags : ℕ) (items : List Item) (rows : List WholeRow) : Type 0 where
+pub record AreReiserRows (image : Image) (flags : ℕ) (items : List ReiserItem) (rows : List WholeRow) : Type 0 where
   pub visible : List Naming
   pub links : List Naming
   pub are_links : AreLinks items visible links
   pub ascends : AscendsByPath rows
   pub each : (row : WholeRow) → Contains rows row → (key : ObjectKey) × IsRow image flags items links rows key row
-  pub whole : (path : NameList) (key : ObjectKey) → Leads links root path key → (row : WholeRow) × Contains rows row × (row.path ≡ path)
+  pub whole : (path : NameList) (key : ObjectKey) → LeadsToObject links root path key → (row : WholeRow) × Contains rows row × (row.path ≡ path)

@@ -6,11 +6,11 @@ ghost use Rattle.reiser_bitmap.specs.outside.History.{OverTold};
 ghost use Rattle.fs_rows.specs.declared.row.Kind.TheVariants.{File, Symlink};
 ghost use Rattle.reiser_volume_contents.specs.Answers.{IsFileAnswer, IsFaultOrMemory};
 ghost use Rattle.fs_rows.specs.Content.{IsContent};
-ghost use Rattle.reiser_volume.specs.Made.{IsKnownAt, IsOf, bytes_at};
+ghost use Rattle.reiser_volume.specs.Made.{IsKnownAt, IsOfVolume, bytes_at};
 ghost use Rattle.reiser_volume.specs.Volume.{volume_items};
 
 use crate::Volume;
-use crate::row::{Known, same_content};
+use crate::row::{KnownObject, same_content};
 use crate::rows::changed;
 use fs_rows::{Content, Kind, Name, Row, no_content};
 use reiser_bitmap::{BlockSource, VolAnswer};
@@ -24,13 +24,13 @@ pub fn content<S: BlockSource>(
     src: &mut S,
     volume: &Volume,
     key: ObjectKey,
-    known: &Known,
+    known: &KnownObject,
     first: Option<&Row>,
 ) -> Result<Content, VolAnswer>
     ensures kept { S.kept src.old src.new }
     ensures cause { HasCauseOf VolAnswer.Fault (S.faults src.old) (S.faults src.new) result }
     ensures answers { IfErr result IsFileAnswer }
-    ensures content { OverTold S.tells (S.blocks src.old) (λ image. IsOf image volume.now key → IsKnownAt (volume_items image) key known.now → (bytes : List ℕ) → bytes ≡ bytes_at image (volume_items image) key known.now.stat known.now.kind →
+    ensures content { OverTold S.tells (S.blocks src.old) (λ image. IsOfVolume image volume.now key → IsKnownAt (volume_items image) key known.now → (bytes : List ℕ) → bytes ≡ bytes_at image (volume_items image) key known.now.stat known.now.kind →
         MatchOption first.entry (Unit {0}) (λ row. IsContent known.now.kind bytes row.now.length row.now.mark row.now.target) →
         MatchResult result (λ c. IsContent known.now.kind bytes c.length c.mark c.target) IsFaultOrMemory) }
 {
@@ -49,12 +49,12 @@ fn read_content<S: BlockSource>(
     src: &mut S,
     volume: &Volume,
     key: ObjectKey,
-    known: &Known,
+    known: &KnownObject,
 ) -> Result<Content, VolAnswer>
     ensures kept { S.kept src.old src.new }
     ensures cause { HasCauseOf VolAnswer.Fault (S.faults src.old) (S.faults src.new) result }
     ensures answers { IfErr result IsFileAnswer }
-    ensures content { OverTold S.tells (S.blocks src.old) (λ image. IsOf image volume.now key → IsKnownAt (volume_items image) key known.now →
+    ensures content { OverTold S.tells (S.blocks src.old) (λ image. IsOfVolume image volume.now key → IsKnownAt (volume_items image) key known.now →
         MatchResult result (λ c. IsContent known.now.kind (bytes_at image (volume_items image) key known.now.stat known.now.kind) c.length c.mark c.target) IsFaultOrMemory) }
 {
     match known.kind {
@@ -78,12 +78,12 @@ fn file_content<S: BlockSource>(
     src: &mut S,
     volume: &Volume,
     key: ObjectKey,
-    known: &Known,
+    known: &KnownObject,
 ) -> Result<Content, VolAnswer>
     ensures kept { S.kept src.old src.new }
     ensures cause { HasCauseOf VolAnswer.Fault (S.faults src.old) (S.faults src.new) result }
     ensures answers { IfErr result IsFileAnswer }
-    ensures content { OverTold S.tells (S.blocks src.old) (λ image. IsOf image volume.now key → IsKnownAt (volume_items image) key known.now →
+    ensures content { OverTold S.tells (S.blocks src.old) (λ image. IsOfVolume image volume.now key → IsKnownAt (volume_items image) key known.now →
         MatchResult result (λ c. IsContent File (bytes_at image (volume_items image) key known.now.stat File) c.length c.mark c.target) IsFaultOrMemory) }
 {
     let size = known.stat.fields.size;
@@ -101,12 +101,12 @@ fn link_content<S: BlockSource>(
     src: &mut S,
     volume: &Volume,
     key: ObjectKey,
-    known: &Known,
+    known: &KnownObject,
 ) -> Result<Content, VolAnswer>
     ensures kept { S.kept src.old src.new }
     ensures cause { HasCauseOf VolAnswer.Fault (S.faults src.old) (S.faults src.new) result }
     ensures answers { IfErr result IsFileAnswer }
-    ensures content { OverTold S.tells (S.blocks src.old) (λ image. IsOf image volume.now key → IsKnownAt (volume_items image) key known.now → known.now.kind ≡ Symlink →
+    ensures content { OverTold S.tells (S.blocks src.old) (λ image. IsOfVolume image volume.now key → IsKnownAt (volume_items image) key known.now → known.now.kind ≡ Symlink →
         MatchResult result (λ c. IsContent Symlink (bytes_at image (volume_items image) key known.now.stat Symlink) c.length c.mark c.target) IsFaultOrMemory) }
 {
     let size = known.stat.fields.size;

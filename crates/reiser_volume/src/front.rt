@@ -7,10 +7,8 @@ ghost use Rattle.reiser_volume.specs.Front.{IsFrontAnswer, IsFrontOf, RefusesFro
 
 use reiser_bitmap::{Bitmap, Block, BlockSource, VolAnswer, VolumeRefusal};
 use reiser_super::{Super, journal_state};
+use reiserfs_format::block::SUPER_BLOCK;
 use std::alloc::Global;
-
-/// The block of the superblock.
-const SUPERBLOCK: u64 = 16;
 
 /// What comes before the tree of a ReiserFS volume that keeps the rules of superblock, journal and bitmap.
 #[derive(Drop)]
@@ -53,11 +51,11 @@ fn read_super<S: BlockSource>(src: &mut S) -> Result<Super, VolAnswer>
     ensures refused { OverTold S.tells (S.blocks src.old) (λ image. IfErr result (RefusesFront image)) }
 {
     let device = src.len();
-    if device <= SUPERBLOCK {
+    if device <= SUPER_BLOCK {
         return Err(VolAnswer::Refused(VolumeRefusal::NotVolume));
     }
     let mut block = Block::zero();
-    src.read(SUPERBLOCK, &mut block)?;
+    src.read(SUPER_BLOCK, &mut block)?;
     let sup = Super::read(&block, device)?;
     Ok(sup)
 }

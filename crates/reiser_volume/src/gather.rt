@@ -4,14 +4,14 @@ ghost use Rattle.std.specs.List.Sorted.{IsStrictlySortedBy};
 ghost use Rattle.indexmap.specs.IndexMap.{keys, get, IsUnique};
 ghost use Rattle.indexmap.specs.IndexSet.{contains};
 ghost use Rattle.reiser_bitmap.specs.outside.History.{Image};
-ghost use Rattle.reiser_volume_objects.specs.reiser_walk.Items.{Item};
+ghost use Rattle.reiser_volume_objects.specs.reiser_walk.Items.{ReiserItem};
 ghost use Rattle.reiser_volume_objects.specs.declared.key.ObjectKey.{ObjectKey as KeyOf};
 ghost use Rattle.reiser_volume_objects.specs.Keys.{same_key};
 ghost use Rattle.reiser_volume_objects.specs.Table.{HasNoted};
 ghost use Rattle.reiser_volume.specs.Answers.{IsVerdict, RefusesVolume};
 ghost use Rattle.reiser_volume_names.specs.Known.{HasStats, is_known};
 ghost use Rattle.reiser_volume_names.specs.Links.{object_cmp};
-ghost use Rattle.reiser_volume.specs.Opened.{IsFound, IsOpened};
+ghost use Rattle.reiser_volume.specs.Opened.{IsFoundSound, IsOpened};
 ghost use Rattle.reiser_volume_names.specs.Passes.{link_list};
 ghost use Rattle.reiser_volume.specs.Volume.{IsAccepted, volume_items};
 
@@ -31,7 +31,7 @@ pub fn gather(
     bitmap: Bitmap,
     objects: Objects,
 ) -> Result<Volume, VolAnswer>
-    ensures gathered { (image : Image) → IsFound image sup bitmap → HasNoted objects (volume_items image)
+    ensures gathered { (image : Image) → IsFoundSound image sup bitmap → HasNoted objects (volume_items image)
         → MatchResult result (λ volume. IsAccepted image × IsOpened volume image) (RefusesVolume image) }
     ensures answers { IfErr result IsVerdict }
 {
@@ -64,7 +64,7 @@ fn table_of(
     objects: &Objects,
     named: &IndexSet<ObjectKey>,
 ) -> Result<IndexMap<ObjectKey, ObjectStat>, Memory>
-    ensures stats { (items : List Item) → HasNoted objects.now items → IfOk result (λ table. HasStats items table named.now.keys) }
+    ensures stats { (items : List ReiserItem) → HasNoted objects.now items → IfOk result (λ table. HasStats items table named.now.keys) }
     ensures once { IfOk result (IsUnique same_key) }
     ensures ascends { IfOk result (λ table. IsStrictlySortedBy object_cmp (keys table)) }
 {
@@ -82,7 +82,7 @@ fn add_stat(
     objects: &Objects,
     key: ObjectKey,
 ) -> Result<(), Memory>
-    ensures { (items : List Item) (seen : List KeyOf) → HasNoted objects.now items → HasStats items table.old seen → OnOk result (HasStats items table.new (seen ++ key ∷ [])) }
+    ensures { (items : List ReiserItem) (seen : List KeyOf) → HasNoted objects.now items → HasStats items table.old seen → OnOk result (HasStats items table.new (seen ++ key ∷ [])) }
 {
     match objects.stat(key) {
         Some(stat) => {

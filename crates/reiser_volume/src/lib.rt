@@ -8,9 +8,9 @@ mod content;
 mod files;
 mod front;
 mod gather;
+mod inode_numbers;
 mod laws;
 mod links;
-mod numbers;
 mod open;
 mod row;
 mod rows;
@@ -18,12 +18,12 @@ mod volume;
 mod ways;
 
 pub use front::Front;
+pub use inode_numbers::InodeNumbers;
 pub use laws::{
     accepted_is_small, fronts_are_judged, items_decide_rows, maps_tell_owned, owners_are_one,
     refusals_break_rules, rows_are_one, used_blocks_decide,
 };
 pub use links::Link;
-pub use numbers::Numbers;
 pub use reiser_bitmap::{
     Access, Block, BlockNo, BlockSource, BtrAnswer, Cached, Disk, Fault, Format, Ids, Memory, Room,
     Rule, Sink, VolAnswer, VolumeRefusal, format_of,

@@ -5,10 +5,10 @@ ghost use Rattle.fs_rows.specs.Kinds.{is_device};
 ghost use Rattle.reiser_volume.specs.Made.{row_by};
 ghost use Rattle.reiser_volume.specs.Rows.{flag, major_of, minor_of, time_of};
 
-use fs_rows::{Content, Kind, Row, Spot, Time};
+use fs_rows::{Content, Kind, Row, RowPlace, Time};
 use reiser_bitmap::Memory;
-use reiser_super::ATTRS_CLEARED;
 use reiser_volume_objects::ObjectStat;
+use reiserfs_format::block::ATTRS_CLEARED;
 
 /// Bits of the attributes of stat data. The names are those of the kernel: `REISERFS_SYNC_FL` is 8.
 const SYNC_BIT: u32 = 3;
@@ -23,13 +23,13 @@ const NOATIME_BIT: u32 = 7;
 
 /// The stat data of an object, and its kind.
 #[derive(Clone, Copy)]
-pub struct Known {
+pub struct KnownObject {
     pub stat: ObjectStat,
     pub kind: Kind,
 }
 
 /// The row of an object of a volume with these flags in the superblock.
-pub fn make_row(spot: Spot, flags: u32, known: &Known, content: Content) -> Row
+pub fn make_row(spot: RowPlace, flags: u32, known: &KnownObject, content: Content) -> Row
     ensures { (bytes : List ℕ) → IsContent known.now.kind bytes content.length content.mark content.target → result ≡ row_of (row_by flags known.now.stat known.now.kind spot.path spot.least spot.names bytes) }
 {
     let fields = known.stat.fields;

@@ -7,9 +7,9 @@ ghost use Rattle.reiser_bitmap.specs.refusals.declared.answer.VolAnswer.TheVaria
 ghost use Rattle.reiser_bitmap.specs.refusals.declared.refusal.VolumeRefusal.TheVariants.{Damaged};
 ghost use Rattle.reiser_bitmap.specs.refusals.declared.rule.Rule.TheVariants.{Reread};
 ghost use Rattle.fs_rows.specs.Rows.{WholeRow, row_of};
-ghost use Rattle.fs_paths.specs.declared.link.PathTo.{PathTo as PathOf};
+ghost use Rattle.fs_paths.specs.declared.node_link.PathTo.{PathTo as PathOf};
 ghost use Rattle.reiser_volume_contents.specs.Answers.{IsFileAnswer, IsFaultOrMemory};
-ghost use Rattle.reiser_volume.specs.Made.{IsKnownAt, IsOf, whole_row};
+ghost use Rattle.reiser_volume.specs.Made.{IsKnownAt, IsOfVolume, whole_row};
 ghost use Rattle.reiser_volume.specs.Opened.{IsOpened};
 ghost use Rattle.reiser_volume.specs.Volume.{AreRowsOf, IsAccepted, volume_items};
 ghost use Rattle.reiser_volume_objects.specs.Nodes.{key_at};
@@ -17,10 +17,10 @@ ghost use Rattle.reiser_volume.specs.Ways.{HasPaths};
 
 use crate::Volume;
 use crate::content::content;
-use crate::row::{Known, make_row};
+use crate::row::{KnownObject, make_row};
 use crate::ways::paths_of;
 use fs_paths::PathTo;
-use fs_rows::{Row, Rows, Spot};
+use fs_rows::{Row, RowPlace, Rows};
 use reiser_bitmap::{BlockNo, BlockSource, Memory, Rule, VolAnswer, VolumeRefusal};
 use reiser_volume_objects::{ObjectKey, key_at, kind_of_mode};
 use std::alloc::Global;
@@ -98,7 +98,7 @@ fn first_row<'a>(rows: &'a Rows, path: &PathTo) -> Option<&'a Row>
 }
 
 /// Where a row stands, with the row of the first path to the same object if that is an earlier one.
-fn spot(path: &PathTo, first: Option<&Row>) -> Result<Spot, Memory>
+fn spot(path: &PathTo, first: Option<&Row>) -> Result<RowPlace, Memory>
     ensures path { IfOk result (λ spot. spot.path ≡ path.now.path) }
     ensures names { IfOk result (λ spot. spot.names ≡ path.now.names) }
     ensures least { IfOk result (λ spot. MatchOption first.entry (spot.least ≡ path.now.path) (λ row. spot.least ≡ row.now.path)) }
@@ -107,7 +107,7 @@ fn spot(path: &PathTo, first: Option<&Row>) -> Result<Spot, Memory>
         Some(row) => row.path.clone()?,
         None => path.path.clone()?,
     };
-    Ok(Spot {
+    Ok(RowPlace {
         path: path.path.clone()?,
         least,
         names: path.names,
@@ -115,10 +115,10 @@ fn spot(path: &PathTo, first: Option<&Row>) -> Result<Spot, Memory>
 }
 
 /// The stat data of an object. That a named object of an opened volume has none, or one of no kind, cannot be.
-fn known(volume: &Volume, key: ObjectKey) -> Result<Known, VolAnswer>
+fn known(volume: &Volume, key: ObjectKey) -> Result<KnownObject, VolAnswer>
     ensures answers { IfErr result IsFileAnswer }
     ensures cause { (before : ℕ) → HasCauseOf VolAnswer.Fault before before result }
-    ensures known { (image : Image) → IsOf image volume.now key → MatchResult result (IsKnownAt (volume_items image) key) (λ _. ⊥) }
+    ensures known { (image : Image) → IsOfVolume image volume.now key → MatchResult result (IsKnownAt (volume_items image) key) (λ _. ⊥) }
 {
     let Some(stat) = volume.objects.stat(key) else {
         return Err(changed(volume.sup.root));
@@ -126,7 +126,7 @@ fn known(volume: &Volume, key: ObjectKey) -> Result<Known, VolAnswer>
     let Some(kind) = kind_of_mode(stat.fields.mode) else {
         return Err(changed(stat.leaf));
     };
-    Ok(Known { stat, kind })
+    Ok(KnownObject { stat, kind })
 }
 
 /// What is answered where a block reads otherwise than when the volume was opened.

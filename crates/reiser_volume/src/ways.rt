@@ -5,11 +5,11 @@ ghost use Rattle.reiser_volume_names.specs.Known.{is_known};
 ghost use Rattle.reiser_volume.specs.Opened.{IsOpened, links_in};
 ghost use Rattle.reiser_volume_names.specs.Passes.{is_link};
 ghost use Rattle.reiser_volume.specs.Volume.{IsAccepted};
-ghost use Rattle.reiser_volume_objects.specs.Nodes.{Fits};
+ghost use Rattle.reiser_volume_objects.specs.Nodes.{FitsKey};
 ghost use Rattle.reiser_volume.specs.Ways.{link_of, HasPaths};
 
 use crate::Volume;
-use fs_paths::{Link, PathTo, paths};
+use fs_paths::{NodeLink, PathTo, paths};
 use reiser_bitmap::Memory;
 use reiser_volume_objects::{Naming, ROOT, node_of};
 use std::alloc::Global;
@@ -23,9 +23,9 @@ pub fn paths_of(alloc: Global, volume: &Volume) -> Result<Vec<PathTo>, Memory>
 }
 
 /// The links of a volume.
-fn links_of(alloc: Global, volume: &Volume) -> Result<Vec<Link>, Memory>
+fn links_of(alloc: Global, volume: &Volume) -> Result<Vec<NodeLink>, Memory>
     ensures links { IfOk result (λ links. links.items ≡ map link_of (links_in volume.now)) }
-    ensures fit { IfOk result (λ links. All (λ l. Fits l.target) links.items) }
+    ensures fit { IfOk result (λ links. All (λ l. FitsKey l.target) links.items) }
 {
     let mut links = Vec::new(alloc);
     for naming in &volume.objects.namings {
@@ -35,9 +35,9 @@ fn links_of(alloc: Global, volume: &Volume) -> Result<Vec<Link>, Memory>
 }
 
 /// Adds an entry, if it is a link.
-fn add_link(links: &mut Vec<Link>, volume: &Volume, naming: &Naming) -> Result<(), Memory>
+fn add_link(links: &mut Vec<NodeLink>, volume: &Volume, naming: &Naming) -> Result<(), Memory>
     ensures links { OnOk result (links.new.items ≡ links.old.items ++ (if is_link (is_known volume.now.named) naming.now then link_of naming.now ∷ [] else [])) }
-    ensures fit { OnOk result (All (λ l. Fits l.target) links.old.items → All (λ l. Fits l.target) links.new.items) }
+    ensures fit { OnOk result (All (λ l. FitsKey l.target) links.old.items → All (λ l. FitsKey l.target) links.new.items) }
 {
     if volume.is_link(naming) {
         links.push(link_of(naming)?)?;
@@ -45,11 +45,11 @@ fn add_link(links: &mut Vec<Link>, volume: &Volume, naming: &Naming) -> Result<(
     Ok(())
 }
 
-fn link_of(naming: &Naming) -> Result<Link, Memory>
+fn link_of(naming: &Naming) -> Result<NodeLink, Memory>
     ensures link { IfOk result (λ link. link ≡ link_of naming.now) }
-    ensures fits { IfOk result (λ link. Fits link.target) }
+    ensures fits { IfOk result (λ link. FitsKey link.target) }
 {
-    Ok(Link {
+    Ok(NodeLink {
         dir: node_of(naming.dir),
         target: node_of(naming.target),
         name: naming.name.clone()?,

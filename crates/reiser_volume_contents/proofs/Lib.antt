@@ -1,5 +1,6 @@
 pub mod Begins
 pub mod Files
+pub mod Imports
 pub mod Inside
 pub mod Looking
 pub mod Naming

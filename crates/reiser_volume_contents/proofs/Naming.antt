@@ -1,11 +1,5 @@
 -- Which leaf a refusal names.
-use Rattle.std.proofs.Common.{◌≡◌, ℕ, List, Result, Ok, Err, IfErr, subst, sym}
-use Rattle.reiser_volume_objects.specs.refusals.declared.answer.VolAnswer.{VolAnswer}
-use Rattle.reiser_volume_objects.specs.refusals.declared.answer.VolAnswer.TheVariants.{Refused, Fault, Memory}
-use Rattle.reiser_volume_objects.specs.declared.key.ObjectKey.{ObjectKey}
-use Rattle.reiser_volume_objects.specs.reiser_walk.Items.{Item}
-use Rattle.reiser_volume_contents.specs.Answers.{NamesBlock, NamesLeaf, NamesOwnLeaf}
-use Rattle.reiser_volume_contents.specs.Reads.{IsFrom, Starts}
+use Rattle.reiser_volume_contents.proofs.Imports.{◌≡◌, ℕ, List, Result, Ok, Err, IfErr, subst, sym, VolAnswer, Refused, Fault, Memory, ObjectKey, ReiserItem, NamesBlock, NamesLeaf, NamesOwnLeaf, IsFrom, Starts}
 
 -- a refusal of a leaf from a place on
 pub names_leaf : (first : ℕ) (leaves : List ℕ) (block : ℕ) (e : VolAnswer) → IsFrom first leaves block → NamesBlock block e → NamesLeaf first leaves e
@@ -14,7 +8,7 @@ names_leaf first leaves block Fault from named = tt
 names_leaf first leaves block Memory from named = tt
 
 -- from where the object begins on
-pub names_own : {T : Type 0} (key : ObjectKey) (items : List Item) (leaves : List ℕ) (first : ℕ) (result : Result T VolAnswer) → Starts key items leaves first
+pub names_own : {T : Type 0} (key : ObjectKey) (items : List ReiserItem) (leaves : List ℕ) (first : ℕ) (result : Result T VolAnswer) → Starts key items leaves first
     → IfErr result (NamesLeaf first leaves) → IfErr result (NamesOwnLeaf key items leaves)
 names_own key items leaves first (Ok x) starts names = tt
 names_own key items leaves first (Err (Refused r)) starts names = (first, starts, names)
@@ -22,7 +16,7 @@ names_own key items leaves first (Err Fault) starts names = tt
 names_own key items leaves first (Err Memory) starts names = tt
 
 -- want of memory names none
-pub memory_names : {T : Type 0} (key : ObjectKey) (items : List Item) (leaves : List ℕ) (result : Result T VolAnswer) → IfErr result (λ e. e ≡ Memory)
+pub memory_names : {T : Type 0} (key : ObjectKey) (items : List ReiserItem) (leaves : List ℕ) (result : Result T VolAnswer) → IfErr result (λ e. e ≡ Memory)
     → IfErr result (NamesOwnLeaf key items leaves)
 memory_names key items leaves (Ok x) is = tt
 memory_names key items leaves (Err e) is = subst (NamesOwnLeaf key items leaves) (sym is) tt

@@ -1,27 +1,11 @@
 -- The items of an object stand in its first leaf and in those behind it.
-use Rattle.std.proofs.Common.{◌≡◌, ◌≢◌, ◌⊎◌, inl, inr, ◌≤◌, ◌<◌, ℕ, zero, suc, nat_eq, Bool, true, false, IsSome, List, [], ◌∷◌, ◌++◌, length, map, take, drop, Option, Some, None, if◌then◌else◌, refl, sym, ◌∙◌, ap, subst, append_assoc, ⊎_elim, arith}
-use Rattle.std.specs.List.{dedup_from, flat_map}
-use Rattle.std.proofs.lemmas.Bool.{eqb-true}
-use Rattle.std.proofs.lemmas.Bool.Decides.{nat_tests}
-use Rattle.std.proofs.lemmas.List.{map-append}
-use Rattle.std.proofs.lemmas.List.Concat.{flat_map-append}
+use Rattle.reiser_volume_contents.proofs.Imports.{◌≡◌, ◌≢◌, ◌⊎◌, inl, inr, ◌≤◌, ◌<◌, ℕ, zero, suc, nat_eq, Bool, true, false, IsSome, List, [], ◌∷◌, ◌++◌, length, map, take, drop, Option, Some, None, if◌then◌else◌, refl, sym, ◌∙◌, ap, subst, append_assoc, ⊎_elim, arith, dedup_from, flat_map, eqb-true, nat_tests, map-append, flat_map-append, Image, block_at, ItemHead, ItemKind, kind_at, head_at, head_of_kind, IsLeaf, count, head_place, ReiserItem, item_of, item_at, Each, ObjectKey, items_of, object_key_of, same_key, without_repeats, leaves_of, IsFirstLeaf, listed, items_from, leaf_items}
 use Rattle.std.proofs.lemmas.List.Elements.{filter-append}
-use Rattle.reiser_volume_objects.specs.outside.History.{Image, block_at}
-use Rattle.reiser_volume_objects.specs.reiser_node.declared.head.ItemHead.{ItemHead}
-use Rattle.reiser_volume_objects.specs.reiser_node.declared.head.ItemKind.{ItemKind}
-use Rattle.reiser_volume_objects.specs.reiser_node.Head.{kind_at, head_at, head_of_kind}
-use Rattle.reiser_volume_objects.specs.reiser_node.Leaf.{IsLeaf, count, head_place}
-use Rattle.reiser_volume_objects.specs.reiser_walk.Items.{Item, item_of, item_at}
-use Rattle.reiser_volume_objects.proofs.reiser_walk.Lists.{Each}
-use Rattle.reiser_volume_objects.specs.declared.key.ObjectKey.{ObjectKey}
-use Rattle.reiser_volume_objects.specs.Keys.{items_of, key_of, same_key}
-use Rattle.reiser_volume_objects.specs.Leaves.{without_repeats, leaves_of, IsFirstLeaf}
-use Rattle.reiser_volume_contents.specs.Reads.{listed, items_from, leaf_items}
 use Rattle.reiser_volume_contents.proofs.Same.{each_append}
 use Rattle.reiser_volume_contents.proofs.Trees.{Distinct}
 
-abbrev leaf_numbers : List Item → List ℕ
-leaf_numbers items = map (λ (i : Item). i.leaf) items
+abbrev leaf_numbers : List ReiserItem → List ℕ
+leaf_numbers items = map (λ (i : ReiserItem). i.leaf) items
 
 -- each item of a leaf has its block
 one_leaf : (b : ℕ) (bytes : List ℕ) (i : ℕ) (o : Option ItemHead) → Each (λ n. n ≡ b) (leaf_numbers (listed (item_of b bytes i o)))
@@ -31,7 +15,7 @@ one_leaf b bytes i (Some head) = (refl, tt)
 all_leaf : (b : ℕ) (bytes : List ℕ) (i k : ℕ) → Each (λ n. n ≡ b) (leaf_numbers (items_from b bytes i k))
 all_leaf b bytes i zero = tt
 all_leaf b bytes i (suc k) =
-    subst (λ (ns : List ℕ). Each (λ n. n ≡ b) ns) (sym (map-append (λ (x : Item). x.leaf) (listed (item_at b bytes i)) (items_from b bytes (suc i) k)))
+    subst (λ (ns : List ℕ). Each (λ n. n ≡ b) ns) (sym (map-append (λ (x : ReiserItem). x.leaf) (listed (item_at b bytes i)) (items_from b bytes (suc i) k)))
     (each_append (λ n. n ≡ b) (leaf_numbers (listed (item_at b bytes i))) (leaf_numbers (items_from b bytes (suc i) k)) (one_leaf b bytes i (head_at bytes (head_place i))) (all_leaf b bytes (suc i) k))
 
 -- the numbers of a leaf that has an item
@@ -53,7 +37,7 @@ some_kind None h = absurd cc
 some_kind (Some k) h = (k, refl)
 
 -- an item of a leaf is there
-pub item_there : (b : ℕ) (bytes : List ℕ) (i : ℕ) → IsLeaf bytes → i < count bytes → (x : Item) × (item_at b bytes i ≡ Some x)
+pub item_there : (b : ℕ) (bytes : List ℕ) (i : ℕ) → IsLeaf bytes → i < count bytes → (x : ReiserItem) × (item_at b bytes i ≡ Some x)
 item_there b bytes i leaf within =
     let kind = some_kind (kind_at bytes (head_place i)) (leaf.each i within).known in
     let head = known_head bytes (head_place i) (kind_at bytes (head_place i)) kind.0 kind.1 in
@@ -88,7 +72,7 @@ module _ (image : Image) where
   numbers bs = leaf_numbers (flat_map (leaf_items image) bs)
 
   numbers_next : (b : ℕ) (bs : List ℕ) → leaf_numbers (flat_map (leaf_items image) (b ∷ bs)) ≡ leaf_numbers (leaf_items image b) ++ leaf_numbers (flat_map (leaf_items image) bs)
-  numbers_next b bs = map-append (λ (x : Item). x.leaf) (leaf_items image b) (flat_map (leaf_items image) bs)
+  numbers_next b bs = map-append (λ (x : ReiserItem). x.leaf) (leaf_items image b) (flat_map (leaf_items image) bs)
 
   runs_from : (k : ℕ) (bs : List ℕ) → Each (λ b. IsLeaf (block_at image b)) bs → Distinct (k ∷ bs) → dedup_from nat_eq k (leaf_numbers (flat_map (leaf_items image) bs)) ≡ k ∷ bs
   runs_from k [] leaves distinct = refl
@@ -107,13 +91,13 @@ module _ (image : Image) where
       ∙ (skipped b w.rest (leaf_numbers (flat_map (leaf_items image) bs)) w.all ∙ runs_from b bs leaves.1 distinct)
 
 -- a list in two ways in two parts
-split_two : (xs ys us vs : List Item) → xs ++ ys ≡ us ++ vs → ((ws : List Item) × (us ≡ xs ++ ws)) ⊎ ((w : Item) × (ws : List Item) × (us' : List Item) × (xs ≡ us ++ (w ∷ ws)) × (vs ≡ w ∷ us'))
+split_two : (xs ys us vs : List ReiserItem) → xs ++ ys ≡ us ++ vs → ((ws : List ReiserItem) × (us ≡ xs ++ ws)) ⊎ ((w : ReiserItem) × (ws : List ReiserItem) × (us' : List ReiserItem) × (xs ≡ us ++ (w ∷ ws)) × (vs ≡ w ∷ us'))
 split_two [] ys us vs h = inl (us, refl)
 split_two (x ∷ xs) ys [] vs h = inr (x, xs, xs ++ ys, refl, sym h)
 split_two (x ∷ xs) ys (u ∷ us) vs h =
     let first : x ≡ u = cc in
     let others : xs ++ ys ≡ us ++ vs = cc in
-    ⊎_elim (λ p. inl (p.0, rw first (ap (λ (z : List Item). u ∷ z) p.1))) (λ p. inr (p.0, p.1, p.2, rw first (ap (λ (z : List Item). u ∷ z) p.3), p.4)) (split_two xs ys us vs others)
+    ⊎_elim (λ p. inl (p.0, rw first (ap (λ (z : List ReiserItem). u ∷ z) p.1))) (λ p. inr (p.0, p.1, p.2, rw first (ap (λ (z : List ReiserItem). u ∷ z) p.3), p.4)) (split_two xs ys us vs others)
 
 -- more numbers, and no fewer runs
 some_kept : (k : ℕ) (ns : List ℕ) → 1 ≤ length (dedup_from nat_eq k ns)
@@ -133,10 +117,10 @@ more_from k (n ∷ ns) ms = by (nat_eq n k) (more_from k ns ms) (more_from n ns 
     by true here other = here
     by false here other = omega (arith, other)
 
-more_runs : (xs ys : List Item) → length (leaves_of xs) ≤ length (leaves_of (xs ++ ys))
+more_runs : (xs ys : List ReiserItem) → length (leaves_of xs) ≤ length (leaves_of (xs ++ ys))
 more_runs [] ys = omega arith
 more_runs (x ∷ xs) ys =
-    subst (λ (ns : List ℕ). length (dedup_from nat_eq x.leaf (leaf_numbers xs)) ≤ length (dedup_from nat_eq x.leaf ns)) (sym (map-append (λ (i : Item). i.leaf) xs ys)) (more_from x.leaf (leaf_numbers xs) (leaf_numbers ys))
+    subst (λ (ns : List ℕ). length (dedup_from nat_eq x.leaf (leaf_numbers xs)) ≤ length (dedup_from nat_eq x.leaf ns)) (sym (map-append (λ (i : ReiserItem). i.leaf) xs ys)) (more_from x.leaf (leaf_numbers xs) (leaf_numbers ys))
 
 -- the first part of leaves
 each_take : (P : ℕ → Type 0) (n : ℕ) (bs : List ℕ) → Each P bs → Each P (take n bs)
@@ -159,27 +143,27 @@ taken_dropped zero bs = refl
 taken_dropped (suc n) [] = refl
 taken_dropped (suc n) (b ∷ bs) = ap (λ (z : List ℕ). b ∷ z) (taken_dropped n bs)
 
-none_left : (xs ys : List Item) → xs ++ ys ≡ [] → xs ≡ []
+none_left : (xs ys : List ReiserItem) → xs ++ ys ≡ [] → xs ≡ []
 none_left [] ys h = refl
 none_left (x ∷ xs) ys h = absurd cc
 
 -- the items of the object from its first leaf on are all its items
-pub from_first : (image : Image) (bs : List ℕ) (key : ObjectKey) (items : List Item) (place : ℕ) → Each (λ b. IsLeaf (block_at image b)) bs → Distinct bs
+pub from_first : (image : Image) (bs : List ℕ) (key : ObjectKey) (items : List ReiserItem) (place : ℕ) → Each (λ b. IsLeaf (block_at image b)) bs → Distinct bs
     → items ≡ flat_map (leaf_items image) bs → IsFirstLeaf key items place → items_of key (flat_map (leaf_items image) (drop place bs)) ≡ items_of key items
 from_first image bs key items place leaves distinct is first =
-    let pre : List Item = flat_map (leaf_items image) (take place bs) in
-    let suf : List Item = flat_map (leaf_items image) (drop place bs) in
+    let pre : List ReiserItem = flat_map (leaf_items image) (take place bs) in
+    let suf : List ReiserItem = flat_map (leaf_items image) (drop place bs) in
     let parts : items ≡ pre ++ suf = is ∙ (ap (flat_map (leaf_items image)) (sym (taken_dropped place bs)) ∙ flat_map-append (leaf_items image) (take place bs) (drop place bs)) in
     let few : length (leaves_of pre) ≤ place =
     subst (λ (ns : List ℕ). length ns ≤ place) (sym (leaves_are image (take place bs) (each_take (λ b. IsLeaf (block_at image b)) place bs leaves) (distinct_take place bs distinct))) (few_taken place bs) in
     let none : items_of key pre ≡ [] =
     ⊎_elim
-    (λ p. none_left (items_of key pre) (items_of key p.0) (sym (filter-append (λ x. same_key (key_of x.head) key) pre p.0) ∙ (sym (ap (items_of key) p.1) ∙ first.none_before)))
+    (λ p. none_left (items_of key pre) (items_of key p.0) (sym (filter-append (λ x. same_key (object_key_of x.head) key) pre p.0) ∙ (sym (ap (items_of key) p.1) ∙ first.none_before)))
     (λ p.
     let same : first.first ≡ p.0 = cc in
-    let split : pre ≡ (first.before ++ first.first ∷ []) ++ p.1 = p.3 ∙ (ap (λ (w : Item). first.before ++ (w ∷ p.1)) (sym same) ∙ sym (append_assoc first.before (first.first ∷ []) p.1)) in
+    let split : pre ≡ (first.before ++ first.first ∷ []) ++ p.1 = p.3 ∙ (ap (λ (w : ReiserItem). first.before ++ (w ∷ p.1)) (sym same) ∙ sym (append_assoc first.before (first.first ∷ []) p.1)) in
     let more : length (leaves_of (first.before ++ first.first ∷ [])) ≤ length (leaves_of pre) =
-    subst (λ (xs : List Item). length (leaves_of (first.before ++ first.first ∷ [])) ≤ length (leaves_of xs)) (sym split) (more_runs (first.before ++ first.first ∷ []) p.1) in
+    subst (λ (xs : List ReiserItem). length (leaves_of (first.before ++ first.first ∷ [])) ≤ length (leaves_of xs)) (sym split) (more_runs (first.before ++ first.first ∷ []) p.1) in
     absurd (omega (arith, more, few, first.here)))
     (split_two pre suf first.before (first.first ∷ first.after) (sym parts ∙ first.split)) in
-    sym (ap (items_of key) parts ∙ (filter-append (λ x. same_key (key_of x.head) key) pre suf ∙ ap (λ (z : List Item). z ++ items_of key suf) none))
+    sym (ap (items_of key) parts ∙ (filter-append (λ x. same_key (object_key_of x.head) key) pre suf ∙ ap (λ (z : List ReiserItem). z ++ items_of key suf) none))

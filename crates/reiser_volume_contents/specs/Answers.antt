@@ -5,7 +5,7 @@ use Rattle.reiser_volume_objects.specs.refusals.declared.answer.VolAnswer.TheVar
 use Rattle.reiser_volume_objects.specs.refusals.declared.refusal.VolumeRefusal.{VolumeRefusal}
 use Rattle.reiser_volume_objects.specs.refusals.declared.refusal.VolumeRefusal.TheVariants.{Damaged}
 use Rattle.reiser_volume_objects.specs.refusals.declared.rule.Rule.TheVariants.{Reread}
-use Rattle.reiser_volume_objects.specs.reiser_walk.Items.{Item}
+use Rattle.reiser_volume_objects.specs.reiser_walk.Items.{ReiserItem}
 use Rattle.reiser_volume_objects.specs.declared.key.ObjectKey.{ObjectKey}
 use Rattle.reiser_volume_contents.specs.Reads.{IsFrom, Starts}
 
@@ -26,7 +26,7 @@ NamesLeaf first leaves Fault = Unit {0}
 NamesLeaf first leaves Memory = Unit {0}
 
 -- A refusal names a leaf of the walk, from the one on that has the object's first item.
-abbrev pub NamesOwnLeaf : ObjectKey → List Item → List ℕ → VolAnswer → Type 0
+abbrev pub NamesOwnLeaf : ObjectKey → List ReiserItem → List ℕ → VolAnswer → Type 0
 NamesOwnLeaf key items leaves (Refused r) = (first : ℕ) × Starts key items leaves first × NamesLeaf first leaves (Refused r)
 NamesOwnLeaf key items leaves Fault = Unit {0}
 NamesOwnLeaf key items leaves Memory = Unit {0}

@@ -3,8 +3,8 @@ ghost use Rattle.std.specs.Result.{MatchResult};
 ghost use Rattle.reiser_volume_objects.specs.outside.Fault.{HasCauseOf};
 ghost use Rattle.reiser_volume_objects.specs.outside.History.{Image};
 ghost use Rattle.fs_rows.specs.Mark.{mark_of_bytes};
-ghost use Rattle.reiser_volume_objects.specs.reiser_walk.Items.{Item};
-ghost use Rattle.reiser_volume_objects.specs.reiser_walk.declared.tree.Tree.{Tree};
+ghost use Rattle.reiser_volume_objects.specs.reiser_walk.Items.{ReiserItem};
+ghost use Rattle.reiser_volume_objects.specs.reiser_walk.declared.reiser_tree.ReiserTree.{ReiserTree};
 ghost use Rattle.reiser_volume_files.specs.Bytes.{file_bytes, tail_block};
 ghost use Rattle.reiser_volume_files.specs.Runs.{file_runs};
 ghost use Rattle.reiser_volume_objects.specs.Table.{HasNoted};
@@ -34,8 +34,8 @@ pub fn file_mark<S: BlockSource>(
     ensures kept { S.kept src.old src.new }
     ensures cause { HasCauseOf VolAnswer.Fault (S.faults src.old) (S.faults src.new) result }
     ensures answers { IfErr result IsReadAnswer }
-    ensures names { (items : List Item) → HasNoted objects.now items → IfErr result (NamesOwnLeaf key items objects.now.leaves) }
-    ensures mark { IsTrue S.tells → (tree : Tree) (image : Image) (used : List Bool) → S.blocks src.old ≡ image → HoldsObject objects.now key tree image used →
+    ensures names { (items : List ReiserItem) → HasNoted objects.now items → IfErr result (NamesOwnLeaf key items objects.now.leaves) }
+    ensures mark { IsTrue S.tells → (tree : ReiserTree) (image : Image) (used : List Bool) → S.blocks src.old ≡ image → HoldsObject objects.now key tree image used →
         MatchResult result (λ mark. mark ≡ mark_of_bytes (file_bytes image (object_items tree image used key) size)) IsFault }
 {
     mark_items(src, &objects.leaves, ObjectItems::new(objects, key), size)
@@ -52,8 +52,8 @@ pub fn file_map<S: BlockSource>(
     ensures kept { S.kept src.old src.new }
     ensures cause { HasCauseOf VolAnswer.Fault (S.faults src.old) (S.faults src.new) result }
     ensures answers { IfErr result IsFileAnswer }
-    ensures names { (items : List Item) → HasNoted objects.now items → IfErr result (NamesOwnLeaf key items objects.now.leaves) }
-    ensures map { IsTrue S.tells → (tree : Tree) (image : Image) (used : List Bool) → S.blocks src.old ≡ image → HoldsObject objects.now key tree image used →
+    ensures names { (items : List ReiserItem) → HasNoted objects.now items → IfErr result (NamesOwnLeaf key items objects.now.leaves) }
+    ensures map { IsTrue S.tells → (tree : ReiserTree) (image : Image) (used : List Bool) → S.blocks src.old ≡ image → HoldsObject objects.now key tree image used →
         MatchResult result (λ map. map ≡ file_runs (object_items tree image used key) size) IsFaultOrMemory }
 {
     map_items(
@@ -79,8 +79,8 @@ pub fn file_tail<S: BlockSource>(
     ensures kept { S.kept src.old src.new }
     ensures cause { HasCauseOf VolAnswer.Fault (S.faults src.old) (S.faults src.new) result }
     ensures answers { IfErr result IsReadAnswer }
-    ensures names { (items : List Item) → HasNoted objects.now items → IfErr result (NamesOwnLeaf key items objects.now.leaves) }
-    ensures tail { IsTrue S.tells → (tree : Tree) (image : Image) (used : List Bool) → S.blocks src.old ≡ image → HoldsObject objects.now key tree image used →
+    ensures names { (items : List ReiserItem) → HasNoted objects.now items → IfErr result (NamesOwnLeaf key items objects.now.leaves) }
+    ensures tail { IsTrue S.tells → (tree : ReiserTree) (image : Image) (used : List Bool) → S.blocks src.old ≡ image → HoldsObject objects.now key tree image used →
         MatchResult result (λ _. into.new.bytes ≡ tail_block (object_items tree image used key) size k) IsFault }
 {
     gather_items(
@@ -105,8 +105,8 @@ pub fn link_target<S: BlockSource>(
     ensures kept { S.kept src.old src.new }
     ensures cause { HasCauseOf VolAnswer.Fault (S.faults src.old) (S.faults src.new) result }
     ensures answers { IfErr result IsFileAnswer }
-    ensures names { (items : List Item) → HasNoted objects.now items → IfErr result (NamesOwnLeaf key items objects.now.leaves) }
-    ensures target { IsTrue S.tells → (tree : Tree) (image : Image) (used : List Bool) → S.blocks src.old ≡ image → HoldsLink objects.now key tree image used →
+    ensures names { (items : List ReiserItem) → HasNoted objects.now items → IfErr result (NamesOwnLeaf key items objects.now.leaves) }
+    ensures target { IsTrue S.tells → (tree : ReiserTree) (image : Image) (used : List Bool) → S.blocks src.old ≡ image → HoldsLink objects.now key tree image used →
         MatchResult result (λ name. name ≡ file_bytes image (object_items tree image used key) size) IsFaultOrMemory }
 {
     let mut block = Block::zero();

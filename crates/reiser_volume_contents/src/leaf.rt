@@ -5,7 +5,7 @@ use reiser_volume_objects::{Block, BlockNo};
 
 /// Which items of a leaf are still to come.
 #[derive(Clone, Copy, Debug)]
-pub struct Place {
+pub struct NodeCursor {
     pub next: usize,
     pub left: usize,
 }
@@ -15,7 +15,7 @@ pub struct Place {
 pub struct LeafInHand {
     pub no: BlockNo,
     pub block: Block,
-    pub at: Place,
+    pub at: NodeCursor,
     ghost leaf: { 0 < at.next + at.left → IsLeaf block.bytes },
     ghost all: { 0 < at.next + at.left → at.next + at.left ≡ count block.bytes },
 }

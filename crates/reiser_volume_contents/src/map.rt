@@ -2,7 +2,7 @@ ghost use Rattle.std.specs.Prelude.{◌≡◌, [], ℕ, List, IfErr};
 ghost use Rattle.std.specs.Result.{MatchResult};
 ghost use Rattle.reiser_volume_objects.specs.outside.Fault.{HasCauseOf};
 ghost use Rattle.reiser_volume_objects.specs.outside.History.{OverTold};
-ghost use Rattle.reiser_volume_objects.specs.reiser_walk.Items.{Item};
+ghost use Rattle.reiser_volume_objects.specs.reiser_walk.Items.{ReiserItem};
 ghost use Rattle.reiser_volume_files.specs.Runs.{file_runs};
 ghost use Rattle.reiser_volume_contents.specs.Answers.{IsFileAnswer, IsFaultOrMemory, NamesLeaf};
 ghost use Rattle.reiser_volume_contents.specs.Holds.{AreFileItems};
@@ -25,7 +25,7 @@ pub fn map_items<S: BlockSource>(
     ensures cause { HasCauseOf VolAnswer.Fault (S.faults src.old) (S.faults src.new) result }
     ensures answers { IfErr result IsFileAnswer }
     ensures names { (first : ℕ) → StandsFrom first leaves.now items → IfErr result (NamesLeaf first leaves.now) }
-    ensures map { OverTold S.tells (S.blocks src.old) (λ image. (all : List Item) → AreFileItems (S.size src.old) all → Reads items leaves.now image [] all →
+    ensures map { OverTold S.tells (S.blocks src.old) (λ image. (all : List ReiserItem) → AreFileItems (S.size src.old) all → Reads items leaves.now image [] all →
         MatchResult result (λ map. map ≡ file_runs all size) IsFaultOrMemory) }
 {
     let mut mapper = FileMapper::new(alloc, size);

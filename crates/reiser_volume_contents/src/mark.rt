@@ -3,7 +3,7 @@ ghost use Rattle.std.specs.Result.{MatchResult};
 ghost use Rattle.reiser_volume_objects.specs.outside.Fault.{HasCauseOf};
 ghost use Rattle.reiser_volume_objects.specs.outside.History.{OverTold};
 ghost use Rattle.fs_rows.specs.Mark.{mark_of_bytes};
-ghost use Rattle.reiser_volume_objects.specs.reiser_walk.Items.{Item};
+ghost use Rattle.reiser_volume_objects.specs.reiser_walk.Items.{ReiserItem};
 ghost use Rattle.reiser_volume_files.specs.Bytes.{file_bytes, MayFollow};
 ghost use Rattle.reiser_volume_files.specs.Pieces.{are_inside};
 ghost use Rattle.reiser_volume_files.specs.States.{MarksFile};
@@ -27,7 +27,7 @@ pub fn mark_items<S: BlockSource>(
     ensures cause { HasCauseOf VolAnswer.Fault (S.faults src.old) (S.faults src.new) result }
     ensures answers { IfErr result IsReadAnswer }
     ensures names { (first : ℕ) → StandsFrom first leaves.now items → IfErr result (NamesLeaf first leaves.now) }
-    ensures mark { OverTold S.tells (S.blocks src.old) (λ image. (all : List Item) → AreFileItems (S.size src.old) all → Reads items leaves.now image [] all →
+    ensures mark { OverTold S.tells (S.blocks src.old) (λ image. (all : List ReiserItem) → AreFileItems (S.size src.old) all → Reads items leaves.now image [] all →
         MatchResult result (λ mark. mark ≡ mark_of_bytes (file_bytes image all size)) IsFault) }
 {
     let mut marker = FileMarker::new(size);
@@ -49,7 +49,7 @@ fn mark_item<S: BlockSource>(
     ensures answers { IfErr result IsReadAnswer }
     ensures names { (first : ℕ) (leaves : List ℕ) → StandsFrom first leaves items.now → IfErr result (NamesLeaf first leaves) }
     ensures size { marker.new.file.size ≡ marker.old.file.size }
-    ensures given { OverTold S.tells (S.blocks src.old) (λ image. (given : List Item) (i : Item) → standing items.now ≡ Some i →
+    ensures given { OverTold S.tells (S.blocks src.old) (λ image. (given : List ReiserItem) (i : ReiserItem) → standing items.now ≡ Some i →
         MayFollow given i → are_inside i.head.kind i.body (S.size src.old) ≡ true → MarksFile marker.old image given →
         MatchResult result (λ _. MarksFile marker.new image (given ++ i ∷ [])) IsFault) }
 {

@@ -6,7 +6,7 @@ ghost use Rattle.reiser_volume_objects.specs.reiser_node.Leaf.{IsLeaf};
 ghost use Rattle.reiser_volume_contents.specs.Answers.{IsReadAnswer, IsFault, NamesBlock};
 ghost use Rattle.reiser_volume_contents.specs.Reads.{IsLeafOf, IsWholeLeaf};
 
-use crate::leaf::{LeafInHand, Place};
+use crate::leaf::{LeafInHand, NodeCursor};
 use reiser_volume_objects::{
     Block, BlockNo, BlockSource, LeafView, Rule, VolAnswer, VolumeRefusal,
 };
@@ -19,7 +19,7 @@ impl LeafInHand {
         LeafInHand {
             no: 0,
             block: Block::zero(),
-            at: Place { next: 0, left: 0 },
+            at: NodeCursor { next: 0, left: 0 },
         }
     }
 
@@ -60,7 +60,7 @@ impl LeafInHand {
         Ok(LeafInHand {
             no,
             block,
-            at: Place { next: 0, left },
+            at: NodeCursor { next: 0, left },
         })
     }
 }

@@ -2,15 +2,15 @@ ghost use Rattle.std.specs.Prelude.{◌≡◌, ◌≤◌, ◌<◌, ◌++◌, ◌
 ghost use Rattle.std.specs.Result.{MatchResult};
 ghost use Rattle.reiser_volume_objects.specs.outside.Fault.{HasCauseOf};
 ghost use Rattle.reiser_volume_objects.specs.outside.History.{Image, OverTold};
-ghost use Rattle.reiser_volume_objects.specs.reiser_walk.Items.{Item};
-ghost use Rattle.reiser_volume_objects.specs.reiser_walk.declared.tree.Tree.{Tree};
+ghost use Rattle.reiser_volume_objects.specs.reiser_walk.Items.{ReiserItem};
+ghost use Rattle.reiser_volume_objects.specs.reiser_walk.declared.reiser_tree.ReiserTree.{ReiserTree};
 ghost use Rattle.reiser_volume_objects.specs.Table.{HasNoted};
 ghost use Rattle.reiser_volume_contents.specs.Answers.{IsReadAnswer, IsFault, NamesLeaf};
 ghost use Rattle.reiser_volume_contents.specs.Holds.{HoldsObject, object_items};
 ghost use Rattle.reiser_volume_contents.specs.Reads.{Reads, StandsFrom, Starts, Comes, Fills, Looks, HasItem, standing, fuel, object_order};
 
 use crate::ObjectItems;
-use crate::leaf::{LeafInHand, Place};
+use crate::leaf::{LeafInHand, NodeCursor};
 use reiser_volume_objects::{
     BlockNo, BlockSource, ItemHead, LeafList, LeafView, ObjectKey, Objects, VolAnswer,
 };
@@ -20,8 +20,8 @@ impl ObjectItems {
     /// A reader that has read nothing, of the items of an object.
     pub fn new(objects: &Objects, key: ObjectKey) -> ObjectItems
         ensures key { result.key ≡ key }
-        ensures from { (items : List Item) → HasNoted objects.now items → (first : ℕ) × Starts key items objects.now.leaves first × StandsFrom first objects.now.leaves result }
-        ensures begins { (tree : Tree) (image : Image) (used : List Bool) → HoldsObject objects.now key tree image used →
+        ensures from { (items : List ReiserItem) → HasNoted objects.now items → (first : ℕ) × Starts key items objects.now.leaves first × StandsFrom first objects.now.leaves result }
+        ensures begins { (tree : ReiserTree) (image : Image) (used : List Bool) → HoldsObject objects.now key tree image used →
             Reads result objects.now.leaves image [] (object_items tree image used key) }
     {
         ObjectItems {
@@ -49,7 +49,7 @@ impl ObjectItems {
         ensures stands { IfOk result (λ more. IsTrue more → HasItem self.new) }
         // It ends, whatever the source gives.
         ensures ends { IfOk result (λ more. IsTrue more → fuel leaves.now self.new < fuel leaves.now self.old) }
-        ensures comes { OverTold S.tells (S.blocks src.old) (λ image. (given items : List Item) → Reads self.old leaves.now image given items →
+        ensures comes { OverTold S.tells (S.blocks src.old) (λ image. (given items : List ReiserItem) → Reads self.old leaves.now image given items →
             MatchResult result (λ more. Comes more self.new leaves.now image given items) IsFault) }
     {
         while self.fill(src, leaves)? {
@@ -72,7 +72,7 @@ impl ObjectItems {
         ensures key { self.new.key ≡ self.old.key }
         ensures left { IfOk result (λ more. IsTrue more → 0 < self.new.leaf.at.left) }
         ensures fuel { fuel leaves.now self.new ≤ fuel leaves.now self.old }
-        ensures fills { OverTold S.tells (S.blocks src.old) (λ image. (given items : List Item) → Reads self.old leaves.now image given items →
+        ensures fills { OverTold S.tells (S.blocks src.old) (λ image. (given items : List ReiserItem) → Reads self.old leaves.now image given items →
             MatchResult result (λ more. Fills more self.new leaves.now image given items) IsFault) }
     {
         if self.leaf.at.left > 0 {
@@ -93,10 +93,10 @@ impl ObjectItems {
         ensures stands { HasItem self.new }
         ensures from { (first : ℕ) (leaves : List ℕ) → StandsFrom first leaves self.old → StandsFrom first leaves self.new }
         ensures fuel { (leaves : List ℕ) → fuel leaves self.new < fuel leaves self.old }
-        ensures looks { (leaves : List ℕ) (image : Image) (given items : List Item) → Reads self.old leaves image given items → Looks result self.new leaves image given items }
+        ensures looks { (leaves : List ℕ) (image : Image) (given items : List ReiserItem) → Reads self.old leaves image given items → Looks result self.new leaves image given items }
     {
         let head = LeafView::of(&self.leaf.block).head(self.leaf.at.next);
-        self.leaf.at = Place {
+        self.leaf.at = NodeCursor {
             next: self.leaf.at.next + 1,
             left: self.leaf.at.left - 1,
         };
@@ -131,7 +131,7 @@ impl ObjectItems {
 
 /// The number of the leaf that is read first.
 fn start(objects: &Objects, key: ObjectKey) -> usize
-    ensures { (items : List Item) → HasNoted objects.now items → Starts key items objects.now.leaves result }
+    ensures { (items : List ReiserItem) → HasNoted objects.now items → Starts key items objects.now.leaves result }
 {
     match objects.first_leaf(key) {
         Some(place) => place,

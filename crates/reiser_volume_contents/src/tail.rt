@@ -2,7 +2,7 @@ ghost use Rattle.std.specs.Prelude.{◌≡◌, ◌<◌, ◌*◌, ◌^◌, [], �
 ghost use Rattle.std.specs.Result.{MatchResult};
 ghost use Rattle.reiser_volume_objects.specs.outside.Fault.{HasCauseOf};
 ghost use Rattle.reiser_volume_objects.specs.outside.History.{OverTold};
-ghost use Rattle.reiser_volume_objects.specs.reiser_walk.Items.{Item};
+ghost use Rattle.reiser_volume_objects.specs.reiser_walk.Items.{ReiserItem};
 ghost use Rattle.reiser_volume_files.specs.Bytes.{tail_block};
 ghost use Rattle.reiser_volume_contents.specs.Answers.{IsReadAnswer, IsFault, NamesLeaf};
 ghost use Rattle.reiser_volume_contents.specs.Holds.{AreFileItems};
@@ -26,7 +26,7 @@ pub fn gather_items<S: BlockSource>(
     ensures cause { HasCauseOf VolAnswer.Fault (S.faults src.old) (S.faults src.new) result }
     ensures answers { IfErr result IsReadAnswer }
     ensures names { (first : ℕ) → StandsFrom first leaves.now items → IfErr result (NamesLeaf first leaves.now) }
-    ensures tail { OverTold S.tells (S.blocks src.old) (λ image. (all : List Item) → AreFileItems (S.size src.old) all → Reads items leaves.now image [] all →
+    ensures tail { OverTold S.tells (S.blocks src.old) (λ image. (all : List ReiserItem) → AreFileItems (S.size src.old) all → Reads items leaves.now image [] all →
         MatchResult result (λ _. into.new.bytes ≡ tail_block all size k) IsFault) }
 {
     *into = Block::zero();

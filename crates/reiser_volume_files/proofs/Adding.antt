@@ -1,18 +1,5 @@
 -- What a marker holds after one more item.
-use Rattle.std.proofs.Common.{◌≡◌, ◌≢◌, ℕ, ◌+◌, ◌-◌, ◌*◌, ◌/◌, ◌≤◌, List, [], ◌∷◌, ◌++◌, length, take, All, Result, Ok, Err, OnOk, sym, ap, subst, ◌∙◌, arith, inl, inr, ◌⊎◌}
-use Rattle.std.proofs.lemmas.Bool.{cases_eq}
-use Rattle.std.proofs.lemmas.List.Elements.{All-nil, All-cons, All-head, All-tail}
-use Rattle.reiser_walk.specs.outside.History.{Image}
-use Rattle.reiser_walk.specs.reiser_node.declared.head.ItemKind.{ItemKind}
-use Rattle.reiser_walk.specs.reiser_node.declared.head.ItemKind.TheVariants.{Stat, Indirect, Direct, Directory}
-use Rattle.reiser_walk.specs.Items.{Item}
-use Rattle.fs_rows.specs.Held.{HoldsBytes}
-use Rattle.fs_rows.specs.Pieces.{Overlays}
-use Rattle.reiser_volume_files.specs.declared.marker.FileMarker.{FileMarker}
-use Rattle.reiser_volume_files.specs.Bytes.{first_byte, byte_count, end_of, content, EndsBy, MayFollow}
-use Rattle.reiser_volume_files.specs.Pieces.{OverlaysNamed}
-use Rattle.reiser_volume_files.specs.States.{MarksFile}
-use Rattle.fs_rows.proofs.Holding.{held_same}
+use Rattle.reiser_volume_files.proofs.Imports.{◌≡◌, ◌≢◌, ℕ, ◌+◌, ◌-◌, ◌*◌, ◌/◌, ◌≤◌, List, [], ◌∷◌, ◌++◌, length, take, All, Result, Ok, Err, OnOk, sym, ap, subst, ◌∙◌, arith, inl, inr, ◌⊎◌, cases_eq, All-nil, All-cons, All-head, All-tail, Image, ItemKind, Stat, Indirect, Direct, Directory, ReiserItem, HoldsBytes, Overlays, FileMarker, first_byte, byte_count, end_of, content, EndsBy, MayFollow, OverlaysNamed, MarksFile, held_same}
 use Rattle.reiser_volume_files.proofs.Contents.{empty_item, direct_overlays, indirect_overlays, count_direct, count_indirect}
 
 pub all_before : {X : Type 0} (P : X → Type 0) → (xs : List X) (y : X) → All P (xs ++ y ∷ []) → All P xs
@@ -32,7 +19,7 @@ on_ok (Ok x) p = p
 on_ok (Err e) p = tt
 
 -- an item without bytes leaves the marker as it is
-pub marks_empty : (m m' : FileMarker) (image : Image) (given : List Item) (i : Item) → m' ≡ m → byte_count i.head.kind i.body ≡ 0 → MarksFile m image given → MarksFile m' image (given ++ i ∷ [])
+pub marks_empty : (m m' : FileMarker) (image : Image) (given : List ReiserItem) (i : ReiserItem) → m' ≡ m → byte_count i.head.kind i.body ≡ 0 → MarksFile m image given → MarksFile m' image (given ++ i ∷ [])
 marks_empty m m' image given i is none marks =
     subst (λ (n : FileMarker). MarksFile n image (given ++ i ∷ [])) (sym is) (record {
       bytes = held_same m.file _ _ (empty_item image given i m.file.size none) marks.bytes;
@@ -40,14 +27,14 @@ marks_empty m m' image given i is none marks =
     })
 
 -- an item with bytes adds them
-pub marks_more : (m m' : FileMarker) (image : Image) (given : List Item) (i : Item) → m'.file.size ≡ m.file.size → byte_count i.head.kind i.body ≢ 0
+pub marks_more : (m m' : FileMarker) (image : Image) (given : List ReiserItem) (i : ReiserItem) → m'.file.size ≡ m.file.size → byte_count i.head.kind i.body ≢ 0
     → HoldsBytes m'.file (content image (given ++ i ∷ []) m.file.size) → 4096 * m'.file.next ≤ end_of i → MarksFile m' image (given ++ i ∷ [])
 marks_more m m' image given i size some held end = record {
   bytes = subst (λ (s : ℕ). HoldsBytes m'.file (content image (given ++ i ∷ []) s)) (sym size) held;
   reached = λ b all. let last = all_last (EndsBy b) given i all some in omega (arith, end, last);
 }
 
-pub marks_direct : (m m' : FileMarker) (image : Image) (given : List Item) (i : Item) (at : ℕ) (body : List ℕ) → i.head.kind ≡ Direct → at ≡ first_byte i → i.body ≡ body
+pub marks_direct : (m m' : FileMarker) (image : Image) (given : List ReiserItem) (i : ReiserItem) (at : ℕ) (body : List ℕ) → i.head.kind ≡ Direct → at ≡ first_byte i → i.body ≡ body
     → m'.file.size ≡ m.file.size → (4096 * m.file.next ≤ at → 4096 * m'.file.next ≤ at + length body) → (length body ≡ 0 → m' ≡ m)
     → ((f g : ℕ → ℕ) → Overlays at (take (m.file.size - at) body) f g → 4096 * m.file.next ≤ at → HoldsBytes m.file f → HoldsBytes m'.file g)
     → MayFollow given i → MarksFile m image given → MarksFile m' image (given ++ i ∷ [])
@@ -64,7 +51,7 @@ marks_direct m m' image given i at body is from same size near none adds may mar
           marks_more m m' image given i size some (adds _ _ over low marks.bytes) (omega (arith, near low, from, counted))
     ]
 
-pub marks_indirect : {T E : Type 0} (r : Result T E) (m m' : FileMarker) (image : Image) (given : List Item) (i : Item) (first : ℕ) (body : List ℕ) → i.head.kind ≡ Indirect
+pub marks_indirect : {T E : Type 0} (r : Result T E) (m m' : FileMarker) (image : Image) (given : List ReiserItem) (i : ReiserItem) (first : ℕ) (body : List ℕ) → i.head.kind ≡ Indirect
     → first ≡ first_byte i / 4096 → i.body ≡ body → m'.file.size ≡ m.file.size → (m.file.next ≤ first → OnOk r (m'.file.next ≤ first + length body / 4)) → (length body / 4 ≡ 0 → m' ≡ m)
     → ((f g : ℕ → ℕ) → OverlaysNamed image m.file.size first body f g → m.file.next ≤ first → HoldsBytes m.file f → OnOk r (HoldsBytes m'.file g))
     → MayFollow given i → MarksFile m image given → OnOk r (MarksFile m' image (given ++ i ∷ []))
@@ -82,6 +69,6 @@ marks_indirect r m m' image given i first body is from same size near none adds 
     ]
 
 -- an item of stat data or of entries has no bytes
-pub no_bytes : (i : Item) → (i.head.kind ≡ Stat) ⊎ (i.head.kind ≡ Directory) → byte_count i.head.kind i.body ≡ 0
+pub no_bytes : (i : ReiserItem) → (i.head.kind ≡ Stat) ⊎ (i.head.kind ≡ Directory) → byte_count i.head.kind i.body ≡ 0
 no_bytes i (inl is) = ap (λ (kind : ItemKind). byte_count kind i.body) is
 no_bytes i (inr is) = ap (λ (kind : ItemKind). byte_count kind i.body) is

@@ -1,15 +1,6 @@
 -- What the runs of a function say of it.
-use Rattle.std.proofs.Common.{◌≡◌, ◌≢◌, ℕ, zero, suc, ◌+◌, ◌-◌, ◌<◌, ◌≤◌, Bool, true, false, cond, eqb, ltb, leb, List, [], ◌∷◌, Option, Some, None, All, refl, sym, ap, subst, ◌∙◌, arith, inl, inr}
-use Rattle.std.specs.Int.{div_ceil}
-use Rattle.std.specs.Prelude.{AllPairs}
-use Rattle.std.proofs.lemmas.Bool.{false≢true, cases_lt, cases_eq, cond_both, cond-true, cond-false, and_from, and_left, and_right, and_parts, eqb-true, ne_eqb, le-leb, lt-leb, lt-ltb, le-ltb}
-use Rattle.std.proofs.lemmas.List.Elements.{All-nil, All-cons, All-head, All-tail, All-weaker}
+use Rattle.reiser_volume_files.proofs.Imports.{◌≡◌, ◌≢◌, ℕ, zero, suc, ◌+◌, ◌-◌, ◌<◌, ◌≤◌, Bool, true, false, cond, eqb, ltb, leb, List, [], ◌∷◌, Option, Some, None, All, refl, sym, ap, subst, ◌∙◌, arith, inl, inr, div_ceil, AllPairs, false≢true, cases_lt, cases_eq, cond_both, cond-true, cond-false, and_from, and_left, and_right, and_parts, eqb-true, ne_eqb, le-leb, lt-leb, lt-ltb, le-ltb, All-nil, All-cons, All-head, All-tail, All-weaker, ReiserItem, FileRun, RunFrom, Disk, Tail, next_from, is_next, goes_on, run_of, longer, with_block, extended, runs_of, is_in_run, lies_at, IsFileRunBefore, AreRunsOf, block_from, file_runs}
 use Rattle.std.proofs.lemmas.List.Kept.{AllPairs-cons}
-use Rattle.reiser_walk.specs.Items.{Item}
-use Rattle.reiser_volume_files.specs.declared.map.FileRun.{FileRun}
-use Rattle.reiser_volume_files.specs.declared.map.RunFrom.{RunFrom}
-use Rattle.reiser_volume_files.specs.declared.map.RunFrom.TheVariants.{Disk, Tail}
-use Rattle.reiser_volume_files.specs.Runs.{next_from, is_next, goes_on, run_of, longer, with_block, extended, runs_of, is_in_run, lies_at, IsBefore, AreRunsOf, block_from, file_runs}
 use Rattle.reiser_volume_files.proofs.Joining.{no_runs, runs_more}
 use Rattle.reiser_volume_files.proofs.Placing.{from_past}
 
@@ -124,38 +115,38 @@ some_with runs n from all = kept_with HasBlocks runs n from (λ r on h. omega (a
 -- each run lies before those behind it
 abbrev pub Ascend : List FileRun → Type 0
 Ascend [] = Unit {0}
-Ascend (r ∷ runs) = All (IsBefore r) runs × Ascend runs
+Ascend (r ∷ runs) = All (IsFileRunBefore r) runs × Ascend runs
 
-before_all : (r s : FileRun) → (runs : List FileRun) (n : ℕ) (from : RunFrom) → All (IsBefore r) (s ∷ runs) → All HasBlocks (s ∷ runs) → All (EndsAtRun n) (s ∷ runs)
-    → All (IsBefore r) (with_block (s ∷ runs) n from)
+before_all : (r s : FileRun) → (runs : List FileRun) (n : ℕ) (from : RunFrom) → All (IsFileRunBefore r) (s ∷ runs) → All HasBlocks (s ∷ runs) → All (EndsAtRun n) (s ∷ runs)
+    → All (IsFileRunBefore r) (with_block (s ∷ runs) n from)
 before_all r s [] n from before some ends =
-    let first : IsBefore r s = All-head (IsBefore r) s [] before in
-    cond_both (goes_on s n from) (longer s ∷ []) (s ∷ run_of n from ∷ []) (λ (rs : List FileRun). All (IsBefore r) rs)
-    (λ h. All-cons (IsBefore r) (longer s) [] (record { apart = first.apart; maximal = first.maximal }) (All-nil (IsBefore r)))
+    let first : IsFileRunBefore r s = All-head (IsFileRunBefore r) s [] before in
+    cond_both (goes_on s n from) (longer s ∷ []) (s ∷ run_of n from ∷ []) (λ (rs : List FileRun). All (IsFileRunBefore r) rs)
+    (λ h. All-cons (IsFileRunBefore r) (longer s) [] (record { apart = first.apart; maximal = first.maximal }) (All-nil (IsFileRunBefore r)))
     (λ h.
     let end : EndsAtRun n s = All-head (EndsAtRun n) s [] ends in
     let has : HasBlocks s = All-head HasBlocks s [] some in
     let gap : r.at + r.count ≡ n → ⊥ = λ (e : r.at + r.count ≡ n). omega (arith, e, end, has, first.apart) in
-    All-cons (IsBefore r) s (run_of n from ∷ []) first (All-cons (IsBefore r) (run_of n from) []
-    (record { apart = omega (arith, end, has, first.apart); maximal = and_left (eqb (r.at + r.count) n) (is_next r.from r.count from) (ne_eqb _ _ gap) }) (All-nil (IsBefore r))))
+    All-cons (IsFileRunBefore r) s (run_of n from ∷ []) first (All-cons (IsFileRunBefore r) (run_of n from) []
+    (record { apart = omega (arith, end, has, first.apart); maximal = and_left (eqb (r.at + r.count) n) (is_next r.from r.count from) (ne_eqb _ _ gap) }) (All-nil (IsFileRunBefore r))))
 before_all r s (t ∷ runs) n from before some ends =
-    All-cons (IsBefore r) s (with_block (t ∷ runs) n from) (All-head (IsBefore r) s (t ∷ runs) before)
-    (before_all r t runs n from (All-tail (IsBefore r) s (t ∷ runs) before) (All-tail HasBlocks s (t ∷ runs) some) (All-tail (EndsAtRun n) s (t ∷ runs) ends))
+    All-cons (IsFileRunBefore r) s (with_block (t ∷ runs) n from) (All-head (IsFileRunBefore r) s (t ∷ runs) before)
+    (before_all r t runs n from (All-tail (IsFileRunBefore r) s (t ∷ runs) before) (All-tail HasBlocks s (t ∷ runs) some) (All-tail (EndsAtRun n) s (t ∷ runs) ends))
 
 ascend_with : (runs : List FileRun) (n : ℕ) (from : RunFrom) → Ascend runs → All HasBlocks runs → All (EndsAtRun n) runs → Ascend (with_block runs n from)
-ascend_with [] n from up some ends = (All-nil (IsBefore (run_of n from)), tt)
+ascend_with [] n from up some ends = (All-nil (IsFileRunBefore (run_of n from)), tt)
 ascend_with (r ∷ []) n from up some ends =
     cond_both (goes_on r n from) (longer r ∷ []) (r ∷ run_of n from ∷ []) Ascend
-    (λ h. (All-nil (IsBefore (longer r)), tt))
-    (λ h. (All-cons (IsBefore r) (run_of n from) [] (record { apart = All-head (EndsAtRun n) r [] ends; maximal = h }) (All-nil (IsBefore r)), (All-nil (IsBefore (run_of n from)), tt)))
+    (λ h. (All-nil (IsFileRunBefore (longer r)), tt))
+    (λ h. (All-cons (IsFileRunBefore r) (run_of n from) [] (record { apart = All-head (EndsAtRun n) r [] ends; maximal = h }) (All-nil (IsFileRunBefore r)), (All-nil (IsFileRunBefore (run_of n from)), tt)))
 ascend_with (r ∷ (s ∷ runs)) n from up some ends = (
   before_all r s runs n from up.0 (All-tail HasBlocks r (s ∷ runs) some) (All-tail (EndsAtRun n) r (s ∷ runs) ends),
   ascend_with (s ∷ runs) n from up.1 (All-tail HasBlocks r (s ∷ runs) some) (All-tail (EndsAtRun n) r (s ∷ runs) ends),
 )
 
-pub pairs_of : (runs : List FileRun) → Ascend runs → AllPairs IsBefore runs
+pub pairs_of : (runs : List FileRun) → Ascend runs → AllPairs IsFileRunBefore runs
 pairs_of [] a = λ i j d h l. absurd (omega (arith, l))
-pairs_of (r ∷ runs) a = AllPairs-cons IsBefore r runs a.0 (pairs_of runs a.1)
+pairs_of (r ∷ runs) a = AllPairs-cons IsFileRunBefore r runs a.0 (pairs_of runs a.1)
 
 -- these are the runs of the first n blocks of a function
 record AreFirst (f : ℕ → Option RunFrom) (n : ℕ) (runs : List FileRun) : Type 0 where
@@ -203,7 +194,7 @@ first_of_function f (suc n) =
     subst (λ (k : ℕ). AreFirst f k (runs_of f k)) up more
 
 -- the map of a file says where its blocks lie
-pub file_runs_are : (items : List Item) (size : ℕ) → AreRunsOf (block_from items size) (file_runs items size)
+pub file_runs_are : (items : List ReiserItem) (size : ℕ) → AreRunsOf (block_from items size) (file_runs items size)
 file_runs_are items size =
     let first : AreFirst (block_from items size) (div_ceil size 4096) (file_runs items size) = first_of_function (block_from items size) (div_ceil size 4096) in
     record {

@@ -1,17 +1,5 @@
 -- What one more item makes of the contents of a file.
-use Rattle.std.proofs.Common.{◌≡◌, ◌≢◌, ℕ, ◌+◌, ◌-◌, ◌*◌, ◌/◌, ◌%◌, ◌<◌, ◌≤◌, min, Bool, true, false, cond, eqb, ltb, List, [], ◌∷◌, ◌++◌, length, get_or, take, Option, None, unwrap_or, All, refl, sym, ap, subst, ◌∙◌, arith, inl, inr}
-use Rattle.std.specs.Option.{option_or}
-use Rattle.std.proofs.lemmas.Bool.{cases_lt}
-use Rattle.std.proofs.lemmas.List.{get_or-take, length-take}
-use Rattle.reiser_walk.specs.outside.History.{Image}
-use Rattle.reiser_walk.specs.reiser_node.declared.head.ItemKind.{ItemKind}
-use Rattle.reiser_walk.specs.reiser_node.declared.head.ItemKind.TheVariants.{Indirect, Direct}
-use Rattle.reiser_walk.specs.reiser_items.Pointers.{pointers}
-use Rattle.reiser_walk.specs.Items.{Item}
-use Rattle.fs_rows.specs.Pieces.{Overlays}
-use Rattle.fs_rows.proofs.FileMarks.{below_size, past_size}
-use Rattle.reiser_volume_files.specs.Bytes.{first_byte, byte_count, direct_by_kind, direct_byte, pointer_by_kind, named_block, block_byte, file_byte, content, EndsBy, AlignedByKind, MayFollow}
-use Rattle.reiser_volume_files.specs.Pieces.{OverlaysNamed}
+use Rattle.reiser_volume_files.proofs.Imports.{◌≡◌, ◌≢◌, ℕ, ◌+◌, ◌-◌, ◌*◌, ◌/◌, ◌%◌, ◌<◌, ◌≤◌, min, Bool, true, false, cond, eqb, ltb, List, [], ◌∷◌, ◌++◌, length, get_or, take, Option, None, unwrap_or, All, refl, sym, ap, subst, ◌∙◌, arith, inl, inr, option_or, cases_lt, get_or-take, length-take, Image, ItemKind, Indirect, Direct, pointers, ReiserItem, Overlays, below_size, past_size, first_byte, byte_count, direct_by_kind, direct_byte, pointer_by_kind, named_block, block_byte, file_byte, content, EndsBy, AlignedByKind, MayFollow, OverlaysNamed}
 use Rattle.reiser_volume_files.proofs.Items.{covered, no_direct_past, no_direct_before, pointer_is, no_pointer_past, no_pointer_before, direct_none, named_none, direct_more, named_more, same_byte}
 
 same_below : (x y : ℕ) (n size : ℕ) → x ≡ y → cond (ltb n size) x 0 ≡ cond (ltb n size) y 0
@@ -30,29 +18,29 @@ empty_content image size n =
     ]
 
 -- an item that has nothing of a byte
-same_there : (image : Image) (given : List Item) (i : Item) (size n : ℕ) → direct_by_kind i.head.kind i n ≡ None → pointer_by_kind i.head.kind i (n / 4096) ≡ 0
+same_there : (image : Image) (given : List ReiserItem) (i : ReiserItem) (size n : ℕ) → direct_by_kind i.head.kind i n ≡ None → pointer_by_kind i.head.kind i (n / 4096) ≡ 0
     → content image (given ++ i ∷ []) size n ≡ content image given size n
 same_there image given i size n none zero_there = same_below _ _ n size (same_byte image given i n none zero_there)
 
-both_past : (image : Image) (given : List Item) (i : Item) (size n : ℕ) → size ≤ n → content image (given ++ i ∷ []) size n ≡ content image given size n
+both_past : (image : Image) (given : List ReiserItem) (i : ReiserItem) (size n : ℕ) → size ≤ n → content image (given ++ i ∷ []) size n ≡ content image given size n
 both_past image given i size n h = past_size (file_byte image (given ++ i ∷ [])) n size h ∙ sym (past_size (file_byte image given) n size h)
 
 -- an item that has no bytes
-pub empty_item : (image : Image) (given : List Item) (i : Item) (size : ℕ) → byte_count i.head.kind i.body ≡ 0 → (n : ℕ) → content image given size n ≡ content image (given ++ i ∷ []) size n
+pub empty_item : (image : Image) (given : List ReiserItem) (i : ReiserItem) (size : ℕ) → byte_count i.head.kind i.body ≡ 0 → (n : ℕ) → content image given size n ≡ content image (given ++ i ∷ []) size n
 empty_item image given i size none n =
     sym (same_there image given i size n (no_direct_past i.head.kind i n (λ some. absurd (some none))) (no_pointer_past i.head.kind i n (λ some. absurd (some none))))
 
-abbrev by_kind : Image → List Item → ItemKind → Item → ℕ → ℕ
+abbrev by_kind : Image → List ReiserItem → ItemKind → ReiserItem → ℕ → ℕ
 by_kind image given kind i n =
     unwrap_or (option_or (direct_byte given n) (direct_by_kind kind i n)) (block_byte image (cond (eqb (named_block given (n / 4096)) 0) (pointer_by_kind kind i (n / 4096)) (named_block given (n / 4096))) (n % 4096))
 
-byte_more : (image : Image) (given : List Item) (i : Item) (n : ℕ) → file_byte image (given ++ i ∷ []) n ≡ by_kind image given i.head.kind i n
+byte_more : (image : Image) (given : List ReiserItem) (i : ReiserItem) (n : ℕ) → file_byte image (given ++ i ∷ []) n ≡ by_kind image given i.head.kind i n
 byte_more image given i n =
     ap (λ (o : Option ℕ). unwrap_or o (block_byte image (named_block (given ++ i ∷ []) (n / 4096)) (n % 4096))) (direct_more given i n)
     ∙ ap (λ (p : ℕ). unwrap_or (option_or (direct_byte given n) (direct_by_kind i.head.kind i n)) (block_byte image p (n % 4096))) (named_more given i (n / 4096))
 
 -- the byte that a direct item has, where no other one has any
-direct_there : (image : Image) (given : List Item) (i : Item) (n : ℕ) → i.head.kind ≡ Direct → first_byte i ≤ n → n < first_byte i + length i.body → All (EndsBy (first_byte i)) given
+direct_there : (image : Image) (given : List ReiserItem) (i : ReiserItem) (n : ℕ) → i.head.kind ≡ Direct → first_byte i ≤ n → n < first_byte i + length i.body → All (EndsBy (first_byte i)) given
     → file_byte image (given ++ i ∷ []) n ≡ get_or i.body (n - first_byte i) 0
 direct_there image given i n is low high ends =
     byte_more image given i n
@@ -60,7 +48,7 @@ direct_there image given i n is low high ends =
     ∙ ap (λ (o : Option ℕ). unwrap_or (option_or o (direct_by_kind Direct i n)) (block_byte image (cond (eqb (named_block given (n / 4096)) 0) 0 (named_block given (n / 4096))) (n % 4096))) (direct_none (first_byte i) given n ends low)
     ∙ ap (λ (o : Option ℕ). unwrap_or o (block_byte image (cond (eqb (named_block given (n / 4096)) 0) 0 (named_block given (n / 4096))) (n % 4096))) (covered i n low high)
 
-named_there : (image : Image) (given : List Item) (i : Item) (n : ℕ) → i.head.kind ≡ Indirect → first_byte i ≤ n → All (EndsBy (first_byte i)) given
+named_there : (image : Image) (given : List ReiserItem) (i : ReiserItem) (n : ℕ) → i.head.kind ≡ Indirect → first_byte i ≤ n → All (EndsBy (first_byte i)) given
     → file_byte image (given ++ i ∷ []) n ≡ block_byte image (get_or (pointers i.body) (n / 4096 - first_byte i / 4096) 0) (n % 4096)
 named_there image given i n is low ends =
     byte_more image given i n
@@ -70,20 +58,20 @@ named_there image given i n is low ends =
     ∙ ap (λ (p : ℕ). block_byte image p (n % 4096)) (pointer_is i (n / 4096) (omega (arith, low)))
 
 -- past the end of all items the file has no bytes
-pub nothing_past : (image : Image) (given : List Item) (size b n : ℕ) → All (EndsBy b) given → b ≤ n → content image given size n ≡ 0
+pub nothing_past : (image : Image) (given : List ReiserItem) (size b n : ℕ) → All (EndsBy b) given → b ≤ n → content image given size n ≡ 0
 nothing_past image given size b n ends h =
     same_below _ _ n size (ap (λ (o : Option ℕ). unwrap_or o (block_byte image (named_block given (n / 4096)) (n % 4096))) (direct_none b given n ends h)
     ∙ ap (λ (p : ℕ). block_byte image p (n % 4096)) (named_none b given n ends h))
     ∙ either (ltb n size) 0
 
-pub count_direct : (i : Item) → i.head.kind ≡ Direct → byte_count i.head.kind i.body ≡ length i.body
+pub count_direct : (i : ReiserItem) → i.head.kind ≡ Direct → byte_count i.head.kind i.body ≡ length i.body
 count_direct i is = ap (λ (kind : ItemKind). byte_count kind i.body) is
 
-pub count_indirect : (i : Item) → i.head.kind ≡ Indirect → byte_count i.head.kind i.body ≡ 4096 * (length i.body / 4)
+pub count_indirect : (i : ReiserItem) → i.head.kind ≡ Indirect → byte_count i.head.kind i.body ≡ 4096 * (length i.body / 4)
 count_indirect i is = ap (λ (kind : ItemKind). byte_count kind i.body) is
 
 -- what a direct item adds
-pub direct_overlays : (image : Image) (given : List Item) (i : Item) (size : ℕ) → i.head.kind ≡ Direct → MayFollow given i
+pub direct_overlays : (image : Image) (given : List ReiserItem) (i : ReiserItem) (size : ℕ) → i.head.kind ≡ Direct → MayFollow given i
     → Overlays (first_byte i) (take (size - first_byte i) i.body) (content image given size) (content image (given ++ i ∷ []) size)
 direct_overlays image given i size is may =
     let first : ℕ = first_byte i in
@@ -106,7 +94,7 @@ direct_overlays image given i size is may =
     }
 
 -- what an indirect item adds
-pub indirect_overlays : (image : Image) (given : List Item) (i : Item) (size : ℕ) → i.head.kind ≡ Indirect → MayFollow given i
+pub indirect_overlays : (image : Image) (given : List ReiserItem) (i : ReiserItem) (size : ℕ) → i.head.kind ≡ Indirect → MayFollow given i
     → OverlaysNamed image size (first_byte i / 4096) i.body (content image given size) (content image (given ++ i ∷ []) size)
 indirect_overlays image given i size is may =
     let first : ℕ = first_byte i in

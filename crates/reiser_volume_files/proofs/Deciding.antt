@@ -1,16 +1,8 @@
 -- Laws of the bytes of a file.
-use Rattle.std.proofs.Common.{◌≡◌, ◌≢◌, ℕ, ◌+◌, ◌*◌, ◌/◌, ◌%◌, ◌<◌, ◌≤◌, cond, eqb, List, ◌∷◌, ◌++◌, length, get_or, unwrap_or, refl, sym, ap, subst, ◌∙◌, arith, inl, inr}
-use Rattle.std.proofs.lemmas.Bool.{cases_lt, cases_eq}
-use Rattle.std.proofs.lemmas.List.{get_or_at, get_or_append_left, length-append}
-use Rattle.std.proofs.lemmas.List.Elements.{All-from_get_or}
-use Rattle.reiser_walk.specs.outside.History.{Image, block_at}
-use Rattle.reiser_walk.specs.Items.{Item}
-use Rattle.fs_rows.proofs.Functions.{same_bytes}
-use Rattle.reiser_volume_files.specs.Bytes.{first_byte, end_of, direct_byte, named_block, block_byte, file_byte, file_bytes, EndsBy, Follows}
-use Rattle.reiser_volume_files.specs.Laws.{SharesByte, AreApart, AreInOrder}
+use Rattle.reiser_volume_files.proofs.Imports.{◌≡◌, ◌≢◌, ℕ, ◌+◌, ◌*◌, ◌/◌, ◌%◌, ◌<◌, ◌≤◌, cond, eqb, List, ◌∷◌, ◌++◌, length, get_or, unwrap_or, refl, sym, ap, subst, ◌∙◌, arith, inl, inr, cases_lt, cases_eq, get_or_at, get_or_append_left, length-append, All-from_get_or, Image, block_at, ReiserItem, same_bytes, first_byte, end_of, direct_byte, named_block, block_byte, file_byte, file_bytes, EndsBy, FollowsAll, SharesByte, AreItemsApart, AreInOrder}
 
 -- the bytes are the same where the named blocks are
-pub named_decide : (image other : Image) (items : List Item) (size : ℕ)
+pub named_decide : (image other : Image) (items : List ReiserItem) (size : ℕ)
     → ((k : ℕ) → 4096 * k < size → named_block items k ≢ 0 → block_at other (named_block items k) ≡ block_at image (named_block items k))
     → file_bytes other items size ≡ file_bytes image items size
 named_decide image other items size agree =
@@ -26,20 +18,20 @@ named_decide image other items size agree =
     ap (λ (b : ℕ). unwrap_or (direct_byte items (0 + n)) b) same)
 
 -- items in order that are apart follow each other
-pub apart_follow : (before : List Item) (i : Item) (later : List Item) → AreInOrder (before ++ i ∷ later) → AreApart (before ++ i ∷ later) → Follows before i
+pub apart_follow : (before : List ReiserItem) (i : ReiserItem) (later : List ReiserItem) → AreInOrder (before ++ i ∷ later) → AreItemsApart (before ++ i ∷ later) → FollowsAll before i
 apart_follow before i later order apart = λ some.
     All-from_get_or (EndsBy (first_byte i)) before i (λ k h.
     let long : length (before ++ i ∷ later) ≡ length before + length (i ∷ later) = length-append before (i ∷ later) in
     let within : length before < length (before ++ i ∷ later) = omega (arith, long) in
-    let e : Item = get_or before k i in
+    let e : ReiserItem = get_or before k i in
     let this : get_or (before ++ i ∷ later) k i ≡ get_or before k i = get_or_append_left before (i ∷ later) i k h in
     let that : get_or (before ++ i ∷ later) (length before) i ≡ i = get_or_at before i later i (length before) refl in
     let sorted : first_byte (get_or before k i) ≤ first_byte i =
-    subst (λ (y : Item). first_byte (get_or before k i) ≤ first_byte y) that
-    (subst (λ (x : Item). first_byte x ≤ first_byte (get_or (before ++ i ∷ later) (length before) i)) this (order k (length before) i h within)) in
+    subst (λ (y : ReiserItem). first_byte (get_or before k i) ≤ first_byte y) that
+    (subst (λ (x : ReiserItem). first_byte x ≤ first_byte (get_or (before ++ i ∷ later) (length before) i)) this (order k (length before) i h within)) in
     let never : SharesByte (get_or before k i) i → ⊥ =
-    subst (λ (y : Item). SharesByte (get_or before k i) y → ⊥) that
-    (subst (λ (x : Item). SharesByte x (get_or (before ++ i ∷ later) (length before) i) → ⊥) this (apart k (length before) i h within)) in
+    subst (λ (y : ReiserItem). SharesByte (get_or before k i) y → ⊥) that
+    (subst (λ (x : ReiserItem). SharesByte x (get_or (before ++ i ∷ later) (length before) i) → ⊥) this (apart k (length before) i h within)) in
     λ _.
     elim (cases_lt (first_byte i) (end_of (get_or before k i))) as (λ _. end_of (get_or before k i) ≤ first_byte i) [
       | inl over ↦ absurd (never (record { byte = first_byte i; first_from = sorted; first_to = over; second_from = omega arith; second_to = omega (arith, some) }))

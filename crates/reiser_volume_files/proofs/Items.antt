@@ -1,22 +1,11 @@
 -- What one more item makes of the bytes of a file.
-use Rattle.std.proofs.Common.{◌≡◌, ◌≢◌, ℕ, ◌+◌, ◌-◌, ◌*◌, ◌/◌, ◌%◌, ◌<◌, ◌≤◌, true, false, cond, eqb, ltb, leb, List, [], ◌∷◌, ◌++◌, length, get_or, Option, Some, None, unwrap_or, All, refl, sym, ap, ◌∙◌, arith, inl, inr}
-use Rattle.std.specs.Option.{option_or}
-use Rattle.std.proofs.lemmas.Bool.{cases_Bool, and_parts, and_from, cond-true, cond-false, ltb-true, leb-true, lt-ltb, le-leb, lt-leb, cases_lt, eqb-true}
-use Rattle.std.proofs.lemmas.List.{get_or_past}
-use Rattle.std.proofs.lemmas.List.Elements.{All-head, All-tail}
-use Rattle.reiser_walk.specs.outside.History.{Image}
-use Rattle.reiser_walk.specs.reiser_node.declared.head.ItemKind.{ItemKind}
-use Rattle.reiser_walk.specs.reiser_node.declared.head.ItemKind.TheVariants.{Stat, Indirect, Direct, Directory}
-use Rattle.reiser_walk.specs.reiser_items.Pointers.{pointers}
-use Rattle.reiser_walk.proofs.reiser_items.Lists.{pointers_length}
-use Rattle.reiser_walk.specs.Items.{Item}
-use Rattle.reiser_volume_files.specs.Bytes.{first_byte, byte_count, is_covered, direct_by_kind, direct_byte, pointer_by_kind, named_block, block_byte, file_byte, EndsBy}
+use Rattle.reiser_volume_files.proofs.Imports.{◌≡◌, ◌≢◌, ℕ, ◌+◌, ◌-◌, ◌*◌, ◌/◌, ◌%◌, ◌<◌, ◌≤◌, true, false, cond, eqb, ltb, leb, List, [], ◌∷◌, ◌++◌, length, get_or, Option, Some, None, unwrap_or, All, refl, sym, ap, ◌∙◌, arith, inl, inr, option_or, cases_Bool, and_parts, and_from, cond-true, cond-false, ltb-true, leb-true, lt-ltb, le-leb, lt-leb, cases_lt, eqb-true, get_or_past, All-head, All-tail, Image, ItemKind, Stat, Indirect, Direct, Directory, pointers, pointers_length, ReiserItem, first_byte, byte_count, is_covered, direct_by_kind, direct_byte, pointer_by_kind, named_block, block_byte, file_byte, EndsBy}
 
 -- an item of this kind and body ends at this byte or before, if it has any
-abbrev pub EndsAt : ItemKind → Item → ℕ → Type 0
+abbrev pub EndsAt : ItemKind → ReiserItem → ℕ → Type 0
 EndsAt kind i n = byte_count kind i.body ≢ 0 → first_byte i + byte_count kind i.body ≤ n
 
-pub uncovered : (i : Item) (n : ℕ) → (first_byte i ≤ n → n < first_byte i + length i.body → ⊥) → direct_by_kind Direct i n ≡ None
+pub uncovered : (i : ReiserItem) (n : ℕ) → (first_byte i ≤ n → n < first_byte i + length i.body → ⊥) → direct_by_kind Direct i n ≡ None
 uncovered i n never =
     elim (cases_Bool (is_covered i n)) as (λ _. direct_by_kind Direct i n ≡ None) [
       | inl h ↦ let both = and_parts (leb (first_byte i) n) (ltb n (first_byte i + length i.body)) h in
@@ -24,34 +13,34 @@ uncovered i n never =
       | inr h ↦ cond-false (is_covered i n) (Some (get_or i.body (n - first_byte i) 0)) None h
     ]
 
-pub covered : (i : Item) (n : ℕ) → first_byte i ≤ n → n < first_byte i + length i.body → direct_by_kind Direct i n ≡ Some (get_or i.body (n - first_byte i) 0)
+pub covered : (i : ReiserItem) (n : ℕ) → first_byte i ≤ n → n < first_byte i + length i.body → direct_by_kind Direct i n ≡ Some (get_or i.body (n - first_byte i) 0)
 covered i n low high =
     cond-true (is_covered i n) (Some (get_or i.body (n - first_byte i) 0)) None
     (and_from (leb (first_byte i) n) (ltb n (first_byte i + length i.body)) (le-leb _ _ low) (lt-ltb _ _ high))
 
-pub no_direct_past : (kind : ItemKind) (i : Item) (n : ℕ) → EndsAt kind i n → direct_by_kind kind i n ≡ None
+pub no_direct_past : (kind : ItemKind) (i : ReiserItem) (n : ℕ) → EndsAt kind i n → direct_by_kind kind i n ≡ None
 no_direct_past Stat i n ends = refl
 no_direct_past Indirect i n ends = refl
 no_direct_past Direct i n ends = uncovered i n (λ low high. let some : length i.body ≢ 0 = λ (e : length i.body ≡ 0). omega (arith, e, low, high) in omega (arith, ends some, low, high))
 no_direct_past Directory i n ends = refl
 
-pub no_direct_before : (kind : ItemKind) (i : Item) (n : ℕ) → n < first_byte i → direct_by_kind kind i n ≡ None
+pub no_direct_before : (kind : ItemKind) (i : ReiserItem) (n : ℕ) → n < first_byte i → direct_by_kind kind i n ≡ None
 no_direct_before Stat i n h = refl
 no_direct_before Indirect i n h = refl
 no_direct_before Direct i n h = uncovered i n (λ low high. omega (arith, low, h))
 no_direct_before Directory i n h = refl
 
-pub pointer_is : (i : Item) (k : ℕ) → first_byte i / 4096 ≤ k → pointer_by_kind Indirect i k ≡ get_or (pointers i.body) (k - first_byte i / 4096) 0
+pub pointer_is : (i : ReiserItem) (k : ℕ) → first_byte i / 4096 ≤ k → pointer_by_kind Indirect i k ≡ get_or (pointers i.body) (k - first_byte i / 4096) 0
 pointer_is i k low = cond-true (leb (first_byte i / 4096) k) (get_or (pointers i.body) (k - first_byte i / 4096) 0) 0 (le-leb _ _ low)
 
-no_pointer_by : (i : Item) (k : ℕ) → (first_byte i / 4096 ≤ k → first_byte i / 4096 + length i.body / 4 ≤ k) → pointer_by_kind Indirect i k ≡ 0
+no_pointer_by : (i : ReiserItem) (k : ℕ) → (first_byte i / 4096 ≤ k → first_byte i / 4096 + length i.body / 4 ≤ k) → pointer_by_kind Indirect i k ≡ 0
 no_pointer_by i k ends =
     elim (cases_lt k (first_byte i / 4096)) as (λ _. pointer_by_kind Indirect i k ≡ 0) [
       | inl h ↦ cond-false (leb (first_byte i / 4096) k) (get_or (pointers i.body) (k - first_byte i / 4096) 0) 0 (lt-leb _ _ h)
       | inr h ↦ pointer_is i k h ∙ get_or_past (pointers i.body) (k - first_byte i / 4096) 0 (omega (arith, ends h, h, pointers_length i.body))
     ]
 
-pub no_pointer_past : (kind : ItemKind) (i : Item) (n : ℕ) → EndsAt kind i n → pointer_by_kind kind i (n / 4096) ≡ 0
+pub no_pointer_past : (kind : ItemKind) (i : ReiserItem) (n : ℕ) → EndsAt kind i n → pointer_by_kind kind i (n / 4096) ≡ 0
 no_pointer_past Stat i n ends = refl
 no_pointer_past Indirect i n ends =
     elim (cases_lt 0 (length i.body / 4)) as (λ _. pointer_by_kind Indirect i (n / 4096) ≡ 0) [
@@ -64,20 +53,20 @@ no_pointer_past Indirect i n ends =
 no_pointer_past Direct i n ends = refl
 no_pointer_past Directory i n ends = refl
 
-pub no_pointer_before : (kind : ItemKind) (i : Item) (k : ℕ) → k < first_byte i / 4096 → pointer_by_kind kind i k ≡ 0
+pub no_pointer_before : (kind : ItemKind) (i : ReiserItem) (k : ℕ) → k < first_byte i / 4096 → pointer_by_kind kind i k ≡ 0
 no_pointer_before Stat i k h = refl
 no_pointer_before Indirect i k h = no_pointer_by i k (λ low. absurd (omega (arith, low, h)))
 no_pointer_before Direct i k h = refl
 no_pointer_before Directory i k h = refl
 
 -- past the end of all items there is nothing
-pub direct_none : (b : ℕ) → (items : List Item) (n : ℕ) → All (EndsBy b) items → b ≤ n → direct_byte items n ≡ None
+pub direct_none : (b : ℕ) → (items : List ReiserItem) (n : ℕ) → All (EndsBy b) items → b ≤ n → direct_byte items n ≡ None
 direct_none b [] n ends h = refl
 direct_none b (i ∷ items) n ends h =
     let here : direct_by_kind i.head.kind i n ≡ None = no_direct_past i.head.kind i n (λ some. let end = All-head (EndsBy b) i items ends some in omega (arith, end, h)) in
     ap (λ (o : Option ℕ). option_or o (direct_byte items n)) here ∙ direct_none b items n (All-tail (EndsBy b) i items ends) h
 
-pub named_none : (b : ℕ) → (items : List Item) (n : ℕ) → All (EndsBy b) items → b ≤ n → named_block items (n / 4096) ≡ 0
+pub named_none : (b : ℕ) → (items : List ReiserItem) (n : ℕ) → All (EndsBy b) items → b ≤ n → named_block items (n / 4096) ≡ 0
 named_none b [] n ends h = refl
 named_none b (i ∷ items) n ends h =
     let here : pointer_by_kind i.head.kind i (n / 4096) ≡ 0 = no_pointer_past i.head.kind i n (λ some. let end = All-head (EndsBy b) i items ends some in omega (arith, end, h)) in
@@ -87,7 +76,7 @@ or_none : (o : Option ℕ) → option_or o None ≡ o
 or_none None = refl
 or_none (Some x) = refl
 
-pub direct_more : (items : List Item) (i : Item) (n : ℕ) → direct_byte (items ++ i ∷ []) n ≡ option_or (direct_byte items n) (direct_by_kind i.head.kind i n)
+pub direct_more : (items : List ReiserItem) (i : ReiserItem) (n : ℕ) → direct_byte (items ++ i ∷ []) n ≡ option_or (direct_byte items n) (direct_by_kind i.head.kind i n)
 direct_more [] i n = or_none (direct_by_kind i.head.kind i n)
 direct_more (j ∷ items) i n =
     ap (λ (o : Option ℕ). option_or (direct_by_kind j.head.kind j n) o) (direct_more items i n) ∙ or_assoc (direct_by_kind j.head.kind j n) (direct_byte items n) (direct_by_kind i.head.kind i n)
@@ -120,19 +109,19 @@ or_assoc a b c =
       | inr h ↦ or_else a (or_zero b c) h ∙ sym (ap (λ (n : ℕ). or_zero n c) (or_else a b h) ∙ or_else a c h)
     ]
 
-pub named_more : (items : List Item) (i : Item) (k : ℕ) → named_block (items ++ i ∷ []) k ≡ cond (eqb (named_block items k) 0) (pointer_by_kind i.head.kind i k) (named_block items k)
+pub named_more : (items : List ReiserItem) (i : ReiserItem) (k : ℕ) → named_block (items ++ i ∷ []) k ≡ cond (eqb (named_block items k) 0) (pointer_by_kind i.head.kind i k) (named_block items k)
 named_more [] i k = zero_or (pointer_by_kind i.head.kind i k)
 named_more (j ∷ items) i k =
     ap (λ (p : ℕ). or_zero (pointer_by_kind j.head.kind j k) p) (named_more items i k) ∙ or_assoc (pointer_by_kind j.head.kind j k) (named_block items k) (pointer_by_kind i.head.kind i k)
 
-pub same_direct : (items : List Item) (i : Item) (n : ℕ) → direct_by_kind i.head.kind i n ≡ None → direct_byte (items ++ i ∷ []) n ≡ direct_byte items n
+pub same_direct : (items : List ReiserItem) (i : ReiserItem) (n : ℕ) → direct_by_kind i.head.kind i n ≡ None → direct_byte (items ++ i ∷ []) n ≡ direct_byte items n
 same_direct items i n none = direct_more items i n ∙ ap (λ (o : Option ℕ). option_or (direct_byte items n) o) none ∙ or_none (direct_byte items n)
 
-pub same_named : (items : List Item) (i : Item) (k : ℕ) → pointer_by_kind i.head.kind i k ≡ 0 → named_block (items ++ i ∷ []) k ≡ named_block items k
+pub same_named : (items : List ReiserItem) (i : ReiserItem) (k : ℕ) → pointer_by_kind i.head.kind i k ≡ 0 → named_block (items ++ i ∷ []) k ≡ named_block items k
 same_named items i k none = named_more items i k ∙ ap (λ (p : ℕ). or_zero (named_block items k) p) none ∙ zero_or (named_block items k)
 
 -- an item that has nothing of a byte leaves it as it is
-pub same_byte : (image : Image) (items : List Item) (i : Item) (n : ℕ) → direct_by_kind i.head.kind i n ≡ None → pointer_by_kind i.head.kind i (n / 4096) ≡ 0
+pub same_byte : (image : Image) (items : List ReiserItem) (i : ReiserItem) (n : ℕ) → direct_by_kind i.head.kind i n ≡ None → pointer_by_kind i.head.kind i (n / 4096) ≡ 0
     → file_byte image (items ++ i ∷ []) n ≡ file_byte image items n
 same_byte image items i n none zero_there =
     ap (λ (o : Option ℕ). unwrap_or o (block_byte image (named_block (items ++ i ∷ []) (n / 4096)) (n % 4096))) (same_direct items i n none)

@@ -1,11 +1,5 @@
 -- Runs of file blocks.
-use Rattle.std.proofs.Common.{◌≡◌, ◌≢◌, ℕ, zero, suc, ◌+◌, ◌-◌, ◌<◌, ◌≤◌, true, false, List, [], ◌∷◌, ◌++◌, length, get_or, set, Option, None, refl, sym, ap, ◌∙◌, arith, inl, inr}
-use Rattle.std.proofs.lemmas.Bool.{cases_lt, cond-true, cond-false}
-use Rattle.reiser_volume_files.specs.declared.map.FileRun.{FileRun}
-use Rattle.reiser_volume_files.specs.declared.map.RunFrom.{RunFrom}
-use Rattle.reiser_volume_files.specs.declared.mapper.FileMapper.{FileMapper}
-use Rattle.reiser_volume_files.specs.Runs.{goes_on, run_of, longer, with_block, extended, runs_of}
-use Rattle.reiser_volume_files.specs.States.{HoldsRuns}
+use Rattle.reiser_volume_files.proofs.Imports.{◌≡◌, ◌≢◌, ℕ, zero, suc, ◌+◌, ◌-◌, ◌<◌, ◌≤◌, true, false, List, [], ◌∷◌, ◌++◌, length, get_or, set, Option, None, refl, sym, ap, ◌∙◌, arith, inl, inr, cases_lt, cond-true, cond-false, FileRun, RunFrom, FileMapper, goes_on, run_of, longer, with_block, extended, runs_of, HoldsRuns}
 
 -- the last run goes on
 pub run_grown : (xs : List FileRun) (n : ℕ) (d : FileRun) (k : ℕ) (from : RunFrom) → n + 1 ≡ length xs → goes_on (get_or xs n d) k from ≡ true

@@ -2,6 +2,7 @@ pub mod Adding
 pub mod Ascending
 pub mod Contents
 pub mod Deciding
+pub mod Imports
 pub mod Items
 pub mod Joining
 pub mod Mapped

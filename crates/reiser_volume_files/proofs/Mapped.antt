@@ -1,18 +1,5 @@
 -- What a mapper holds after one more item, or after a part of one.
-use Rattle.std.proofs.Common.{◌≡◌, ◌≢◌, ℕ, ◌+◌, ◌-◌, ◌*◌, ◌/◌, ◌<◌, ◌≤◌, min, eqb, List, [], ◌∷◌, ◌++◌, length, get_or, Option, Some, None, Result, OnOk, sym, ap, subst, ◌∙◌, arith, inl, inr}
-use Rattle.std.specs.Int.{div_ceil}
-use Rattle.std.proofs.lemmas.Bool.{cases_lt, cases_eq, cond-false, ne_eqb}
-use Rattle.reiser_walk.specs.reiser_node.declared.head.ItemKind.TheVariants.{Indirect, Direct}
-use Rattle.reiser_walk.specs.reiser_items.Pointers.{pointers}
-use Rattle.reiser_walk.specs.Items.{Item}
-use Rattle.fs_rows.proofs.Joined.{joined_at, joined_below, joined_above, joined_on, joined_end}
-use Rattle.reiser_volume_files.specs.declared.map.RunFrom.{RunFrom}
-use Rattle.reiser_volume_files.specs.declared.map.RunFrom.TheVariants.{Disk}
-use Rattle.reiser_volume_files.specs.declared.mapper.FileMapper.{FileMapper}
-use Rattle.reiser_volume_files.specs.Bytes.{first_byte, byte_count, end_of, EndsBy, MayFollow}
-use Rattle.reiser_volume_files.specs.Parts.{OverlaysTail, OverlaysDisks}
-use Rattle.reiser_volume_files.specs.Runs.{block_from, disk_or_hole}
-use Rattle.reiser_volume_files.specs.States.{HoldsRuns, MapsFile}
+use Rattle.reiser_volume_files.proofs.Imports.{◌≡◌, ◌≢◌, ℕ, ◌+◌, ◌-◌, ◌*◌, ◌/◌, ◌<◌, ◌≤◌, min, eqb, List, [], ◌∷◌, ◌++◌, length, get_or, Option, Some, None, Result, OnOk, sym, ap, subst, ◌∙◌, arith, inl, inr, div_ceil, cases_lt, cases_eq, cond-false, ne_eqb, Indirect, Direct, pointers, ReiserItem, joined_at, joined_below, joined_above, joined_on, joined_end, RunFrom, Disk, FileMapper, first_byte, byte_count, end_of, EndsBy, MayFollow, OverlaysTail, OverlaysDisks, block_from, disk_or_hole, HoldsRuns, MapsFile}
 use Rattle.reiser_volume_files.proofs.Joining.{runs_same}
 use Rattle.reiser_volume_files.proofs.Adding.{all_before, all_last, on_ok, on_ok_both}
 use Rattle.reiser_volume_files.proofs.Contents.{count_direct, count_indirect}
@@ -58,21 +45,21 @@ disks_end size first count body f g over is =
       | inr past ↦ over.past k past
     ])
 
-pub maps_empty : (m m' : FileMapper) (given : List Item) (i : Item) → m' ≡ m → byte_count i.head.kind i.body ≡ 0 → MapsFile m given → MapsFile m' (given ++ i ∷ [])
+pub maps_empty : (m m' : FileMapper) (given : List ReiserItem) (i : ReiserItem) → m' ≡ m → byte_count i.head.kind i.body ≡ 0 → MapsFile m given → MapsFile m' (given ++ i ∷ [])
 maps_empty m m' given i is none maps =
     subst (λ (n : FileMapper). MapsFile n (given ++ i ∷ [])) (sym is) (record {
       runs = runs_same m _ _ (empty_from given i m.size none) maps.runs;
       reached = λ b all. maps.reached b (all_before (EndsBy b) given i all);
     })
 
-maps_more : (m m' : FileMapper) (given : List Item) (i : Item) → m'.size ≡ m.size → byte_count i.head.kind i.body ≢ 0 → HoldsRuns m' (block_from (given ++ i ∷ []) m.size)
+maps_more : (m m' : FileMapper) (given : List ReiserItem) (i : ReiserItem) → m'.size ≡ m.size → byte_count i.head.kind i.body ≢ 0 → HoldsRuns m' (block_from (given ++ i ∷ []) m.size)
     → 4096 * m'.next ≤ end_of i → MapsFile m' (given ++ i ∷ [])
 maps_more m m' given i size some held end = record {
   runs = subst (λ (s : ℕ). HoldsRuns m' (block_from (given ++ i ∷ []) s)) (sym size) held;
   reached = λ b all. let last = all_last (EndsBy b) given i all some in omega (arith, end, last);
 }
 
-pub maps_direct : {T E : Type 0} (r : Result T E) (m m' : FileMapper) (given : List Item) (i : Item) (at : ℕ) (body : List ℕ) → i.head.kind ≡ Direct → at ≡ first_byte i → i.body ≡ body
+pub maps_direct : {T E : Type 0} (r : Result T E) (m m' : FileMapper) (given : List ReiserItem) (i : ReiserItem) (at : ℕ) (body : List ℕ) → i.head.kind ≡ Direct → at ≡ first_byte i → i.body ≡ body
     → m'.size ≡ m.size → (4096 * m.next ≤ at → OnOk r (4096 * m'.next ≤ at + length body)) → (length body ≡ 0 → m' ≡ m)
     → ((f g : ℕ → Option RunFrom) → OverlaysTail at (min (length body) (m.size - at)) f g → 4096 * m.next ≤ at → HoldsRuns m f → OnOk r (HoldsRuns m' g))
     → MayFollow given i → MapsFile m given → OnOk r (MapsFile m' (given ++ i ∷ []))
@@ -89,7 +76,7 @@ maps_direct r m m' given i at body is from same size near none adds may maps =
           on_ok_both r (adds _ _ over low maps.runs) (near low) (λ held end. maps_more m m' given i size some held (omega (arith, end, from, counted)))
     ]
 
-pub maps_indirect : {T E : Type 0} (r : Result T E) (m m' : FileMapper) (given : List Item) (i : Item) (first : ℕ) (body : List ℕ) → i.head.kind ≡ Indirect
+pub maps_indirect : {T E : Type 0} (r : Result T E) (m m' : FileMapper) (given : List ReiserItem) (i : ReiserItem) (first : ℕ) (body : List ℕ) → i.head.kind ≡ Indirect
     → first ≡ first_byte i / 4096 → i.body ≡ body → m'.size ≡ m.size → (m.next ≤ first → OnOk r (m'.next ≤ first + length body / 4)) → (length body / 4 ≡ 0 → m' ≡ m)
     → ((f g : ℕ → Option RunFrom) → OverlaysDisks m.size first body f g → m.next ≤ first → HoldsRuns m f → OnOk r (HoldsRuns m' g))
     → MayFollow given i → MapsFile m given → OnOk r (MapsFile m' (given ++ i ∷ []))

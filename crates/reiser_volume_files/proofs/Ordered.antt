@@ -1,16 +1,9 @@
 -- The order of the items of one object.
-use Rattle.std.proofs.Common.{◌≡◌, ℕ, ◌<◌, ◌≤◌, true, cond, eqb, ltb, List, get_or, All, sym, ap, ◌∙◌, arith, inl, inr}
-use Rattle.std.specs.Prelude.{AllPairs}
+use Rattle.reiser_volume_files.proofs.Imports.{◌≡◌, ℕ, ◌<◌, ◌≤◌, true, cond, eqb, ltb, List, get_or, All, sym, ap, ◌∙◌, arith, inl, inr, AllPairs, false≢true, cases_lt, cond-true, cond-false, le-ltb, ne_eqb, eq-eqb, All-get_or, ItemHead, ReiserItem, first_byte, IsItemOf, AreInOrder}
 use Rattle.std.specs.declared.cmp.Ordering.{Ordering}
 use Rattle.std.specs.declared.cmp.Ordering.TheVariants.{Less, Equal, Greater}
 use Rattle.std.specs.Ordering.{nat_cmp, ordering_then, is_lt}
-use Rattle.std.proofs.lemmas.Bool.{false≢true, cases_lt, cond-true, cond-false, le-ltb, ne_eqb, eq-eqb}
-use Rattle.std.proofs.lemmas.List.Elements.{All-get_or}
-use Rattle.reiser_walk.specs.reiser_node.declared.head.ItemHead.{ItemHead}
 use Rattle.reiser_walk.specs.reiser_items.Order.{kind_number, key_order}
-use Rattle.reiser_walk.specs.Items.{Item}
-use Rattle.reiser_volume_files.specs.Bytes.{first_byte}
-use Rattle.reiser_volume_files.specs.Laws.{IsOf, AreInOrder}
 
 same_numbers : (x y : ℕ) → x ≡ y → nat_cmp x y ≡ Equal
 same_numbers x y is = cond-false (ltb x y) Less (cond (eqb x y) Equal Greater) (le-ltb x y (omega (arith, is))) ∙ cond-true (eqb x y) Equal Greater (eq-eqb x y is)
@@ -27,12 +20,12 @@ not_below a b dir object h =
     ∙ ap (λ (o : Ordering). ordering_then (ordering_then o (nat_cmp a.offset b.offset)) (nat_cmp (kind_number a.kind) (kind_number b.kind))) (same_numbers a.object b.object object)
     ∙ ap (λ (o : Ordering). ordering_then o (nat_cmp (kind_number a.kind) (kind_number b.kind))) (greater_number a.offset b.offset h)
 
-pub keys_order : (dir object : ℕ) (items : List Item) → All (IsOf dir object) items → AllPairs (λ i j. is_lt (key_order i.head j.head) ≡ true) items → AreInOrder items
+pub keys_order : (dir object : ℕ) (items : List ReiserItem) → All (IsItemOf dir object) items → AllPairs (λ i j. is_lt (key_order i.head j.head) ≡ true) items → AreInOrder items
 keys_order dir object items all ascending = λ i j d low high.
-    let x : Item = get_or items i d in
-    let y : Item = get_or items j d in
-    let of_x = All-get_or (IsOf dir object) items i d (omega (arith, low, high)) all in
-    let of_y = All-get_or (IsOf dir object) items j d high all in
+    let x : ReiserItem = get_or items i d in
+    let y : ReiserItem = get_or items j d in
+    let of_x = All-get_or (IsItemOf dir object) items i d (omega (arith, low, high)) all in
+    let of_y = All-get_or (IsItemOf dir object) items j d high all in
     elim (cases_lt (get_or items j d).head.offset (get_or items i d).head.offset) as (λ _. first_byte (get_or items i d) ≤ first_byte (get_or items j d)) [
       | inl h ↦
           let greater = not_below (get_or items i d).head (get_or items j d).head (of_x.dir_is ∙ sym of_y.dir_is) (of_x.object_is ∙ sym of_y.object_is) h in

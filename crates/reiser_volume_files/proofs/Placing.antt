@@ -1,16 +1,5 @@
 -- What one more item makes of where the blocks of a file lie.
-use Rattle.std.proofs.Common.{◌≡◌, ℕ, ◌+◌, ◌-◌, ◌*◌, ◌/◌, ◌%◌, ◌<◌, ◌≤◌, min, max, Bool, true, false, ◌||◌, cond, eqb, ltb, List, [], ◌∷◌, ◌++◌, length, get_or, Some, None, All, refl, sym, ap, subst, ◌∙◌, arith, inl, inr}
-use Rattle.std.specs.List.{list_any}
-use Rattle.std.proofs.lemmas.Bool.{cases_lt, cond-true, cond-false, lt-ltb, le-ltb, or_right}
-use Rattle.std.proofs.lemmas.List.Elements.{All-head, All-tail}
-use Rattle.reiser_walk.specs.reiser_node.declared.head.ItemKind.{ItemKind}
-use Rattle.reiser_walk.specs.reiser_node.declared.head.ItemKind.TheVariants.{Stat, Indirect, Direct, Directory}
-use Rattle.reiser_walk.specs.reiser_items.Pointers.{pointers}
-use Rattle.reiser_walk.specs.Items.{Item}
-use Rattle.reiser_volume_files.specs.declared.map.RunFrom.TheVariants.{Tail}
-use Rattle.reiser_volume_files.specs.Bytes.{first_byte, byte_count, pointer_by_kind, named_block, EndsBy, AlignedByKind, MayFollow}
-use Rattle.reiser_volume_files.specs.Runs.{holds_by_kind, is_held, disk_or_hole, block_from}
-use Rattle.reiser_volume_files.specs.Parts.{OverlaysTail, OverlaysDisks}
+use Rattle.reiser_volume_files.proofs.Imports.{◌≡◌, ℕ, ◌+◌, ◌-◌, ◌*◌, ◌/◌, ◌%◌, ◌<◌, ◌≤◌, min, max, Bool, true, false, ◌||◌, cond, eqb, ltb, List, [], ◌∷◌, ◌++◌, length, get_or, Some, None, All, refl, sym, ap, subst, ◌∙◌, arith, inl, inr, list_any, cases_lt, cond-true, cond-false, lt-ltb, le-ltb, or_right, All-head, All-tail, ItemKind, Stat, Indirect, Direct, Directory, pointers, ReiserItem, Tail, first_byte, byte_count, pointer_by_kind, named_block, EndsBy, AlignedByKind, MayFollow, holds_by_kind, is_held, disk_or_hole, block_from, OverlaysTail, OverlaysDisks}
 use Rattle.reiser_volume_files.proofs.Items.{EndsAt, pointer_is, no_pointer_past, no_pointer_before, named_none, named_more, same_named}
 use Rattle.reiser_volume_files.proofs.Contents.{count_direct, count_indirect}
 
@@ -26,61 +15,61 @@ any_more : {X : Type 0} (p : X → Bool) → (xs : List X) (y : X) → list_any 
 any_more p [] y = or_false (p y)
 any_more p (x ∷ xs) y = ap (λ (b : Bool). p x || b) (any_more p xs y) ∙ or_assoc (p x) (list_any p xs) (p y)
 
-held_more : (items : List Item) (i : Item) (size k : ℕ) → is_held (items ++ i ∷ []) size k ≡ (is_held items size k || holds_by_kind i.head.kind i size k)
-held_more items i size k = any_more (λ (j : Item). holds_by_kind j.head.kind j size k) items i
+held_more : (items : List ReiserItem) (i : ReiserItem) (size k : ℕ) → is_held (items ++ i ∷ []) size k ≡ (is_held items size k || holds_by_kind i.head.kind i size k)
+held_more items i size k = any_more (λ (j : ReiserItem). holds_by_kind j.head.kind j size k) items i
 
-same_held : (items : List Item) (i : Item) (size k : ℕ) → holds_by_kind i.head.kind i size k ≡ false → is_held (items ++ i ∷ []) size k ≡ is_held items size k
+same_held : (items : List ReiserItem) (i : ReiserItem) (size k : ℕ) → holds_by_kind i.head.kind i size k ≡ false → is_held (items ++ i ∷ []) size k ≡ is_held items size k
 same_held items i size k none = held_more items i size k ∙ ap (λ (b : Bool). is_held items size k || b) none ∙ or_false (is_held items size k)
 
 -- no byte of the block is one of the item's
-pub not_held : (kind : ItemKind) (i : Item) (size k : ℕ) → min (first_byte i + byte_count kind i.body) (min (4096 * k + 4096) size) ≤ max (first_byte i) (4096 * k) → holds_by_kind kind i size k ≡ false
+pub not_held : (kind : ItemKind) (i : ReiserItem) (size k : ℕ) → min (first_byte i + byte_count kind i.body) (min (4096 * k + 4096) size) ≤ max (first_byte i) (4096 * k) → holds_by_kind kind i size k ≡ false
 not_held Stat i size k none = refl
 not_held Indirect i size k none = refl
 not_held Direct i size k none =
     le-ltb (max (first_byte i) (4096 * k)) (min (min (first_byte i + length i.body) (4096 * k + 4096)) size) (omega (arith, none))
 not_held Directory i size k none = refl
 
-pub not_held_past : (kind : ItemKind) (i : Item) (size k : ℕ) → EndsAt kind i (4096 * k) → holds_by_kind kind i size k ≡ false
+pub not_held_past : (kind : ItemKind) (i : ReiserItem) (size k : ℕ) → EndsAt kind i (4096 * k) → holds_by_kind kind i size k ≡ false
 not_held_past kind i size k ends =
     elim (cases_lt 0 (byte_count kind i.body)) as (λ _. holds_by_kind kind i size k ≡ false) [
       | inl h ↦ let end = ends (λ (e : byte_count kind i.body ≡ 0). omega (arith, e, h)) in not_held kind i size k (omega (arith, end))
       | inr h ↦ not_held kind i size k (omega (arith, h))
     ]
 
-held_none : (b : ℕ) → (items : List Item) (size k : ℕ) → All (EndsBy b) items → b ≤ 4096 * k → is_held items size k ≡ false
+held_none : (b : ℕ) → (items : List ReiserItem) (size k : ℕ) → All (EndsBy b) items → b ≤ 4096 * k → is_held items size k ≡ false
 held_none b [] size k ends h = refl
 held_none b (i ∷ items) size k ends h =
     let here : holds_by_kind i.head.kind i size k ≡ false = not_held_past i.head.kind i size k (λ some. let end = All-head (EndsBy b) i items ends some in omega (arith, end, h)) in
     ap (λ (t : Bool). t || is_held items size k) here ∙ held_none b items size k (All-tail (EndsBy b) i items ends) h
 
-pub from_below : (items : List Item) (size k : ℕ) → 4096 * k < size → block_from items size k ≡ cond (is_held items size k) (Some Tail) (disk_or_hole (named_block items k))
+pub from_below : (items : List ReiserItem) (size k : ℕ) → 4096 * k < size → block_from items size k ≡ cond (is_held items size k) (Some Tail) (disk_or_hole (named_block items k))
 from_below items size k h = cond-true (ltb (4096 * k) size) (cond (is_held items size k) (Some Tail) (disk_or_hole (named_block items k))) None (lt-ltb (4096 * k) size h)
 
-pub from_past : (items : List Item) (size k : ℕ) → size ≤ 4096 * k → block_from items size k ≡ None
+pub from_past : (items : List ReiserItem) (size k : ℕ) → size ≤ 4096 * k → block_from items size k ≡ None
 from_past items size k h = cond-false (ltb (4096 * k) size) (cond (is_held items size k) (Some Tail) (disk_or_hole (named_block items k))) None (le-ltb (4096 * k) size h)
 
 -- an item that has nothing of a block leaves it where it is
-pub same_from : (items : List Item) (i : Item) (size k : ℕ) → holds_by_kind i.head.kind i size k ≡ false → pointer_by_kind i.head.kind i k ≡ 0 → block_from (items ++ i ∷ []) size k ≡ block_from items size k
+pub same_from : (items : List ReiserItem) (i : ReiserItem) (size k : ℕ) → holds_by_kind i.head.kind i size k ≡ false → pointer_by_kind i.head.kind i k ≡ 0 → block_from (items ++ i ∷ []) size k ≡ block_from items size k
 same_from items i size k none zero_there =
     ap (λ (t : Bool). cond (ltb (4096 * k) size) (cond t (Some Tail) (disk_or_hole (named_block (items ++ i ∷ []) k))) None) (same_held items i size k none)
     ∙ ap (λ (b : ℕ). cond (ltb (4096 * k) size) (cond (is_held items size k) (Some Tail) (disk_or_hole b)) None) (same_named items i k zero_there)
 
-pub both_from_past : (items : List Item) (i : Item) (size k : ℕ) → size ≤ 4096 * k → block_from (items ++ i ∷ []) size k ≡ block_from items size k
+pub both_from_past : (items : List ReiserItem) (i : ReiserItem) (size k : ℕ) → size ≤ 4096 * k → block_from (items ++ i ∷ []) size k ≡ block_from items size k
 both_from_past items i size k h = from_past (items ++ i ∷ []) size k h ∙ sym (from_past items size k h)
 
 -- a number of a block and of its first byte
-named_none_at : (b : ℕ) (items : List Item) (k : ℕ) → All (EndsBy b) items → b ≤ 4096 * k → named_block items k ≡ 0
+named_none_at : (b : ℕ) (items : List ReiserItem) (k : ℕ) → All (EndsBy b) items → b ≤ 4096 * k → named_block items k ≡ 0
 named_none_at b items k ends h = let is : k ≡ 4096 * k / 4096 = omega arith in ap (λ (j : ℕ). named_block items j) is ∙ named_none b items (4096 * k) ends h
 
-no_pointer_at : (kind : ItemKind) (i : Item) (k : ℕ) → EndsAt kind i (4096 * k) → pointer_by_kind kind i k ≡ 0
+no_pointer_at : (kind : ItemKind) (i : ReiserItem) (k : ℕ) → EndsAt kind i (4096 * k) → pointer_by_kind kind i k ≡ 0
 no_pointer_at kind i k ends = let is : k ≡ 4096 * k / 4096 = omega arith in ap (λ (j : ℕ). pointer_by_kind kind i j) is ∙ no_pointer_past kind i (4096 * k) ends
 
 -- an item that has no bytes
-pub empty_from : (given : List Item) (i : Item) (size : ℕ) → byte_count i.head.kind i.body ≡ 0 → (k : ℕ) → block_from given size k ≡ block_from (given ++ i ∷ []) size k
+pub empty_from : (given : List ReiserItem) (i : ReiserItem) (size : ℕ) → byte_count i.head.kind i.body ≡ 0 → (k : ℕ) → block_from given size k ≡ block_from (given ++ i ∷ []) size k
 empty_from given i size none k = sym (same_from given i size k (not_held_past i.head.kind i size k (λ some. absurd (some none))) (no_pointer_at i.head.kind i k (λ some. absurd (some none))))
 
 -- past the end of all items there is nothing
-pub nothing_from : (given : List Item) (size b k : ℕ) → All (EndsBy b) given → b ≤ 4096 * k → block_from given size k ≡ None
+pub nothing_from : (given : List ReiserItem) (size b k : ℕ) → All (EndsBy b) given → b ≤ 4096 * k → block_from given size k ≡ None
 nothing_from given size b k ends h =
     ap (λ (t : Bool). cond (ltb (4096 * k) size) (cond t (Some Tail) (disk_or_hole (named_block given k))) None) (held_none b given size k ends h)
     ∙ ap (λ (p : ℕ). cond (ltb (4096 * k) size) (disk_or_hole p) None) (named_none_at b given k ends h) ∙ either (ltb (4096 * k) size)
@@ -90,7 +79,7 @@ nothing_from given size b k ends h =
     either false = refl
 
 -- what a direct item adds
-pub direct_tails : (given : List Item) (i : Item) (size : ℕ) → i.head.kind ≡ Direct
+pub direct_tails : (given : List ReiserItem) (i : ReiserItem) (size : ℕ) → i.head.kind ≡ Direct
     → OverlaysTail (first_byte i) (min (length i.body) (size - first_byte i)) (block_from given size) (block_from (given ++ i ∷ []) size)
 direct_tails given i size is =
     let first : ℕ = first_byte i in
@@ -109,7 +98,7 @@ direct_tails given i size is =
     }
 
 -- what an indirect item adds
-pub indirect_disks : (given : List Item) (i : Item) (size : ℕ) → i.head.kind ≡ Indirect → MayFollow given i
+pub indirect_disks : (given : List ReiserItem) (i : ReiserItem) (size : ℕ) → i.head.kind ≡ Indirect → MayFollow given i
     → OverlaysDisks size (first_byte i / 4096) i.body (block_from given size) (block_from (given ++ i ∷ []) size)
 indirect_disks given i size is may =
     let first : ℕ = first_byte i in

@@ -1,11 +1,5 @@
 -- Pointers that lie inside.
-use Rattle.std.proofs.Common.{◌≡◌, ◌≢◌, ℕ, zero, suc, ◌/◌, ◌<◌, true, ◌||◌, eqb, ltb, List, [], ◌∷◌, length, get_or, arith, inl, inr}
-use Rattle.std.specs.List.{list_all}
-use Rattle.std.proofs.lemmas.Bool.{and_parts, or_cases, eqb-true, ltb-true}
-use Rattle.reiser_walk.specs.reiser_node.declared.head.ItemKind.TheVariants.{Indirect}
-use Rattle.reiser_walk.specs.reiser_items.Pointers.{pointers}
-use Rattle.reiser_walk.proofs.reiser_items.Lists.{pointers_length}
-use Rattle.reiser_volume_files.specs.Pieces.{are_inside, is_inside}
+use Rattle.reiser_volume_files.proofs.Imports.{◌≡◌, ◌≢◌, ℕ, zero, suc, ◌/◌, ◌<◌, true, ◌||◌, eqb, ltb, List, [], ◌∷◌, length, get_or, arith, inl, inr, list_all, and_parts, or_cases, eqb-true, ltb-true, Indirect, pointers, pointers_length, are_inside, is_inside}
 
 each_inside : (n : ℕ) → (xs : List ℕ) (j : ℕ) → list_all (λ b. is_inside b n) xs ≡ true → j < length xs → get_or xs j 0 ≢ 0 → get_or xs j 0 < n
 each_inside n [] j all h some = absurd (omega (arith, h))

@@ -1,47 +1,29 @@
 -- Each file block is of one sort.
-use Rattle.std.proofs.Common.{◌≡◌, ◌≢◌, ℕ, suc, ◌+◌, ◌-◌, ◌*◌, ◌/◌, ◌%◌, ◌<◌, ◌≤◌, min, max, true, false, cond, eqb, ltb, List, [], ◌∷◌, ◌++◌, length, get_or, take, replicate, Option, Some, None, unwrap_or, All, refl, sym, ap, subst, ◌∙◌, arith, inl, inr}
-use Rattle.std.specs.Prelude.{Contains}
-use Rattle.std.specs.Option.{option_or}
-use Rattle.std.proofs.lemmas.Bool.{false≢true, cases_Bool, cases_lt, cases_eq, cases_order, or_cases, or_parts, cond-true, cond-false, ltb-true, ltb-false, lt-ltb, le-ltb, ne_eqb}
-use Rattle.std.proofs.lemmas.List.{get_or_default, get_or_past, get_or-take, get_or_append_left, get_or-append_right, get_or-replicate, length-take, length-append, length-replicate}
-use Rattle.std.proofs.lemmas.List.Elements.{All-get_or, All-head, All-tail, Contains-get_or}
-use Rattle.reiser_walk.specs.outside.History.{Image, block_at}
+use Rattle.reiser_volume_files.proofs.Imports.{◌≡◌, ◌≢◌, ℕ, suc, ◌+◌, ◌-◌, ◌*◌, ◌/◌, ◌%◌, ◌<◌, ◌≤◌, min, max, true, false, cond, eqb, ltb, List, [], ◌∷◌, ◌++◌, length, get_or, take, replicate, Option, Some, None, unwrap_or, All, refl, sym, ap, subst, ◌∙◌, arith, inl, inr, Contains, option_or, false≢true, cases_Bool, cases_lt, cases_eq, cases_order, or_cases, or_parts, cond-true, cond-false, ltb-true, ltb-false, lt-ltb, le-ltb, ne_eqb, get_or_default, get_or_past, get_or-take, get_or_append_left, get_or-append_right, get_or-replicate, length-take, length-append, length-replicate, All-get_or, All-head, All-tail, Contains-get_or, Image, block_at, ItemKind, Stat, Indirect, Direct, Directory, pointers, pointers_length, ReiserItem, bytes_are, byte_at, length_bytes, same_block, zero_block, below_size, past_size, RunFrom, Disk, Tail, first_byte, byte_count, direct_by_kind, direct_byte, pointer_by_kind, named_block, block_byte, file_byte, content, direct_content, bytes_by, file_block, tail_block, file_bytes, target_bytes, IsAligned, AlignedByKind, holds_by_kind, is_held, disk_or_hole, block_from, SharesByte, AreItemsApart, up_to_size, held_from, IsNoIndirect, IsNamedBlock}
 use Rattle.reiser_walk.specs.vol_block.Volume.{zeros}
-use Rattle.reiser_walk.specs.reiser_node.declared.head.ItemKind.{ItemKind}
-use Rattle.reiser_walk.specs.reiser_node.declared.head.ItemKind.TheVariants.{Stat, Indirect, Direct, Directory}
-use Rattle.reiser_walk.specs.reiser_items.Pointers.{pointers}
-use Rattle.reiser_walk.proofs.reiser_items.Lists.{pointers_length}
-use Rattle.reiser_walk.specs.Items.{Item}
-use Rattle.fs_rows.proofs.Functions.{bytes_are, byte_at, length_bytes, same_block, zero_block}
-use Rattle.fs_rows.proofs.FileMarks.{below_size, past_size}
-use Rattle.reiser_volume_files.specs.declared.map.RunFrom.{RunFrom}
-use Rattle.reiser_volume_files.specs.declared.map.RunFrom.TheVariants.{Disk, Tail}
-use Rattle.reiser_volume_files.specs.Bytes.{first_byte, byte_count, direct_by_kind, direct_byte, pointer_by_kind, named_block, block_byte, file_byte, content, direct_content, bytes_by, file_block, tail_block, file_bytes, target_bytes, IsAligned, AlignedByKind}
-use Rattle.reiser_volume_files.specs.Runs.{holds_by_kind, is_held, disk_or_hole, block_from}
-use Rattle.reiser_volume_files.specs.Laws.{SharesByte, AreApart, up_to_size, held_from, IsNoIndirect, IsNamed}
 use Rattle.reiser_volume_files.proofs.Items.{uncovered, pointer_is, no_pointer_before}
 use Rattle.reiser_volume_files.proofs.Contents.{count_direct, count_indirect}
 use Rattle.reiser_volume_files.proofs.Placing.{from_below, from_past}
 
 -- a direct item that holds a byte of the block
-record HoldsOf (size k : ℕ) (i : Item) : Type 0 where
+record HoldsOf (size k : ℕ) (i : ReiserItem) : Type 0 where
   kind : i.head.kind ≡ Direct
   some : max (first_byte i) (4096 * k) < min (min (first_byte i + length i.body) (4096 * k + 4096)) size
 
-holds_by : (kind : ItemKind) (i : Item) (size k : ℕ) → holds_by_kind kind i size k ≡ true → (kind ≡ Direct) × (max (first_byte i) (4096 * k) < min (min (first_byte i + length i.body) (4096 * k + 4096)) size)
+holds_by : (kind : ItemKind) (i : ReiserItem) (size k : ℕ) → holds_by_kind kind i size k ≡ true → (kind ≡ Direct) × (max (first_byte i) (4096 * k) < min (min (first_byte i + length i.body) (4096 * k + 4096)) size)
 holds_by Stat i size k h = absurd (false≢true h)
 holds_by Indirect i size k h = absurd (false≢true h)
 holds_by Direct i size k h = (refl, ltb-true _ _ h)
 holds_by Directory i size k h = absurd (false≢true h)
 
 -- an indirect item that names a block for this one
-pub record NamesOf (k : ℕ) (i : Item) : Type 0 where
+pub record NamesOf (k : ℕ) (i : ReiserItem) : Type 0 where
   pub kind : i.head.kind ≡ Indirect
   pub from : first_byte i / 4096 ≤ k
   pub to : k < first_byte i / 4096 + length i.body / 4
   pub is : pointer_by_kind i.head.kind i k ≡ get_or (pointers i.body) (k - first_byte i / 4096) 0
 
-names_direct : (i : Item) (k : ℕ) → pointer_by_kind Indirect i k ≢ 0 → (first_byte i / 4096 ≤ k) × (k < first_byte i / 4096 + length i.body / 4) × (pointer_by_kind Indirect i k ≡ get_or (pointers i.body) (k - first_byte i / 4096) 0)
+names_direct : (i : ReiserItem) (k : ℕ) → pointer_by_kind Indirect i k ≢ 0 → (first_byte i / 4096 ≤ k) × (k < first_byte i / 4096 + length i.body / 4) × (pointer_by_kind Indirect i k ≡ get_or (pointers i.body) (k - first_byte i / 4096) 0)
 names_direct i k some =
     elim (cases_lt k (first_byte i / 4096)) as (λ _. (first_byte i / 4096 ≤ k) × (k < first_byte i / 4096 + length i.body / 4) × (pointer_by_kind Indirect i k ≡ get_or (pointers i.body) (k - first_byte i / 4096) 0)) [
       | inl low ↦ absurd (some (no_pointer_before Indirect i k low))
@@ -53,36 +35,36 @@ names_direct i k some =
           ]
     ]
 
-names_kind : (kind : ItemKind) (i : Item) (k : ℕ) → pointer_by_kind kind i k ≢ 0 → kind ≡ Indirect
+names_kind : (kind : ItemKind) (i : ReiserItem) (k : ℕ) → pointer_by_kind kind i k ≢ 0 → kind ≡ Indirect
 names_kind Stat i k some = absurd (some refl)
 names_kind Indirect i k some = refl
 names_kind Direct i k some = absurd (some refl)
 names_kind Directory i k some = absurd (some refl)
 
-names_of : (i : Item) (k : ℕ) → pointer_by_kind i.head.kind i k ≢ 0 → NamesOf k i
+names_of : (i : ReiserItem) (k : ℕ) → pointer_by_kind i.head.kind i k ≢ 0 → NamesOf k i
 names_of i k some =
     let kind : i.head.kind ≡ Indirect = names_kind i.head.kind i k some in
     let all = names_direct i k (λ (e : pointer_by_kind Indirect i k ≡ 0). some (ap (λ (t : ItemKind). pointer_by_kind t i k) kind ∙ e)) in
     record { kind = kind; from = all.0; to = all.1; is = ap (λ (t : ItemKind). pointer_by_kind t i k) kind ∙ all.2 }
 
-holds_of : (i : Item) (size k : ℕ) → holds_by_kind i.head.kind i size k ≡ true → HoldsOf size k i
+holds_of : (i : ReiserItem) (size k : ℕ) → holds_by_kind i.head.kind i size k ≡ true → HoldsOf size k i
 holds_of i size k h = let both = holds_by i.head.kind i size k h in record { kind = both.0; some = both.1 }
 
 -- some item of the list, at its place
-pub record AtPlace (P : Item → Type 0) (items : List Item) : Type 0 where
+pub record AtPlace (P : ReiserItem → Type 0) (items : List ReiserItem) : Type 0 where
   pub place : ℕ
-  pub item : Item
+  pub item : ReiserItem
   pub within : place < length items
   pub is : get_or items place item ≡ item
   pub fact : P item
 
-at_head : (P : Item → Type 0) (i : Item) (items : List Item) → P i → AtPlace P (i ∷ items)
+at_head : (P : ReiserItem → Type 0) (i : ReiserItem) (items : List ReiserItem) → P i → AtPlace P (i ∷ items)
 at_head P i items fact = record { place = 0; item = i; within = omega arith; is = refl; fact = fact }
 
-at_tail : (P : Item → Type 0) (i : Item) (items : List Item) → AtPlace P items → AtPlace P (i ∷ items)
+at_tail : (P : ReiserItem → Type 0) (i : ReiserItem) (items : List ReiserItem) → AtPlace P items → AtPlace P (i ∷ items)
 at_tail P i items at = record { place = suc at.place; item = at.item; within = omega (arith, at.within); is = at.is; fact = at.fact }
 
-held_place : (items : List Item) (size k : ℕ) → is_held items size k ≡ true → AtPlace (HoldsOf size k) items
+held_place : (items : List ReiserItem) (size k : ℕ) → is_held items size k ≡ true → AtPlace (HoldsOf size k) items
 held_place [] size k h = absurd (false≢true h)
 held_place (i ∷ items) size k h =
     elim (or_cases (holds_by_kind i.head.kind i size k) (is_held items size k) h) as (λ _. AtPlace (HoldsOf size k) (i ∷ items)) [
@@ -91,11 +73,11 @@ held_place (i ∷ items) size k h =
     ]
 
 -- an item names that block
-pub record NamesBlock (k block : ℕ) (i : Item) : Type 0 where
+pub record NamesBlock (k block : ℕ) (i : ReiserItem) : Type 0 where
   pub names : NamesOf k i
   pub block_is : pointer_by_kind i.head.kind i k ≡ block
 
-pub named_place : (items : List Item) (k : ℕ) → named_block items k ≢ 0 → AtPlace (NamesBlock k (named_block items k)) items
+pub named_place : (items : List ReiserItem) (k : ℕ) → named_block items k ≢ 0 → AtPlace (NamesBlock k (named_block items k)) items
 named_place [] k some = absurd (some refl)
 named_place (i ∷ items) k some =
     elim (cases_eq (pointer_by_kind i.head.kind i k) 0) as (λ _. AtPlace (NamesBlock k (named_block (i ∷ items) k)) (i ∷ items)) [
@@ -108,7 +90,7 @@ named_place (i ∷ items) k some =
     ]
 
 -- a direct item and an indirect one of one block share a byte
-shared : (size k : ℕ) (d i : Item) → IsAligned i → HoldsOf size k d → NamesOf k i → SharesByte d i
+shared : (size k : ℕ) (d i : ReiserItem) → IsAligned i → HoldsOf size k d → NamesOf k i → SharesByte d i
 shared size k d i aligned holds names =
     let offset : i.head.offset % 4096 ≡ 1 = subst (λ (kind : ItemKind). AlignedByKind kind i.head.offset) names.kind aligned in
     let whole : 4096 * (first_byte i / 4096) ≡ first_byte i = omega (arith, offset) in
@@ -122,11 +104,11 @@ shared size k d i aligned holds names =
       second_to = omega (arith, holds.some, names.to, whole, counted);
     }
 
-turned : (i j : Item) → SharesByte i j → SharesByte j i
+turned : (i j : ReiserItem) → SharesByte i j → SharesByte j i
 turned i j s = record { byte = s.byte; first_from = s.second_from; first_to = s.second_to; second_from = s.first_from; second_to = s.first_to }
 
 -- a block with a direct byte below the size is named by no item
-pub one_sort : (items : List Item) (size k : ℕ) → AreApart items → All IsAligned items → is_held items size k ≡ true → named_block items k ≡ 0
+pub one_sort : (items : List ReiserItem) (size k : ℕ) → AreItemsApart items → All IsAligned items → is_held items size k ≡ true → named_block items k ≡ 0
 one_sort items size k apart aligned held =
     elim (cases_eq (named_block items k) 0) as (λ _. named_block items k ≡ 0) [
       | inl none ↦ none
@@ -139,18 +121,18 @@ one_sort items size k apart aligned held =
           elim (cases_order d.place n.place) as (λ _. named_block items k ≡ 0) [
             | inl same ↦
                 let items_are : d.item ≡ n.item = sym d.is ∙ ap (λ (p : ℕ). get_or items p d.item) same ∙ first in
-                let clash : Direct ≡ Indirect = sym d.fact.kind ∙ ap (λ (x : Item). x.head.kind) items_are ∙ n.fact.names.kind in
+                let clash : Direct ≡ Indirect = sym d.fact.kind ∙ ap (λ (x : ReiserItem). x.head.kind) items_are ∙ n.fact.names.kind in
                 absurd (cc)
             | inr order ↦
                 elim order as (λ _. named_block items k ≡ 0) [
-                  | inl before ↦ absurd (subst (λ (y : Item). SharesByte d.item y → ⊥) first (subst (λ (x : Item). SharesByte x (get_or items n.place d.item) → ⊥) d.is (apart d.place n.place d.item before n.within)) share)
+                  | inl before ↦ absurd (subst (λ (y : ReiserItem). SharesByte d.item y → ⊥) first (subst (λ (x : ReiserItem). SharesByte x (get_or items n.place d.item) → ⊥) d.is (apart d.place n.place d.item before n.within)) share)
                   | inr after ↦
-                      absurd (subst (λ (x : Item). SharesByte x d.item → ⊥) first (subst (λ (y : Item). SharesByte (get_or items n.place d.item) y → ⊥) d.is (apart n.place d.place d.item after d.within)) (turned d.item n.item share))
+                      absurd (subst (λ (x : ReiserItem). SharesByte x d.item → ⊥) first (subst (λ (y : ReiserItem). SharesByte (get_or items n.place d.item) y → ⊥) d.is (apart n.place d.place d.item after d.within)) (turned d.item n.item share))
                 ]
           ]
     ]
 
-unheld : (kind : ItemKind) (i : Item) (size k n : ℕ) → holds_by_kind kind i size k ≡ false → 4096 * k ≤ n → n < 4096 * k + 4096 → n < size → direct_by_kind kind i n ≡ None
+unheld : (kind : ItemKind) (i : ReiserItem) (size k n : ℕ) → holds_by_kind kind i size k ≡ false → 4096 * k ≤ n → n < 4096 * k + 4096 → n < size → direct_by_kind kind i n ≡ None
 unheld Stat i size k n none from to below = refl
 unheld Indirect i size k n none from to below = refl
 unheld Direct i size k n none from to below =
@@ -158,14 +140,14 @@ unheld Direct i size k n none from to below =
     uncovered i n (λ low high. omega (arith, apart, from, to, below, low, high))
 unheld Directory i size k n none from to below = refl
 
-no_direct : (items : List Item) (size k n : ℕ) → is_held items size k ≡ false → 4096 * k ≤ n → n < 4096 * k + 4096 → n < size → direct_byte items n ≡ None
+no_direct : (items : List ReiserItem) (size k n : ℕ) → is_held items size k ≡ false → 4096 * k ≤ n → n < 4096 * k + 4096 → n < size → direct_byte items n ≡ None
 no_direct [] size k n none from to below = refl
 no_direct (i ∷ items) size k n none from to below =
     let both = or_parts (holds_by_kind i.head.kind i size k) (is_held items size k) none in
     ap (λ (o : Option ℕ). option_or o (direct_byte items n)) (unheld i.head.kind i size k n both.0 from to below) ∙ no_direct items size k n both.1 from to below
 
 -- where a block has no direct byte, what the named block has
-by_block : (image : Image) (items : List Item) (size k n : ℕ) → is_held items size k ≡ false → 4096 * k ≤ n → n < 4096 * k + 4096 → n < size
+by_block : (image : Image) (items : List ReiserItem) (size k n : ℕ) → is_held items size k ≡ false → 4096 * k ≤ n → n < 4096 * k + 4096 → n < size
     → content image items size n ≡ block_byte image (named_block items k) (n - 4096 * k)
 by_block image items size k n none from to below =
     let place : n / 4096 ≡ k = omega (arith, from, to) in
@@ -202,7 +184,7 @@ padded_are : (n cut at : ℕ) (bytes : List ℕ) (f : ℕ → ℕ) → ((j : ℕ
 padded_are n cut at bytes f is = bytes_are n f at (take n (take cut bytes ++ replicate n 0)) (padded_length n cut bytes) (λ j h. padded_at n cut j bytes h ∙ sym (is j h))
 
 -- a block that is named
-by_disk : (image : Image) (items : List Item) (size k : ℕ) → is_held items size k ≡ false → named_block items k ≢ 0
+by_disk : (image : Image) (items : List ReiserItem) (size k : ℕ) → is_held items size k ≡ false → named_block items k ≢ 0
     → file_block image items size k ≡ up_to_size (block_at image (named_block items k)) size k
 by_disk image items size k none some =
     sym (padded_are 4096 (size - 4096 * k) (4096 * k) (block_at image (named_block items k)) (content image items size) (λ j h.
@@ -219,7 +201,7 @@ by_disk image items size k none some =
     ]))
 
 -- a hole
-by_hole : (image : Image) (items : List Item) (size k : ℕ) → is_held items size k ≡ false → named_block items k ≡ 0 → file_block image items size k ≡ zeros
+by_hole : (image : Image) (items : List ReiserItem) (size k : ℕ) → is_held items size k ≡ false → named_block items k ≡ 0 → file_block image items size k ≡ zeros
 by_hole image items size k none nothing =
     sym (zero_block (content image items size) k (λ n from to.
     elim (cases_lt n size) as (λ _. content image items size n ≡ 0) [
@@ -228,7 +210,7 @@ by_hole image items size k none nothing =
     ]))
 
 -- a block with a direct byte
-by_tail : (image : Image) (items : List Item) (size k : ℕ) → named_block items k ≡ 0 → file_block image items size k ≡ tail_block items size k
+by_tail : (image : Image) (items : List ReiserItem) (size k : ℕ) → named_block items k ≡ 0 → file_block image items size k ≡ tail_block items size k
 by_tail image items size k nothing =
     same_block (content image items size) (direct_content items size) k (λ n from to.
     let place : n / 4096 ≡ k = omega (arith, from, to) in
@@ -236,7 +218,7 @@ by_tail image items size k nothing =
     ap (λ (b : ℕ). cond (ltb n size) (unwrap_or (direct_byte items n) (block_byte image b (n % 4096))) 0) none)
 
 -- what a block holds follows from where it lies
-pub blocks_held : (image : Image) (items : List Item) (size k : ℕ) → AreApart items → All IsAligned items → file_block image items size k ≡ held_from image items size k (block_from items size k)
+pub blocks_held : (image : Image) (items : List ReiserItem) (size k : ℕ) → AreItemsApart items → All IsAligned items → file_block image items size k ≡ held_from image items size k (block_from items size k)
 blocks_held image items size k apart aligned =
     elim (cases_lt (4096 * k) size) as (λ _. file_block image items size k ≡ held_from image items size k (block_from items size k)) [
       | inl below ↦
@@ -261,7 +243,7 @@ blocks_held image items size k apart aligned =
           ∙ zero_block (content image items size) k (λ n from to. past_size (file_byte image items) n size (omega (arith, past, from))))
     ]
 
-no_names : (items : List Item) (k : ℕ) → All IsNoIndirect items → named_block items k ≡ 0
+no_names : (items : List ReiserItem) (k : ℕ) → All IsNoIndirect items → named_block items k ≡ 0
 no_names [] k all = refl
 no_names (i ∷ items) k all =
     elim (cases_eq (pointer_by_kind i.head.kind i k) 0) as (λ _. named_block (i ∷ items) k ≡ 0) [
@@ -275,21 +257,21 @@ front_of n size f g fits same =
     get_or-take size (bytes_by n f (4096 * 0)) j 0 h ∙ byte_at n f (4096 * 0) j (omega (arith, h, fits)) ∙ ap f (omega arith) ∙ same j h ∙ ap g (omega arith))
 
 -- the target of a symlink is its bytes
-pub target_is : (image : Image) (items : List Item) (size : ℕ) → size ≤ 4096 → All IsNoIndirect items → target_bytes items size ≡ file_bytes image items size
+pub target_is : (image : Image) (items : List ReiserItem) (size : ℕ) → size ≤ 4096 → All IsNoIndirect items → target_bytes items size ≡ file_bytes image items size
 target_is image items size fits all =
     front_of 4096 size (direct_content items size) (file_byte image items) fits (λ j h.
     cond-true (ltb j size) (unwrap_or (direct_byte items j) 0) 0 (lt-ltb j size h)
     ∙ sym (ap (λ (b : ℕ). unwrap_or (direct_byte items j) (block_byte image b (j % 4096))) (no_names items (j / 4096) all)))
 
 -- the named block is a pointer of an item
-pub items_name : (items : List Item) (k : ℕ) → named_block items k ≢ 0 → IsNamed items (named_block items k)
+pub items_name : (items : List ReiserItem) (k : ℕ) → named_block items k ≢ 0 → IsNamedBlock items (named_block items k)
 items_name items k some =
     let at = named_place items k some in
     let names = at.fact.names in
     let pointer : get_or (pointers at.item.body) (k - first_byte at.item / 4096) 0 ≡ named_block items k = sym names.is ∙ at.fact.block_is in
     record {
       item = at.item;
-      among = subst (λ (x : Item). Contains items x) at.is (Contains-get_or items at.place at.item at.within);
+      among = subst (λ (x : ReiserItem). Contains items x) at.is (Contains-get_or items at.place at.item at.within);
       indirect = names.kind;
       pointer = subst (λ (b : ℕ). Contains (pointers at.item.body) b) pointer
           (Contains-get_or (pointers at.item.body) (k - first_byte at.item / 4096) 0 (omega (arith, names.from, names.to, pointers_length at.item.body)));

@@ -1,13 +1,5 @@
 -- The blocks that pointers name go over into a file from the front.
-use Rattle.std.proofs.Common.{◌≡◌, ℕ, ◌+◌, ◌-◌, ◌*◌, ◌/◌, ◌%◌, ◌<◌, ◌≤◌, min, eqb, List, length, get_or, sym, ap, ◌∙◌, arith, inl, inr}
-use Rattle.std.proofs.lemmas.Bool.{cond-false, ne_eqb, cases_lt}
-use Rattle.std.specs.Int.{div_ceil}
-use Rattle.reiser_walk.specs.outside.History.{Image, block_at}
-use Rattle.fs_rows.specs.Pieces.{ReplacesBlock}
-use Rattle.fs_rows.proofs.Joined.{joined_at, joined_below, joined_end, joined_on, joined_outside_below, joined_outside_above}
-use Rattle.reiser_walk.specs.reiser_items.Pointers.{pointers}
-use Rattle.reiser_volume_files.specs.Bytes.{block_byte}
-use Rattle.reiser_volume_files.specs.Pieces.{OverlaysNamed}
+use Rattle.reiser_volume_files.proofs.Imports.{◌≡◌, ℕ, ◌+◌, ◌-◌, ◌*◌, ◌/◌, ◌%◌, ◌<◌, ◌≤◌, min, eqb, List, length, get_or, sym, ap, ◌∙◌, arith, inl, inr, cond-false, ne_eqb, cases_lt, div_ceil, Image, block_at, ReplacesBlock, joined_at, joined_below, joined_end, joined_on, joined_outside_below, joined_outside_above, pointers, block_byte, OverlaysNamed}
 
 -- a pointer of 0 adds nothing
 pub hole_passed : (image : Image) (size first : ℕ) (body : List ℕ) (f g : ℕ → ℕ) (j : ℕ) → OverlaysNamed image size first body f g → j < length body / 4

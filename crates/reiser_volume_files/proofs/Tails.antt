@@ -1,25 +1,15 @@
 -- What direct items hold of a file.
-use Rattle.std.proofs.Common.{◌≡◌, ◌≢◌, ℕ, ◌+◌, ◌-◌, ◌<◌, ◌≤◌, min, cond, ltb, List, [], ◌∷◌, ◌++◌, length, get_or, take, Option, None, unwrap_or, All, sym, ap, ◌∙◌, arith, inl, inr, ◌⊎◌}
-use Rattle.std.specs.Option.{option_or}
-use Rattle.std.proofs.lemmas.Bool.{cases_lt}
-use Rattle.std.proofs.lemmas.List.{get_or-take, length-take}
-use Rattle.reiser_walk.specs.reiser_node.declared.head.ItemKind.{ItemKind}
-use Rattle.reiser_walk.specs.reiser_node.declared.head.ItemKind.TheVariants.{Stat, Indirect, Direct, Directory}
-use Rattle.reiser_walk.specs.Items.{Item}
-use Rattle.fs_rows.specs.Pieces.{Overlays}
-use Rattle.fs_rows.proofs.Functions.{same_block}
-use Rattle.fs_rows.proofs.FileMarks.{below_size, past_size}
-use Rattle.reiser_volume_files.specs.Bytes.{first_byte, byte_count, direct_by_kind, direct_byte, direct_content, tail_block, EndsBy, MayFollow}
+use Rattle.reiser_volume_files.proofs.Imports.{◌≡◌, ◌≢◌, ℕ, ◌+◌, ◌-◌, ◌<◌, ◌≤◌, min, cond, ltb, List, [], ◌∷◌, ◌++◌, length, get_or, take, Option, None, unwrap_or, All, sym, ap, ◌∙◌, arith, inl, inr, ◌⊎◌, option_or, cases_lt, get_or-take, length-take, ItemKind, Stat, Indirect, Direct, Directory, ReiserItem, Overlays, same_block, below_size, past_size, first_byte, byte_count, direct_by_kind, direct_byte, direct_content, tail_block, EndsBy, MayFollow}
 use Rattle.reiser_volume_files.proofs.Items.{covered, no_direct_past, no_direct_before, direct_none, direct_more, same_direct}
 use Rattle.reiser_volume_files.proofs.Contents.{count_direct}
 
-abbrev held_byte : List Item → ℕ → ℕ
+abbrev held_byte : List ReiserItem → ℕ → ℕ
 held_byte items n = unwrap_or (direct_byte items n) 0
 
-same_held_byte : (given : List Item) (i : Item) (size n : ℕ) → direct_by_kind i.head.kind i n ≡ None → direct_content (given ++ i ∷ []) size n ≡ direct_content given size n
+same_held_byte : (given : List ReiserItem) (i : ReiserItem) (size n : ℕ) → direct_by_kind i.head.kind i n ≡ None → direct_content (given ++ i ∷ []) size n ≡ direct_content given size n
 same_held_byte given i size n none = ap (λ (o : Option ℕ). cond (ltb n size) (unwrap_or o 0) 0) (same_direct given i n none)
 
-held_there : (given : List Item) (i : Item) (n : ℕ) → i.head.kind ≡ Direct → first_byte i ≤ n → n < first_byte i + length i.body → All (EndsBy (first_byte i)) given
+held_there : (given : List ReiserItem) (i : ReiserItem) (n : ℕ) → i.head.kind ≡ Direct → first_byte i ≤ n → n < first_byte i + length i.body → All (EndsBy (first_byte i)) given
     → held_byte (given ++ i ∷ []) n ≡ get_or i.body (n - first_byte i) 0
 held_there given i n is low high ends =
     ap (λ (o : Option ℕ). unwrap_or o 0) (direct_more given i n)
@@ -28,7 +18,7 @@ held_there given i n is low high ends =
     ∙ ap (λ (o : Option ℕ). unwrap_or o 0) (covered i n low high)
 
 -- what a direct item adds
-pub tail_overlays : (given : List Item) (i : Item) (size : ℕ) → i.head.kind ≡ Direct → MayFollow given i
+pub tail_overlays : (given : List ReiserItem) (i : ReiserItem) (size : ℕ) → i.head.kind ≡ Direct → MayFollow given i
     → Overlays (first_byte i) (take (size - first_byte i) i.body) (direct_content given size) (direct_content (given ++ i ∷ []) size)
 tail_overlays given i size is may =
     let many : length (take (size - first_byte i) i.body) ≡ min (size - first_byte i) (length i.body) = length-take (size - first_byte i) i.body in
@@ -48,11 +38,11 @@ tail_overlays given i size is may =
           ];
     }
 
-pub none_by_kind : (i : Item) (n : ℕ) → (i.head.kind ≡ Stat) ⊎ ((i.head.kind ≡ Indirect) ⊎ (i.head.kind ≡ Directory)) → direct_by_kind i.head.kind i n ≡ None
+pub none_by_kind : (i : ReiserItem) (n : ℕ) → (i.head.kind ≡ Stat) ⊎ ((i.head.kind ≡ Indirect) ⊎ (i.head.kind ≡ Directory)) → direct_by_kind i.head.kind i n ≡ None
 none_by_kind i n (inl is) = ap (λ (kind : ItemKind). direct_by_kind kind i n) is
 none_by_kind i n (inr (inl is)) = ap (λ (kind : ItemKind). direct_by_kind kind i n) is
 none_by_kind i n (inr (inr is)) = ap (λ (kind : ItemKind). direct_by_kind kind i n) is
 
 -- any other item adds nothing
-pub other_tail : (given : List Item) (i : Item) (size k : ℕ) → ((n : ℕ) → direct_by_kind i.head.kind i n ≡ None) → tail_block given size k ≡ tail_block (given ++ i ∷ []) size k
+pub other_tail : (given : List ReiserItem) (i : ReiserItem) (size k : ℕ) → ((n : ℕ) → direct_by_kind i.head.kind i n ≡ None) → tail_block given size k ≡ tail_block (given ++ i ∷ []) size k
 other_tail given i size k none = same_block (direct_content given size) (direct_content (given ++ i ∷ []) size) k (λ n from to. sym (same_held_byte given i size n (none n)))

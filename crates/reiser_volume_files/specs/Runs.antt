@@ -4,20 +4,20 @@ use Rattle.std.specs.Int.{div_ceil}
 use Rattle.std.specs.List.{list_any}
 use Rattle.reiser_walk.specs.reiser_node.declared.head.ItemKind.{ItemKind}
 use Rattle.reiser_walk.specs.reiser_node.declared.head.ItemKind.TheVariants.{Stat, Indirect, Direct, Directory}
-use Rattle.reiser_walk.specs.Items.{Item}
+use Rattle.reiser_walk.specs.Items.{ReiserItem}
 use Rattle.reiser_volume_files.specs.declared.map.FileRun.{FileRun}
 use Rattle.reiser_volume_files.specs.declared.map.RunFrom.{RunFrom}
 use Rattle.reiser_volume_files.specs.declared.map.RunFrom.TheVariants.{Disk, Tail}
 use Rattle.reiser_volume_files.specs.Bytes.{first_byte, named_block}
 
 -- an item holds a byte of file block k that lies below the size
-abbrev pub holds_by_kind : ItemKind → Item → ℕ → ℕ → Bool
+abbrev pub holds_by_kind : ItemKind → ReiserItem → ℕ → ℕ → Bool
 holds_by_kind Stat i size k = false
 holds_by_kind Indirect i size k = false
 holds_by_kind Direct i size k = nat_lt (max (first_byte i) (4096 * k)) (min (min (first_byte i + length i.body) (4096 * k + 4096)) size)
 holds_by_kind Directory i size k = false
 
-abbrev pub is_held : List Item → ℕ → ℕ → Bool
+abbrev pub is_held : List ReiserItem → ℕ → ℕ → Bool
 is_held items size k = list_any (λ i. holds_by_kind i.head.kind i size k) items
 
 -- a block that is named, or a hole
@@ -26,7 +26,7 @@ disk_or_hole block = if block == 0 then None else Some (Disk block)
 
 -- Where file block k lies: in direct items, in the block that is named for it, or nowhere, as a hole and all past the
 -- size.
-abbrev pub block_from : List Item → ℕ → ℕ → Option RunFrom
+abbrev pub block_from : List ReiserItem → ℕ → ℕ → Option RunFrom
 block_from items size k = if nat_lt (4096 * k) size then (if is_held items size k then Some Tail else disk_or_hole (named_block items k)) else None
 
 -- where what lies n blocks on in a run is
@@ -67,7 +67,7 @@ runs_of f zero = []
 runs_of f (suc n) = extended (runs_of f n) n (f n)
 
 -- The map of a file of a size.
-abbrev pub file_runs : List Item → ℕ → List FileRun
+abbrev pub file_runs : List ReiserItem → ℕ → List FileRun
 file_runs items size = runs_of (block_from items size) (div_ceil size 4096)
 
 -- file block k is one of the run
@@ -80,7 +80,7 @@ lies_at [] k = None
 lies_at (r ∷ runs) k = if is_in_run r k then Some (next_from r.from (k - r.at)) else lies_at runs k
 
 -- one run lies before the other, and does not go on with it
-pub record IsBefore (r s : FileRun) : Type 0 where
+pub record IsFileRunBefore (r s : FileRun) : Type 0 where
   pub apart : r.at + r.count ≤ s.at
   pub maximal : goes_on r s.at s.from ≡ false
 
@@ -89,4 +89,4 @@ pub record IsBefore (r s : FileRun) : Type 0 where
 pub record AreRunsOf (f : ℕ → Option RunFrom) (runs : List FileRun) : Type 0 where
   pub covers : (k : ℕ) → lies_at runs k ≡ f k
   pub some : All (λ r. 1 ≤ r.count) runs
-  pub ascending : AllPairs IsBefore runs
+  pub ascending : AllPairs IsFileRunBefore runs

@@ -1,5 +1,5 @@
 ghost use Rattle.std.specs.Prelude.{◌≡◌, ◌≢◌, ◌≤◌, ◌<◌, ◌+◌, ◌*◌, ◌^◌, ◌++◌, ◌∷◌, ◌-◌, ◌/◌, [], ℕ, List, length, max, min, OnOk, IfOk, Option, Some};
-ghost use Rattle.reiser_walk.specs.Items.{Item};
+ghost use Rattle.reiser_walk.specs.Items.{ReiserItem};
 ghost use Rattle.reiser_volume_files.specs.Bytes.{MayFollow};
 ghost use Rattle.reiser_volume_files.specs.Runs.{file_runs};
 ghost use Rattle.reiser_volume_files.specs.Parts.{OverlaysTail, OverlaysDisks};
@@ -30,7 +30,7 @@ impl FileMapper {
     /// Adds the next item of the object. Nothing is known of a mapper after want of memory.
     pub fn add_item(&mut self, head: &ItemHead, body: &[u8]) -> Result<(), Memory>
         ensures size { self.new.size ≡ self.old.size }
-        ensures given { (given : List Item) (i : Item) → i.head ≡ head.now → i.body ≡ body.now → MayFollow given i → MapsFile self.old given →
+        ensures given { (given : List ReiserItem) (i : ReiserItem) → i.head ≡ head.now → i.body ≡ body.now → MayFollow given i → MapsFile self.old given →
             OnOk result (MapsFile self.new (given ++ i ∷ [])) }
     {
         match head.kind {
@@ -42,7 +42,7 @@ impl FileMapper {
 
     /// The map of the file.
     pub fn finish(mut self) -> Result<FileMap, Memory>
-        ensures { (given : List Item) → MapsFile self given → IfOk result (λ map. map ≡ file_runs given self.size) }
+        ensures { (given : List ReiserItem) → MapsFile self given → IfOk result (λ map. map ≡ file_runs given self.size) }
     {
         if self.next < block_count(self.size) {
             extend(&mut self.map, self.next, self.from)?;

@@ -4,7 +4,7 @@ ghost use Rattle.reiser_walk.specs.outside.History.{Image, block_at, OverTold};
 ghost use Rattle.fs_rows.specs.Held.{HoldsBytes};
 ghost use Rattle.fs_rows.specs.Mark.{mark_of_bytes};
 ghost use Rattle.fs_rows.specs.Pieces.{ReplacesBlock};
-ghost use Rattle.reiser_walk.specs.Items.{Item};
+ghost use Rattle.reiser_walk.specs.Items.{ReiserItem};
 ghost use Rattle.reiser_volume_files.specs.Bytes.{file_bytes, MayFollow};
 ghost use Rattle.reiser_volume_files.specs.Pieces.{OverlaysNamed, are_inside};
 ghost use Rattle.reiser_volume_files.specs.States.{MarksFile};
@@ -37,7 +37,7 @@ impl FileMarker {
         ensures kept { S.kept src.old src.new }
         ensures cause { HasCause (S.faults src.old) (S.faults src.new) result }
         ensures size { self.new.file.size ≡ self.old.file.size }
-        ensures given { OverTold S.tells (S.blocks src.old) (λ image. (given : List Item) (i : Item) → i.head ≡ head.now → i.body ≡ body.now →
+        ensures given { OverTold S.tells (S.blocks src.old) (λ image. (given : List ReiserItem) (i : ReiserItem) → i.head ≡ head.now → i.body ≡ body.now →
             MayFollow given i → MarksFile self.old image given → OnOk result (MarksFile self.new image (given ++ i ∷ []))) }
     {
         match head.kind {
@@ -52,7 +52,7 @@ impl FileMarker {
 
     /// The mark of the file.
     pub fn finish(self) -> [u8; 32]
-        ensures { (image : Image) (given : List Item) → MarksFile self image given → result ≡ mark_of_bytes (file_bytes image given self.file.size) }
+        ensures { (image : Image) (given : List ReiserItem) → MarksFile self image given → result ≡ mark_of_bytes (file_bytes image given self.file.size) }
     {
         self.file.mark()
     }

@@ -1,6 +1,6 @@
 // What direct items hold of a file.
 ghost use Rattle.std.specs.Prelude.{◌≡◌, ◌++◌, ◌∷◌, ◌≤◌, ◌*◌, ◌<◌, ◌^◌, List, []};
-ghost use Rattle.reiser_walk.specs.Items.{Item};
+ghost use Rattle.reiser_walk.specs.Items.{ReiserItem};
 ghost use Rattle.reiser_volume_files.specs.Bytes.{tail_block, target_bytes, MayFollow};
 
 use crate::pieces::first_byte;
@@ -13,7 +13,7 @@ use reiser_walk::{Block, ItemHead, ItemKind};
 /// bytes of that block of the file below the size, and else zeros.
 pub fn put_tail(block: &mut Block, k: u64, size: u64, head: &ItemHead, body: &[u8])
     requires { 4096 * k < 2 ^ 64 }
-    ensures { (given : List Item) (i : Item) → i.head ≡ head.now → i.body ≡ body.now → MayFollow given i → block.old.bytes ≡ tail_block given size k →
+    ensures { (given : List ReiserItem) (i : ReiserItem) → i.head ≡ head.now → i.body ≡ body.now → MayFollow given i → block.old.bytes ≡ tail_block given size k →
         block.new.bytes ≡ tail_block (given ++ i ∷ []) size k }
 {
     match head.kind {
@@ -29,7 +29,7 @@ pub fn put_tail(block: &mut Block, k: u64, size: u64, head: &ItemHead, body: &[u
 /// The target of a symlink of `size` bytes, whose direct items were put into a block of zeros as block 0.
 pub fn target(block: &Block, size: usize) -> &[u8]
     requires { size ≤ 4096 }
-    ensures { (items : List Item) → block.now.bytes ≡ tail_block items size 0 → result.now ≡ target_bytes items size }
+    ensures { (items : List ReiserItem) → block.now.bytes ≡ tail_block items size 0 → result.now ≡ target_bytes items size }
 {
     &block.bytes[..size]
 }

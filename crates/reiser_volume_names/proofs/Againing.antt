@@ -1,23 +1,8 @@
 -- The directories that were seen, with one more link.
-use Rattle.std.proofs.Common.{◌≡◌, Bool, true, false, ◌&&◌, ◌||◌, List, [], ◌∷◌, ◌++◌, get_or, refl, sym, ap, ◌∙◌, true≢false, arith}
-use Rattle.std.specs.List.{list_any}
-use Rattle.std.proofs.lemmas.List.Folds.{list_any-append, list_any_at, Any-from_list_any}
-use Rattle.std.proofs.lemmas.List.Quantifiers.{all_pairs_push}
-use Rattle.indexmap.specs.IndexSet.{IndexSet, contains}
-use Rattle.reiser_volume_objects.specs.refusals.declared.answer.VolAnswer.{VolAnswer}
-use Rattle.reiser_volume_objects.specs.refusals.declared.answer.VolAnswer.TheVariants.{Refused, Fault, Memory}
-use Rattle.reiser_volume_objects.specs.refusals.declared.refusal.VolumeRefusal.TheVariants.{Damaged}
-use Rattle.reiser_volume_objects.specs.refusals.declared.rule.Rule.TheVariants.{DirTwice}
-use Rattle.reiser_volume_objects.specs.reiser_walk.Items.{Item}
-use Rattle.reiser_volume_objects.specs.declared.key.ObjectKey.{ObjectKey}
-use Rattle.reiser_volume_objects.specs.declared.naming.Naming.{Naming}
-use Rattle.reiser_volume_objects.specs.Items.{is_directory_at}
-use Rattle.reiser_volume_objects.specs.Keys.{same_key}
-use Rattle.reiser_volume_objects.proofs.Tables.{same_key-true, same_key-self, and_right}
-use Rattle.reiser_volume_names.specs.Again.{names_directory, NamesAnother, HasDirectories, BlamesAgain}
+use Rattle.reiser_volume_names.proofs.Imports.{◌≡◌, Bool, true, false, ◌&&◌, ◌||◌, List, [], ◌∷◌, ◌++◌, get_or, refl, sym, ap, ◌∙◌, true≢false, arith, list_any, list_any-append, list_any_at, Any-from_list_any, all_pairs_push, IndexSet, contains, VolAnswer, Refused, Fault, Memory, Damaged, DirTwice, ReiserItem, ObjectKey, Naming, is_directory_at, same_key, same_key-true, same_key-self, and_right, names_directory, NamesAnother, HasDirectories, BlamesAgain}
 use Rattle.reiser_volume_names.proofs.Seeing.{in_more, or_swap}
 
-module _ {S : Type 0} (items : List Item) (old : IndexSet ObjectKey S) (links : List Naming) (n : Naming) (has : HasDirectories items old links) where
+module _ {S : Type 0} (items : List ReiserItem) (old : IndexSet ObjectKey S) (links : List Naming) (n : Naming) (has : HasDirectories items old links) where
   -- a link to another kind of object
   pub other_kind : is_directory_at items n.target ≡ false → HasDirectories items old (links ++ n ∷ [])
   other_kind other = record {
@@ -54,10 +39,10 @@ module _ {S : Type 0} (items : List Item) (old : IndexSet ObjectKey S) (links : 
       let m : Naming = a.1 in
       (m, (n, record { before = links; after = []; split = refl; earlier = (a.0, a.2, a.3) }, directory, same_key-true m.target n.target (and_right (is_directory_at items m.target) (same_key m.target n.target) a.4), refl))
 
-pub again_of_part : (items : List Item) (part more all : List Naming) (e : VolAnswer) → all ≡ part ++ more → BlamesAgain items part e → BlamesAgain items all e
+pub again_of_part : (items : List ReiserItem) (part more all : List Naming) (e : VolAnswer) → all ≡ part ++ more → BlamesAgain items part e → BlamesAgain items all e
 again_of_part items part more all (Refused refusal) is b = (b.0, (b.1.0, in_more part more all b.0 b.1.0 is b.1.1, b.1.2, b.1.3, b.1.4))
 again_of_part items part more all Fault is b = b
 again_of_part items part more all Memory is b = tt
 
-pub no_directories : {S : Type 0} (items : List Item) (seen : IndexSet ObjectKey S) → seen.keys ≡ [] → HasDirectories items seen []
+pub no_directories : {S : Type 0} (items : List ReiserItem) (seen : IndexSet ObjectKey S) → seen.keys ≡ [] → HasDirectories items seen []
 no_directories items seen empty = record { each = λ q. ap (λ (ks : List ObjectKey). list_any (same_key q) ks) empty; once = λ i j d before within. absurd (omega (arith, within)) }

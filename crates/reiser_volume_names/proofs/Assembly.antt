@@ -1,38 +1,9 @@
 -- The looks at names together: all the rules are kept, or one is named that fails.
-use Rattle.std.proofs.Common.{◌≡◌, ℕ, suc, ◌/◌, ◌^◌, ◌<◌, ◌≤◌, ◌==◌, Bool, true, false, not, ◌&&◌, ◌||◌, List, [], filter, get_or, Some, None, is_some, Contains, AllPairs, refl, sym, ap, subst, ◌∙◌, true≢false, if◌then◌else◌}
-use Rattle.std.proofs.lemmas.Bool.{eqb-true}
-use Rattle.std.proofs.lemmas.List.Folds.{list_any_at, Any-from_list_any}
-use Rattle.std.proofs.lemmas.Map.Made.{AllPairs-from_IsDistinct}
-use Rattle.indexmap.specs.IndexSet.{IndexSet, contains, IsUnique}
-use Rattle.reiser_volume_objects.specs.refusals.declared.answer.VolAnswer.{VolAnswer}
-use Rattle.reiser_volume_objects.specs.refusals.declared.answer.VolAnswer.TheVariants.{Refused, Fault, Memory}
-use Rattle.reiser_volume_objects.specs.refusals.declared.refusal.VolumeRefusal.{VolumeRefusal}
+use Rattle.reiser_volume_names.proofs.Imports.{◌≡◌, ℕ, suc, ◌/◌, ◌^◌, ◌<◌, ◌≤◌, ◌==◌, Bool, true, false, not, ◌&&◌, ◌||◌, List, [], filter, get_or, Some, None, is_some, Contains, AllPairs, refl, sym, ap, subst, ◌∙◌, true≢false, if◌then◌else◌, eqb-true, list_any_at, Any-from_list_any, AllPairs-from_IsDistinct, IndexSet, contains, IsUnique, VolAnswer, Refused, Fault, Memory, VolumeRefusal, ReiserItem, ObjectKey, Naming, stat_of_object, is_directory_at, same_key, object_key_of, items_of, namings, is_followed, IsNamed, Keys, IsReach, IsDirectory, has_entries, directory_tested, directory_passes, in_filter, from_filter, same_key-true, same_key-self, NamesAnother, BlamesAgain, names_of, is_counted, BlamesCount, BlamesCrowd, BlamesExtended, AreLinks, AreNamedKeys, AreNames, BreaksNameRules, IsNamesRefusal, crowd_of, extended, extended_crowd_of, off_form, bad_name, attributes, long_name, long_target, twice, directory_twice, root_named, taken, too_many, crowd, extended_crowd, DifferInName, BlamesTwice, is_link, link_list, IsGoodName, BlamesName, HasForms, BlamesObject, is_symlink_mode, HasNoAttributes, BlamesPrivate, RefusesNames, IsNamesAnswer}
 use Rattle.reiser_volume_objects.specs.fs_rows.declared.row.Kind.TheVariants.{Directory, File, Symlink, Character, Block, Fifo, Socket}
 use Rattle.reiser_volume_objects.specs.reiser_items.Entries.{are_entries}
-use Rattle.reiser_volume_objects.specs.reiser_walk.Items.{Item}
-use Rattle.reiser_volume_objects.specs.declared.key.ObjectKey.{ObjectKey}
-use Rattle.reiser_volume_objects.specs.declared.naming.Naming.{Naming}
-use Rattle.reiser_volume_objects.specs.Items.{stat_of_object, is_directory_at}
-use Rattle.reiser_volume_objects.specs.Keys.{same_key, key_of, items_of}
 use Rattle.reiser_volume_objects.specs.Kinds.{kind_of_code}
-use Rattle.reiser_volume_objects.specs.Names.{namings, is_followed, IsNamed}
-use Rattle.reiser_volume_objects.specs.Reach.{Keys, IsReach}
-use Rattle.reiser_volume_objects.specs.Rules.{IsDirectory}
-use Rattle.reiser_volume_objects.specs.Summary.{has_entries}
-use Rattle.reiser_volume_objects.proofs.Checking.{directory_tested, directory_passes}
-use Rattle.reiser_volume_objects.proofs.fs_paths.Lists.{in_filter, from_filter}
-use Rattle.reiser_volume_objects.proofs.Tables.{same_key-true, same_key-self}
-use Rattle.reiser_volume_names.specs.Again.{NamesAnother, BlamesAgain}
-use Rattle.reiser_volume_names.specs.Counts.{names_of, is_counted, BlamesCount}
-use Rattle.reiser_volume_names.specs.Crowds.{BlamesCrowd}
-use Rattle.reiser_volume_names.specs.Extended.{BlamesExtended}
-use Rattle.reiser_volume_names.specs.Links.{AreLinks, AreNamedKeys}
-use Rattle.reiser_volume_names.specs.Names.{AreNames, BreaksNames, IsNamesRefusal, crowd_of, extended, extended_crowd_of, off_form, bad_name, attributes, long_name, long_target, twice, directory_twice, root_named, taken, too_many, crowd, extended_crowd}
-use Rattle.reiser_volume_names.specs.Once.{DifferInName, BlamesTwice}
 use Rattle.reiser_volume_names.specs.Passes as pass
-use Rattle.reiser_volume_names.specs.Passes.{is_link, link_list, IsGoodName, BlamesName, HasForms, BlamesObject, is_symlink_mode}
-use Rattle.reiser_volume_names.specs.Private.{HasNoAttributes, BlamesPrivate}
-use Rattle.reiser_volume_names.specs.Refuses.{RefusesNames, IsNamesAnswer}
 use Rattle.reiser_volume_names.proofs.Uniqueness.{same_decides, links_found}
 
 -- a symlink, as a test and as a fact
@@ -72,7 +43,7 @@ and_both : (a b : Bool) → (a && b) ≡ true → (a ≡ true) × (b ≡ true)
 and_both true b h = (refl, h)
 and_both false b h = absurd (true≢false (sym h))
 
-module _ {S : Type 0} (items : List Item) (ns : List Naming) (named : IndexSet ObjectKey S) (ns_is : ns ≡ namings items) (reach : IsReach items (contains same_key named)) (unique : IsUnique same_key named) where
+module _ {S : Type 0} (items : List ReiserItem) (ns : List Naming) (named : IndexSet ObjectKey S) (ns_is : ns ≡ namings items) (reach : IsReach items (contains same_key named)) (unique : IsUnique same_key named) where
   abbrev has : Keys
   has = contains same_key named
 
@@ -97,7 +68,7 @@ module _ {S : Type 0} (items : List Item) (ns : List Naming) (named : IndexSet O
       list_any_among : (key : ObjectKey) → Contains named.keys key → has key ≡ true
       list_any_among key among = list_any_at (same_key key) named.keys among.0 key among.1 (ap (same_key key) among.2 ∙ same_key-self key)
 
-  broken : (r : VolumeRefusal) → BreaksNames items visible links named.keys r → IsNamesRefusal items r
+  broken : (r : VolumeRefusal) → BreaksNameRules items visible links named.keys r → IsNamesRefusal items r
   broken r b = record { visible = visible; links = links; are_links = linked; keys = named.keys; are_keys = keyed; breaks = b }
 
   -- a link is an entry that counts, in a named directory
@@ -117,8 +88,8 @@ module _ {S : Type 0} (items : List Item) (ns : List Naming) (named : IndexSet O
       let d = (reach.seen n.dir l.2).named in
       (suc d.0, (n, in_filter is_followed (namings items) n (subst (λ (m : List Naming). Contains m n) ns_is l.0) l.1, refl, d.1))
 
-  item_named : (key : ObjectKey) (i : Item) → Contains (items_of key items) i → Contains items i × (key_of i.head ≡ key)
-  item_named key i among = let f = from_filter (λ x. same_key (key_of x.head) key) items i among in (f.0, same_key-true (key_of i.head) key f.1)
+  item_named : (key : ObjectKey) (i : ReiserItem) → Contains (items_of key items) i → Contains items i × (object_key_of i.head ≡ key)
+  item_named key i among = let f = from_filter (λ x. same_key (object_key_of x.head) key) items i among in (f.0, same_key-true (object_key_of i.head) key f.1)
 
   pub blamed_object : (key : ObjectKey) (r : VolumeRefusal) → has key ≡ true → BlamesObject items key r → IsNamesRefusal items r
   blamed_object key r in_set (pass.off_form i among bad is) =
@@ -183,7 +154,7 @@ module _ {S : Type 0} (items : List Item) (ns : List Naming) (named : IndexSet O
     are_keys = keyed;
     keeps = record {
       forms = λ i among entries is.
-          formed (has_entries i.head.kind) (are_entries i.head.count i.body) ((forms (key_of i.head) (reach.whole (key_of i.head) is)).forms i (in_filter (λ x. same_key (key_of x.head) (key_of i.head)) items i among (same_key-self (key_of i.head)))) entries;
+          formed (has_entries i.head.kind) (are_entries i.head.count i.body) ((forms (object_key_of i.head) (reach.whole (object_key_of i.head) is)).forms i (in_filter (λ x. same_key (object_key_of x.head) (object_key_of i.head)) items i among (same_key-self (object_key_of i.head)))) entries;
       names = λ n among. let f = from_filter (λ m. has m.dir) ns n among in (good n f.0).name f.1;
       private = λ n among other. private n (subst (λ (m : List Naming). Contains m n) (sym ns_is) among) other;
       short = λ n among. let l = link_in n among in ((good n l.0).link l.2 l.1).short;

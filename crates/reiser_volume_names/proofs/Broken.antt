@@ -1,12 +1,5 @@
 -- Each refusal of names has its cause in a rule that fails.
-use Rattle.std.proofs.Common.{◌≡◌, ℕ, ◌<◌, ◌≤◌, List, ◌∷◌, ◌++◌, length, get_or, AllPairs, refl, sym, ap, subst, ◌∙◌, true≢false, length-append, arith}
-use Rattle.std.proofs.lemmas.List.{get_or_append_left, get_or_at}
-use Rattle.reiser_volume_objects.specs.refusals.declared.refusal.VolumeRefusal.{VolumeRefusal}
-use Rattle.reiser_volume_objects.specs.reiser_walk.Items.{Item}
-use Rattle.reiser_volume_objects.specs.declared.key.ObjectKey.{ObjectKey}
-use Rattle.reiser_volume_objects.specs.declared.naming.Naming.{Naming}
-use Rattle.reiser_volume_objects.specs.Rules.{IsDirectory}
-use Rattle.reiser_volume_names.specs.Names.{AreNames, KeepsNames, BreaksNames, IsNamesRefusal, AreIn, extended_crowd_of, off_form, bad_name, attributes, long_name, long_target, twice, directory_twice, root_named, taken, too_many, crowd, extended_crowd}
+use Rattle.reiser_volume_names.proofs.Imports.{◌≡◌, ℕ, ◌<◌, ◌≤◌, List, ◌∷◌, ◌++◌, length, get_or, AllPairs, refl, sym, ap, subst, ◌∙◌, true≢false, length-append, arith, get_or_append_left, get_or_at, VolumeRefusal, ReiserItem, ObjectKey, Naming, IsDirectory, AreNames, KeepsNameRules, BreaksNameRules, IsNamesRefusal, AreIn, extended_crowd_of, off_form, bad_name, attributes, long_name, long_target, twice, directory_twice, root_named, taken, too_many, crowd, extended_crowd}
 use Rattle.reiser_volume_names.proofs.Uniqueness.{visible_one, links_one, extended_one}
 
 -- what holds of each element and each later one holds of these two
@@ -23,9 +16,9 @@ pair_in {X = X} R xs x y all two =
 over : (n most : ℕ) → most < n → n ≤ most → ⊥
 over n most above below = omega (arith, above, below)
 
-broken : (items : List Item) (visible links : List Naming) (keys also : List ObjectKey) (r : VolumeRefusal)
+broken : (items : List ReiserItem) (visible links : List Naming) (keys also : List ObjectKey) (r : VolumeRefusal)
     → ((object : ObjectKey) (hash : ℕ) → extended_crowd_of links keys object hash ≡ extended_crowd_of links also object hash)
-    → BreaksNames items visible links keys r → KeepsNames items visible links also → ⊥
+    → BreaksNameRules items visible links keys r → KeepsNameRules items visible links also → ⊥
 broken items visible links keys also r same (off_form i among entries named bad is) k = true≢false (sym (k.forms i among entries named) ∙ bad)
 broken items visible links keys also r same (bad_name n among bad is) k = true≢false (sym (k.names n among) ∙ bad)
 broken items visible links keys also r same (attributes n steps key among other has below is) k = has (k.private n among other)
@@ -41,9 +34,9 @@ broken items visible links keys also r same (crowd dir hash large is) k = over _
 broken items visible links keys also r same (extended_crowd object hash large is) k =
     over _ 3900 (subst (λ (n : ℕ). 3900 < n) (same object hash) large) (k.extended_crowds object hash)
 
-pub names_broken : (items : List Item) (r : VolumeRefusal) → IsNamesRefusal items r → AreNames items → ⊥
+pub names_broken : (items : List ReiserItem) (r : VolumeRefusal) → IsNamesRefusal items r → AreNames items → ⊥
 names_broken items r b a =
     broken items a.visible a.links b.keys a.keys r (extended_one items b.keys a.keys b.are_keys a.are_keys a.links)
-    (subst (λ (l : List Naming). BreaksNames items a.visible l b.keys r) (links_one items b.visible b.links a.visible a.links b.are_links a.are_links)
-    (subst (λ (v : List Naming). BreaksNames items v b.links b.keys r) (visible_one items b.visible b.links a.visible a.links b.are_links a.are_links) b.breaks))
+    (subst (λ (l : List Naming). BreaksNameRules items a.visible l b.keys r) (links_one items b.visible b.links a.visible a.links b.are_links a.are_links)
+    (subst (λ (v : List Naming). BreaksNameRules items v b.links b.keys r) (visible_one items b.visible b.links a.visible a.links b.are_links a.are_links) b.breaks))
     a.keeps

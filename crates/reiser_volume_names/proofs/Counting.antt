@@ -1,22 +1,5 @@
 -- The counts of names, with one more link.
-use Rattle.std.proofs.Common.{◌≡◌, ℕ, ◌+◌, ◌^◌, ◌<◌, ◌≤◌, Bool, true, false, not, cond, ◌&&◌, List, [], ◌∷◌, ◌++◌, unwrap_or, Option, Some, None, is_some, refl, sym, ap, subst, ◌∙◌, true≢false, if◌then◌else◌, arith}
-use Rattle.std.specs.Map.{lookup}
-use Rattle.std.proofs.lemmas.List.Elements.{Contains-push, Contains-append_left}
-use Rattle.std.proofs.lemmas.List.Sums.{sum_by_push, sum_by-append}
-use Rattle.indexmap.specs.IndexMap.{IndexMap}
-use Rattle.reiser_volume_objects.specs.refusals.declared.answer.VolAnswer.{VolAnswer}
-use Rattle.reiser_volume_objects.specs.refusals.declared.answer.VolAnswer.TheVariants.{Refused, Fault, Memory}
-use Rattle.reiser_volume_objects.specs.refusals.declared.refusal.VolumeRefusal.TheVariants.{Damaged}
-use Rattle.reiser_volume_objects.specs.refusals.declared.rule.Rule.TheVariants.{SizeRange}
-use Rattle.reiser_volume_objects.specs.reiser_walk.Items.{Item}
-use Rattle.reiser_volume_objects.specs.declared.key.ObjectKey.{ObjectKey}
-use Rattle.reiser_volume_objects.specs.declared.naming.Naming.{Naming}
-use Rattle.reiser_volume_objects.specs.declared.stat.ObjectStat.{ObjectStat}
-use Rattle.reiser_volume_objects.specs.Items.{is_directory_at, stat_of_object}
-use Rattle.reiser_volume_objects.specs.Keys.{same_key}
-use Rattle.reiser_volume_objects.proofs.Tables.{same_key-true, same_key-self}
-use Rattle.reiser_volume_names.specs.Counts.{names_of, is_counted, CountsNames, BlamesCount}
-use Rattle.reiser_volume_names.specs.Tally.{tally, capped}
+use Rattle.reiser_volume_names.proofs.Imports.{◌≡◌, ℕ, ◌+◌, ◌^◌, ◌<◌, ◌≤◌, Bool, true, false, not, cond, ◌&&◌, List, [], ◌∷◌, ◌++◌, unwrap_or, Option, Some, None, is_some, refl, sym, ap, subst, ◌∙◌, true≢false, if◌then◌else◌, arith, lookup, Contains-push, Contains-append_left, sum_by_push, sum_by-append, IndexMap, VolAnswer, Refused, Fault, Memory, Damaged, SizeRange, ReiserItem, ObjectKey, Naming, ObjectStat, is_directory_at, stat_of_object, same_key, same_key-true, same_key-self, names_of, is_counted, CountsNames, BlamesCount, tally, capped}
 
 -- the names with one more
 names_push : (links : List Naming) (n : Naming) (key : ObjectKey) → names_of (links ++ n ∷ []) key ≡ names_of links key + cond (same_key n.target key) 1 0
@@ -31,7 +14,7 @@ one_fits t count is fit = omega arith
 one_over : (t count : ℕ) → count ≡ capped (t + 1) → 2 ^ 32 ≤ count → 2 ^ 32 ≤ t + 1
 one_over t count is large = omega arith
 
-module _ {S : Type 0} (items : List Item) (old : IndexMap ObjectKey ℕ S) (links : List Naming) (n : Naming) (has : CountsNames items old links) where
+module _ {S : Type 0} (items : List ReiserItem) (old : IndexMap ObjectKey ℕ S) (links : List Naming) (n : Naming) (has : CountsNames items old links) where
   stays : (key : ObjectKey) → same_key n.target key ≡ false → names_of (links ++ n ∷ []) key ≡ names_of links key
   stays key other = let push = names_push links n key in let none : ◌≡◌ {A = ℕ} (cond (same_key n.target key) 1 0) 0 = ap (λ (b : Bool). cond b 1 0) other in omega (arith, push, none)
 
@@ -77,25 +60,25 @@ module _ {S : Type 0} (items : List Item) (old : IndexMap ObjectKey ℕ S) (link
         let f = one_over (tally same_key old n.target) count count_is large in
         (n, Contains-push links n, (stat, there, other, omega (arith, o, f), refl))
 
-pub count_of_part : (items : List Item) (part more all : List Naming) (e : VolAnswer) → all ≡ part ++ more → BlamesCount items part e → BlamesCount items all e
+pub count_of_part : (items : List ReiserItem) (part more all : List Naming) (e : VolAnswer) → all ≡ part ++ more → BlamesCount items part e → BlamesCount items all e
 count_of_part items part more all (Refused refusal) is b =
     subst (λ (l : List Naming). BlamesCount items l (Refused refusal)) (sym is) (b.0, Contains-append_left part more b.0 b.1, (b.2.0, b.2.1, b.2.2, omega (arith, b.2.3, names_of_part part more b.0.target), b.2.4))
 count_of_part items part more all Fault is b = b
 count_of_part items part more all Memory is b = tt
 
-pub no_counts : {S : Type 0} (items : List Item) (counts : IndexMap ObjectKey ℕ S) → counts.entries ≡ [] → CountsNames items counts []
+pub no_counts : {S : Type 0} (items : List ReiserItem) (counts : IndexMap ObjectKey ℕ S) → counts.entries ≡ [] → CountsNames items counts []
 no_counts items counts empty = record { each = λ key _. ap (λ (es : List (ObjectKey × ℕ)). unwrap_or (lookup (same_key key) es) 0) empty; few = λ key _. omega arith }
 
 -- what is counted
-pub counts_it : (items : List Item) (key : ObjectKey) (stat : ObjectStat) → stat_of_object items key ≡ Some stat → is_directory_at items key ≡ false → is_counted items key ≡ true
+pub counts_it : (items : List ReiserItem) (key : ObjectKey) (stat : ObjectStat) → stat_of_object items key ≡ Some stat → is_directory_at items key ≡ false → is_counted items key ≡ true
 counts_it items key stat there other = ap (λ (b : Bool). is_some (stat_of_object items key) && not b) other ∙ ap (λ (o : Option ObjectStat). is_some o && true) there
 
-pub not_counted : (items : List Item) (key : ObjectKey) → is_directory_at items key ≡ true → is_counted items key ≡ false
+pub not_counted : (items : List ReiserItem) (key : ObjectKey) → is_directory_at items key ≡ true → is_counted items key ≡ false
 not_counted items key directory = ap (λ (b : Bool). is_some (stat_of_object items key) && not b) directory ∙ by (is_some (stat_of_object items key))
   where
     by : (b : Bool) → (b && false) ≡ false
     by true = refl
     by false = refl
 
-pub none_counted : (items : List Item) (key : ObjectKey) → stat_of_object items key ≡ None → is_counted items key ≡ false
+pub none_counted : (items : List ReiserItem) (key : ObjectKey) → stat_of_object items key ≡ None → is_counted items key ≡ false
 none_counted items key none = ap (λ (o : Option ObjectStat). is_some o && not (is_directory_at items key)) none

@@ -1,21 +1,5 @@
 -- The sums of crowds, with one more name.
-use Rattle.std.proofs.Common.{◌≡◌, ℕ, ◌+◌, ◌<◌, ◌≤◌, ◌==◌, Bool, true, false, ◌&&◌, List, [], ◌∷◌, ◌++◌, length, unwrap_or, refl, sym, ap, subst, ◌∙◌, zero-add, if◌then◌else◌, arith}
-use Rattle.std.proofs.lemmas.Bool.{eqb-true}
-use Rattle.std.proofs.lemmas.Bool.Decides.{nat_tests}
-use Rattle.std.specs.Map.{lookup}
-use Rattle.reiser_volume_objects.specs.refusals.declared.answer.VolAnswer.{VolAnswer}
-use Rattle.reiser_volume_objects.specs.refusals.declared.answer.VolAnswer.TheVariants.{Refused, Fault, Memory}
-use Rattle.reiser_volume_objects.specs.refusals.declared.refusal.VolumeRefusal.TheVariants.{HashCrowd}
-use Rattle.castagnoli.specs.Castagnoli.{name_hash}
-use Rattle.indexmap.specs.IndexMap.{IndexMap}
-use Rattle.reiser_volume_objects.specs.declared.key.ObjectKey.{ObjectKey}
-use Rattle.reiser_volume_objects.specs.declared.naming.Naming.{Naming}
-use Rattle.reiser_volume_objects.specs.Keys.{same_key, root}
-use Rattle.reiser_volume_objects.proofs.Tables.{same_key-true, and_left, and_right}
-use Rattle.reiser_volume_names.specs.declared.crowd.Crowd.{Crowd}
-use Rattle.reiser_volume_names.specs.Crowds.{same_crowd, Counts, BlamesCrowd}
-use Rattle.reiser_volume_names.specs.Names.{crowd_of, saved_name}
-use Rattle.reiser_volume_names.specs.Tally.{tally, capped}
+use Rattle.reiser_volume_names.proofs.Imports.{◌≡◌, ℕ, ◌+◌, ◌<◌, ◌≤◌, ◌==◌, Bool, true, false, ◌&&◌, List, [], ◌∷◌, ◌++◌, length, unwrap_or, refl, sym, ap, subst, ◌∙◌, zero-add, if◌then◌else◌, arith, eqb-true, nat_tests, lookup, VolAnswer, Refused, Fault, Memory, HashCrowd, name_hash, IndexMap, ObjectKey, Naming, same_key, root, same_key-true, and_left, and_right, Crowd, same_crowd, CrowdCounts, BlamesCrowd, crowd_of, saved_name, tally, capped}
 use Rattle.reiser_volume_names.proofs.Sums.{weight_push, weight_of_part}
 
 pub same_crowd-true : (a b : Crowd) → same_crowd a b ≡ true → a ≡ b
@@ -45,7 +29,7 @@ uncapped t len size sum sizes sums fit = omega arith
 over : (t len size sum : ℕ) → size ≡ capped (len + 30) → sum ≡ capped (t + size) → 3901 ≤ sum → 3900 < t + (30 + len)
 over t len size sum sizes sums large = omega arith
 
-module _ {S : Type 0} (old new : IndexMap Crowd ℕ S) (links : List Naming) (n : Naming) (size sum : ℕ) (counts : Counts old links) (sizes : size ≡ capped (length n.name + 30))
+module _ {S : Type 0} (old new : IndexMap Crowd ℕ S) (links : List Naming) (n : Naming) (size sum : ℕ) (counts : CrowdCounts old links) (sizes : size ≡ capped (length n.name + 30))
     (sums : sum ≡ capped (tally same_crowd old (crowd_by n) + size)) where
   push_own : (q : Crowd) → same_crowd (crowd_by n) q ≡ true → crowd_of (links ++ n ∷ []) q.of q.hash ≡ tally same_crowd old (crowd_by n) + (30 + length n.name)
   push_own q own =
@@ -60,7 +44,7 @@ module _ {S : Type 0} (old new : IndexMap Crowd ℕ S) (links : List Naming) (n 
       omega (arith, more, none)
 
   -- one more name that fits
-  pub joined : ((q : Crowd) → tally same_crowd new q ≡ (if same_crowd (crowd_by n) q then capped (tally same_crowd old (crowd_by n) + size) else tally same_crowd old q)) → sum ≤ 3900 → Counts new (links ++ n ∷ [])
+  pub joined : ((q : Crowd) → tally same_crowd new q ≡ (if same_crowd (crowd_by n) q then capped (tally same_crowd old (crowd_by n) + size) else tally same_crowd old q)) → sum ≤ 3900 → CrowdCounts new (links ++ n ∷ [])
   joined has fit = record { each = λ q. each q (same_crowd (crowd_by n) q) refl; fit = λ dir hash. fits (record { of = dir; hash = hash }) (same_crowd (crowd_by n) (record { of = dir; hash = hash })) refl }
     where
       each : (q : Crowd) (b : Bool) → same_crowd (crowd_by n) q ≡ b → tally same_crowd new q ≡ crowd_of (links ++ n ∷ []) q.of q.hash
@@ -79,9 +63,9 @@ module _ {S : Type 0} (old new : IndexMap Crowd ℕ S) (links : List Naming) (n 
   crowded large = omega (arith, push_own (crowd_by n) (same_crowd-self (crowd_by n)), over (tally same_crowd old (crowd_by n)) (length n.name) size sum sizes sums large)
 
 -- the same by a hash that is that of the name
-module _ {S : Type 0} (old new : IndexMap Crowd ℕ S) (links : List Naming) (n : Naming) (hash size sum : ℕ) (counts : Counts old links) (hash_is : hash ≡ name_hash n.name) (sizes : size ≡ capped (length n.name + 30))
+module _ {S : Type 0} (old new : IndexMap Crowd ℕ S) (links : List Naming) (n : Naming) (hash size sum : ℕ) (counts : CrowdCounts old links) (hash_is : hash ≡ name_hash n.name) (sizes : size ≡ capped (length n.name + 30))
     (sums : sum ≡ capped (tally same_crowd old (record { of = n.dir; hash = hash }) + size)) where
-  pub joined_at : ((q : Crowd) → tally same_crowd new q ≡ (if same_crowd (record { of = n.dir; hash = hash }) q then capped (tally same_crowd old (record { of = n.dir; hash = hash }) + size) else tally same_crowd old q)) → sum ≤ 3900 → Counts new (links ++ n ∷ [])
+  pub joined_at : ((q : Crowd) → tally same_crowd new q ≡ (if same_crowd (record { of = n.dir; hash = hash }) q then capped (tally same_crowd old (record { of = n.dir; hash = hash }) + size) else tally same_crowd old q)) → sum ≤ 3900 → CrowdCounts new (links ++ n ∷ [])
   joined_at has fit =
       let sums_too : sum ≡ capped (tally same_crowd old (crowd_by n) + size) = subst (λ (h : ℕ). sum ≡ capped (tally same_crowd old (record { of = n.dir; hash = h }) + size)) hash_is sums in
       joined old new links n size sum counts sizes sums_too
@@ -101,7 +85,7 @@ blamed_of_part links more all Memory is b = tt
 
 -- the name that the root has for the converted volume
 pub root_counted : {S : Type 0} (old new : IndexMap Crowd ℕ S) (hash : ℕ) → old.entries ≡ [] → hash ≡ name_hash saved_name
-    → ((q : Crowd) → tally same_crowd new q ≡ (if same_crowd (record { of = root; hash = hash }) q then capped (tally same_crowd old (record { of = root; hash = hash }) + 44) else tally same_crowd old q)) → Counts new []
+    → ((q : Crowd) → tally same_crowd new q ≡ (if same_crowd (record { of = root; hash = hash }) q then capped (tally same_crowd old (record { of = root; hash = hash }) + 44) else tally same_crowd old q)) → CrowdCounts new []
 root_counted {S} old new hash empty is has = record { each = each; fit = λ dir h. omega (arith, fits dir h (same_key root dir && (name_hash saved_name == h))) }
   where
     nothing : (q : Crowd) → tally same_crowd old q ≡ 0

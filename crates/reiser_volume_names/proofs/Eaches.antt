@@ -1,27 +1,19 @@
 -- Results that are passed on.
-use Rattle.std.proofs.Common.{◌≡◌, ◌≤◌, List, Some, None, Result, Ok, Err, true, sym, subst, ◌∙◌}
-use Rattle.std.specs.Result.{MatchResult, OnOk, IfOk, IfErr}
-use Rattle.reiser_volume_objects.specs.reiser_walk.Items.{Item}
-use Rattle.reiser_volume_objects.specs.declared.key.ObjectKey.{ObjectKey}
+use Rattle.reiser_volume_names.proofs.Imports.{◌≡◌, ◌≤◌, List, Some, None, Result, Ok, Err, true, sym, subst, ◌∙◌, MatchResult, OnOk, IfOk, IfErr, ReiserItem, ObjectKey, ObjectStat, items_of, Summarises, some_same, HasForms, is_symlink_mode}
 use Rattle.reiser_volume_objects.specs.declared.object.Object.{Object}
-use Rattle.reiser_volume_objects.specs.declared.stat.ObjectStat.{ObjectStat}
-use Rattle.reiser_volume_objects.specs.Keys.{items_of}
-use Rattle.reiser_volume_objects.specs.Summary.{Summarises}
-use Rattle.reiser_volume_objects.proofs.Broken.{some_same}
-use Rattle.reiser_volume_names.specs.Passes.{HasForms, is_symlink_mode}
 
 pub passed_on : {T E : Type 0} (P Q : T → Type 0) (R S : E → Type 0) (r : Result T E) → MatchResult r P R → ((x : T) → P x → Q x) → ((e : E) → R e → S e) → MatchResult r Q S
 passed_on P Q R S (Ok x) h f g = f x h
 passed_on P Q R S (Err e) h f g = g e h
 
-pub forms_of : (items : List Item) (key : ObjectKey) (o : Object) (stat : ObjectStat) → Summarises o (items_of key items) → o.off_form ≡ None → o.stat ≡ Some stat → (is_symlink_mode stat.fields.mode ≡ true → stat.fields.size ≤ 3900) → HasForms items key
+pub forms_of : (items : List ReiserItem) (key : ObjectKey) (o : Object) (stat : ObjectStat) → Summarises o (items_of key items) → o.off_form ≡ None → o.stat ≡ Some stat → (is_symlink_mode stat.fields.mode ≡ true → stat.fields.size ≤ 3900) → HasForms items key
 forms_of items key o stat s none there short = record {
   forms = s.formed none;
   target = λ other has symlink. let same : stat ≡ other = some_same _ stat other (sym s.stat ∙ there) has in
       subst (λ (t : ObjectStat). is_symlink_mode t.fields.mode ≡ true → t.fields.size ≤ 3900) same short symlink;
 }
 
-pub no_stat_forms : (items : List Item) (key : ObjectKey) (o : Object) → Summarises o (items_of key items) → o.off_form ≡ None → o.stat ≡ None → HasForms items key
+pub no_stat_forms : (items : List ReiserItem) (key : ObjectKey) (o : Object) → Summarises o (items_of key items) → o.off_form ≡ None → o.stat ≡ None → HasForms items key
 no_stat_forms items key o s none there = record {
   forms = s.formed none;
   target = λ other has symlink. let e : None ≡ Some other = sym there ∙ (s.stat ∙ has) in absurd cc;

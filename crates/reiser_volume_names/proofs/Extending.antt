@@ -1,36 +1,20 @@
 -- The sums of extended references, with one more name.
-use Rattle.std.proofs.Common.{◌≡◌, ℕ, ◌+◌, ◌<◌, ◌≤◌, ◌==◌, nat_lt, Bool, true, false, ◌&&◌, List, [], ◌∷◌, ◌++◌, length, refl, sym, ap, subst, ◌∙◌, append_assoc, if◌then◌else◌, arith}
-use Rattle.std.proofs.lemmas.Bool.{lt-ltb, le-ltb}
-use Rattle.std.proofs.lemmas.List.{append-nil}
-use Rattle.reiser_volume_objects.specs.refusals.declared.answer.VolAnswer.{VolAnswer}
-use Rattle.reiser_volume_objects.specs.refusals.declared.answer.VolAnswer.TheVariants.{Refused, Fault, Memory}
-use Rattle.reiser_volume_objects.specs.refusals.declared.refusal.VolumeRefusal.TheVariants.{HashCrowd}
-use Rattle.castagnoli.specs.Castagnoli.{extref_hash}
-use Rattle.indexmap.specs.IndexMap.{IndexMap}
-use Rattle.reiser_volume_objects.specs.declared.key.ObjectKey.{ObjectKey}
-use Rattle.reiser_volume_objects.specs.declared.naming.Naming.{Naming}
-use Rattle.reiser_volume_objects.specs.Keys.{same_key}
-use Rattle.reiser_volume_objects.proofs.Tables.{same_key-true, same_key-self, and_left, and_right}
-use Rattle.reiser_volume_names.specs.declared.crowd.Crowd.{Crowd}
+use Rattle.reiser_volume_names.proofs.Imports.{◌≡◌, ℕ, ◌+◌, ◌<◌, ◌≤◌, ◌==◌, nat_lt, Bool, true, false, ◌&&◌, List, [], ◌∷◌, ◌++◌, length, refl, sym, ap, subst, ◌∙◌, append_assoc, if◌then◌else◌, arith, lt-ltb, le-ltb, append-nil, VolAnswer, Refused, Fault, Memory, HashCrowd, extref_hash, IndexMap, ObjectKey, Naming, same_key, same_key-true, same_key-self, and_left, and_right, Crowd, same_crowd, same_names, CountsExtended, BlamesExtended, ino_of_key, reference_size, extended, extended_sum, tally, capped}
 use Rattle.reiser_volume_names.specs.declared.extended.NamesIn.{NamesIn}
-use Rattle.reiser_volume_names.specs.Crowds.{same_crowd}
-use Rattle.reiser_volume_names.specs.Extended.{same_names, CountsExtended, BlamesExtended}
-use Rattle.reiser_volume_names.specs.Names.{inode_of, reference_size, extended, extended_sum}
-use Rattle.reiser_volume_names.specs.Tally.{tally, capped}
 use Rattle.reiser_volume_names.proofs.Crowding.{same_crowd-true, same_crowd-self}
 use Rattle.reiser_volume_names.proofs.Sums.{weight_push, weight_of_part}
 
 -- a crowd with one more name
-pub crowd_push : (keys : List ObjectKey) (links : List Naming) (n : Naming) (dir : ObjectKey) (hash : ℕ) → extended_sum keys (links ++ n ∷ []) dir hash ≡ extended_sum keys links dir hash + (if same_key n.target dir && (extref_hash (inode_of keys n.dir) n.name == hash) then 18 + length n.name else 0)
-crowd_push keys links n dir hash = weight_push (λ (m : Naming). same_key m.target dir && (extref_hash (inode_of keys m.dir) m.name == hash)) (λ (m : Naming). 18 + length m.name) links n
+pub crowd_push : (keys : List ObjectKey) (links : List Naming) (n : Naming) (dir : ObjectKey) (hash : ℕ) → extended_sum keys (links ++ n ∷ []) dir hash ≡ extended_sum keys links dir hash + (if same_key n.target dir && (extref_hash (ino_of_key keys n.dir) n.name == hash) then 18 + length n.name else 0)
+crowd_push keys links n dir hash = weight_push (λ (m : Naming). same_key m.target dir && (extref_hash (ino_of_key keys m.dir) m.name == hash)) (λ (m : Naming). 18 + length m.name) links n
 
 -- a crowd of some first links is no larger than that of all
 pub crowd_of_part : (keys : List ObjectKey) (links more : List Naming) (dir : ObjectKey) (hash : ℕ) → extended_sum keys links dir hash ≤ extended_sum keys (links ++ more) dir hash
-crowd_of_part keys links more dir hash = weight_of_part (λ (m : Naming). same_key m.target dir && (extref_hash (inode_of keys m.dir) m.name == hash)) (λ (m : Naming). 18 + length m.name) links more
+crowd_of_part keys links more dir hash = weight_of_part (λ (m : Naming). same_key m.target dir && (extref_hash (ino_of_key keys m.dir) m.name == hash)) (λ (m : Naming). 18 + length m.name) links more
 
 -- the crowd of a name
 abbrev crowd_by : List ObjectKey → Naming → Crowd
-crowd_by keys n = record { of = n.target; hash = extref_hash (inode_of keys n.dir) n.name }
+crowd_by keys n = record { of = n.target; hash = extref_hash (ino_of_key keys n.dir) n.name }
 
 uncapped : (t len size sum : ℕ) → size ≡ capped (len + 18) → sum ≡ capped (t + size) → sum ≤ 3900 → t + (18 + len) ≡ sum
 uncapped t len size sum sizes sums fit = omega arith
@@ -68,11 +52,11 @@ module _ {S : Type 0} (keys : List ObjectKey) (old new : IndexMap Crowd ℕ S) (
       fits q false other = omega (arith, push_other q other, counts.fit q.of q.hash)
 
   -- one that does not
-  pub crowded : 3901 ≤ sum → 3900 < extended_sum keys (links ++ n ∷ []) n.target (extref_hash (inode_of keys n.dir) n.name)
+  pub crowded : 3901 ≤ sum → 3900 < extended_sum keys (links ++ n ∷ []) n.target (extref_hash (ino_of_key keys n.dir) n.name)
   crowded large = omega (arith, push_own (crowd_by keys n) (same_crowd-self (crowd_by keys n)), over (tally same_crowd old (crowd_by keys n)) (length n.name) size sum sizes sums large)
 
 -- the same by a hash that is that of the name
-module _ {S : Type 0} (keys : List ObjectKey) (old new : IndexMap Crowd ℕ S) (links : List Naming) (n : Naming) (hash size sum : ℕ) (counts : CountsExtended keys old links) (hash_is : hash ≡ extref_hash (inode_of keys n.dir) n.name) (sizes : size ≡ capped (length n.name + 18))
+module _ {S : Type 0} (keys : List ObjectKey) (old new : IndexMap Crowd ℕ S) (links : List Naming) (n : Naming) (hash size sum : ℕ) (counts : CountsExtended keys old links) (hash_is : hash ≡ extref_hash (ino_of_key keys n.dir) n.name) (sizes : size ≡ capped (length n.name + 18))
     (sums : sum ≡ capped (tally same_crowd old (record { of = n.target; hash = hash }) + size)) where
   pub joined_at : ((q : Crowd) → tally same_crowd new q ≡ (if same_crowd (record { of = n.target; hash = hash }) q then capped (tally same_crowd old (record { of = n.target; hash = hash }) + size) else tally same_crowd old q)) → sum ≤ 3900 → CountsExtended keys new (links ++ n ∷ [])
   joined_at has fit =

@@ -6,6 +6,7 @@ pub mod Counting
 pub mod Crowding
 pub mod Eaches
 pub mod Extending
+pub mod Imports
 pub mod Lists
 pub mod Numbering
 pub mod Seeing

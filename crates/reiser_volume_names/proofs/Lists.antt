@@ -1,8 +1,5 @@
 -- One more element of a list.
-use Rattle.std.proofs.Common.{◌≡◌, ℕ, ◌+◌, ◌<◌, ◌≤◌, Bool, List, [], ◌∷◌, ◌++◌, length, get_or, take, drop, filter, Contains, if◌then◌else◌, ⊎_elim, sym, ap, subst, ◌∙◌, arith}
-use Rattle.std.proofs.lemmas.Bool.{cases_lt}
-use Rattle.std.proofs.lemmas.List.{get_or_default, take-append-drop, take_all}
-use Rattle.std.proofs.lemmas.List.Elements.{filter-append, filter_more}
+use Rattle.reiser_volume_names.proofs.Imports.{◌≡◌, ℕ, ◌+◌, ◌<◌, ◌≤◌, Bool, List, [], ◌∷◌, ◌++◌, length, get_or, take, drop, filter, Contains, if◌then◌else◌, ⊎_elim, sym, ap, subst, ◌∙◌, arith, cases_lt, get_or_default, take-append-drop, take_all, filter-append, filter_more}
 
 module _ {X : Type 0} (P : X → Type 0) where
   -- what holds of the first elements, and of the next, holds of one more

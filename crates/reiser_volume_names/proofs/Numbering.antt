@@ -1,18 +1,7 @@
 -- How many keys stand before one in a sorted list.
-use Rattle.std.proofs.Common.{◌≡◌, ℕ, zero, suc, ◌+◌, Bool, true, false, cond, not, ◌&&◌, ◌||◌, List, [], ◌∷◌, get_or, count_by, Some, None, refl, sym, ap, subst, ◌∙◌, true≢false, if◌then◌else◌, arith}
-use Rattle.std.specs.Prelude.{slice_get, position}
-use Rattle.std.specs.List.{list_any, IsDistinct, AllByRecursion}
-use Rattle.std.specs.List.Sorted.{IsStrictlySortedBy}
-use Rattle.std.specs.Ordering.{is_eq, is_lt, ordering_reverse}
+use Rattle.reiser_volume_names.proofs.Imports.{◌≡◌, ℕ, zero, suc, ◌+◌, Bool, true, false, cond, not, ◌&&◌, ◌||◌, List, [], ◌∷◌, get_or, count_by, Some, None, refl, sym, ap, subst, ◌∙◌, true≢false, if◌then◌else◌, arith, slice_get, position, list_any, IsDistinct, AllByRecursion, IsStrictlySortedBy, is_eq, is_lt, ordering_reverse, sum_by-cons, position-Some, slice_get-get_or, ObjectKey, same_key, root, same_key-true, same_key-self, object_cmp}
 use Rattle.std.specs.declared.cmp.Ordering.{Ordering}
 use Rattle.std.specs.declared.cmp.Ordering.TheVariants.{Less, Equal, Greater}
-use Rattle.std.proofs.lemmas.List.Sums.{sum_by-cons}
-use Rattle.std.proofs.lemmas.List.Quantifiers.{position-Some}
-use Rattle.std.proofs.lemmas.Option.{slice_get-get_or}
-use Rattle.reiser_volume_objects.specs.declared.key.ObjectKey.{ObjectKey}
-use Rattle.reiser_volume_objects.specs.Keys.{same_key, root}
-use Rattle.reiser_volume_objects.proofs.Tables.{same_key-true, same_key-self}
-use Rattle.reiser_volume_names.specs.Links.{object_cmp}
 use Rattle.reiser_volume_names.proofs.Tabling.{object_ties, object_total}
 use Rattle.reiser_volume_names.proofs.Uniqueness.{flips}
 

@@ -1,23 +1,7 @@
 -- The names that were seen, with one more.
-use Rattle.std.proofs.Common.{◌≡◌, ℕ, ◌==◌, Bool, true, false, not, ◌&&◌, ◌||◌, List, [], ◌∷◌, ◌++◌, get_or, nat_eq, refl, sym, ap, ◌∙◌, append_assoc, true≢false, arith}
-use Rattle.std.specs.List.{list_any}
+use Rattle.reiser_volume_names.proofs.Imports.{◌≡◌, ℕ, ◌==◌, Bool, true, false, not, ◌&&◌, ◌||◌, List, [], ◌∷◌, ◌++◌, get_or, nat_eq, refl, sym, ap, ◌∙◌, append_assoc, true≢false, arith, list_any, eqb-true, nat_tests, list_any-append, list_any_at, Any-from_list_any, all_pairs_push, IndexSet, contains, VolAnswer, Refused, Fault, Memory, Damaged, NameTwice, ObjectKey, Naming, same_key, same_key-true, same_key-self, and_left, and_right, AreIn, same_name, names_as, DifferInName, HasSeenLinks, BlamesTwice}
 use Rattle.std.specs.Cmp.Lexicographic.{pointwise}
-use Rattle.std.proofs.lemmas.Bool.{eqb-true}
-use Rattle.std.proofs.lemmas.Bool.Decides.{nat_tests}
-use Rattle.std.proofs.lemmas.List.Folds.{list_any-append, list_any_at, Any-from_list_any}
-use Rattle.std.proofs.lemmas.List.Quantifiers.{all_pairs_push}
-use Rattle.indexmap.specs.IndexSet.{IndexSet, contains}
-use Rattle.reiser_volume_objects.specs.refusals.declared.answer.VolAnswer.{VolAnswer}
-use Rattle.reiser_volume_objects.specs.refusals.declared.answer.VolAnswer.TheVariants.{Refused, Fault, Memory}
-use Rattle.reiser_volume_objects.specs.refusals.declared.refusal.VolumeRefusal.TheVariants.{Damaged}
-use Rattle.reiser_volume_objects.specs.refusals.declared.rule.Rule.TheVariants.{NameTwice}
-use Rattle.reiser_volume_objects.specs.declared.key.ObjectKey.{ObjectKey}
-use Rattle.reiser_volume_objects.specs.declared.naming.Naming.{Naming}
-use Rattle.reiser_volume_objects.specs.Keys.{same_key}
-use Rattle.reiser_volume_objects.proofs.Tables.{same_key-true, same_key-self, and_left, and_right}
-use Rattle.reiser_volume_names.specs.declared.once.NameIn.{NameIn}
-use Rattle.reiser_volume_names.specs.Names.{AreIn}
-use Rattle.reiser_volume_names.specs.Once.{same_name, names_as, DifferInName, HasSeen, BlamesTwice}
+use Rattle.reiser_volume_names.specs.declared.once.KeyedName.{KeyedName}
 
 -- bytes that pass the test are the same
 pub pointwise_same : (xs ys : List ℕ) → pointwise nat_eq xs ys ≡ true → xs ≡ ys
@@ -37,7 +21,7 @@ pointwise_self [] = refl
 pointwise_self (x ∷ xs) = ap (λ (b : Bool). b && pointwise nat_eq xs xs) (eq-self x) ∙ pointwise_self xs
 
 -- an entry is of this name in this directory
-names_it : (q : NameIn) (n : Naming) → n.dir ≡ q.dir → n.name ≡ q.name.items → names_as q n ≡ true
+names_it : (q : KeyedName) (n : Naming) → n.dir ≡ q.dir → n.name ≡ q.name.items → names_as q n ≡ true
 names_it q n dir name =
     ap (λ (k : ObjectKey). same_key k q.dir && pointwise nat_eq n.name q.name.items) dir
     ∙ (ap (λ (b : Bool). b && pointwise nat_eq n.name q.name.items) (same_key-self q.dir) ∙ (ap (λ (l : List ℕ). pointwise nat_eq l q.name.items) name ∙ pointwise_self q.name.items))
@@ -48,9 +32,9 @@ or_swap true false = refl
 or_swap false true = refl
 or_swap false false = refl
 
-module _ {S : Type 0} (old new : IndexSet NameIn S) (seen : List Naming) (n : Naming) (name : NameIn) (has : HasSeen old seen) (dir_is : name.dir ≡ n.dir) (name_is : name.name.items ≡ n.name) where
+module _ {S : Type 0} (old new : IndexSet KeyedName S) (seen : List Naming) (n : Naming) (name : KeyedName) (has : HasSeenLinks old seen) (dir_is : name.dir ≡ n.dir) (name_is : name.name.items ≡ n.name) where
   -- one that is new
-  pub seen_more : ((q : NameIn) → contains same_name new q ≡ (same_name name q || contains same_name old q)) → contains same_name old name ≡ false → HasSeen new (seen ++ n ∷ [])
+  pub seen_more : ((q : KeyedName) → contains same_name new q ≡ (same_name name q || contains same_name old q)) → contains same_name old name ≡ false → HasSeenLinks new (seen ++ n ∷ [])
   seen_more grows absent = record {
     each = λ q.
         grows q
@@ -60,7 +44,7 @@ module _ {S : Type 0} (old new : IndexSet NameIn S) (seen : List Naming) (n : Na
         true≢false (sym (list_any_at (names_as name) seen k d within (names_it name (get_or seen k d) (same_dir ∙ sym dir_is) (same_bytes ∙ sym name_is))) ∙ (sym (has.each name) ∙ absent)));
   }
     where
-      same : (q : NameIn) → same_name name q ≡ names_as q n
+      same : (q : KeyedName) → same_name name q ≡ names_as q n
       same q = ap (λ (k : ObjectKey). same_key k q.dir && pointwise nat_eq name.name.items q.name.items) dir_is ∙ ap (λ (l : List ℕ). same_key n.dir q.dir && pointwise nat_eq l q.name.items) name_is
 
   -- one that was seen
@@ -86,8 +70,8 @@ twice_of_part part more all (Refused refusal) is b = (b.0, (b.1.0, in_more part 
 twice_of_part part more all Fault is b = b
 twice_of_part part more all Memory is b = tt
 
-pub none_seen : {S : Type 0} (names : IndexSet NameIn S) → names.keys ≡ [] → HasSeen names []
-none_seen names empty = record { each = λ q. ap (λ (ks : List NameIn). list_any (same_name q) ks) empty; once = λ i j d before within. absurd (omega (arith, within)) }
+pub none_seen : {S : Type 0} (names : IndexSet KeyedName S) → names.keys ≡ [] → HasSeenLinks names []
+none_seen names empty = record { each = λ q. ap (λ (ks : List KeyedName). list_any (same_name q) ks) empty; once = λ i j d before within. absurd (omega (arith, within)) }
 
 pub was_absent : (new had : Bool) → new ≡ not had → new ≡ true → had ≡ false
 was_absent new true is h = absurd (true≢false (sym h ∙ is))

@@ -1,7 +1,5 @@
 -- Sums over the links that pass a test.
-use Rattle.std.proofs.Common.{◌≡◌, ℕ, ◌+◌, ◌≤◌, Bool, true, false, List, [], ◌∷◌, ◌++◌, filter, sum_by, ap, ◌∙◌, if◌then◌else◌, arith}
-use Rattle.std.proofs.lemmas.List.Elements.{filter-append}
-use Rattle.std.proofs.lemmas.List.Sums.{sum_by-append, sum_by_push}
+use Rattle.reiser_volume_names.proofs.Imports.{◌≡◌, ℕ, ◌+◌, ◌≤◌, Bool, true, false, List, [], ◌∷◌, ◌++◌, filter, sum_by, ap, ◌∙◌, if◌then◌else◌, arith, filter-append, sum_by-append, sum_by_push}
 
 module _ {X : Type 0} (t : X → Bool) (w : X → ℕ) where
   -- one more element

@@ -1,32 +1,10 @@
 -- The table of the named objects with their stat data.
-use Rattle.std.proofs.Common.{◌≡◌, ℕ, ◌+◌, ◌<◌, ◌==◌, Bool, true, false, cond, ◌&&◌, ◌||◌, List, [], ◌∷◌, ◌++◌, length, get_or, take, Option, Some, None, is_some, Contains, refl, sym, ap, subst, ◌∙◌, true≢false, if◌then◌else◌, add-one, arith}
+use Rattle.reiser_volume_names.proofs.Imports.{◌≡◌, ℕ, ◌+◌, ◌<◌, ◌==◌, Bool, true, false, cond, ◌&&◌, ◌||◌, List, [], ◌∷◌, ◌++◌, length, get_or, take, Option, Some, None, is_some, Contains, refl, sym, ap, subst, ◌∙◌, true≢false, if◌then◌else◌, add-one, arith, IsSome, slice_get, position, IsTotalOrder, tied_then, list_any, dedup, dedup_from, IsDistinct, IsSorted, IsStrictlySortedBy, nat_cmp, is_eq, nat_tests, list_any-append, IsStrictlySortedBy-dedup, position-Some, slice_get-map, slice_get-get_or, AllPairs-from_IsDistinct, IndexMap, keys, get, IndexSet, contains, ReiserItem, ObjectKey, ObjectStat, stat_of_object, same_key, IsNamed, IsReach, some_same, same_key-true, AreNamedKeys, TellsNamed, object_cmp}
+use Rattle.indexmap.specs.IndexMap.{IsUnique}
 use Rattle.std.proofs.Math.Seq.{take-suc}
-use Rattle.std.specs.Prelude.{IsSome, slice_get, position}
 use Rattle.std.specs.Option.{MatchOption, option_map}
-use Rattle.std.specs.Cmp.{IsTotalOrder, tied_then}
-use Rattle.std.specs.List.{list_any, dedup, dedup_from, IsDistinct}
-use Rattle.std.specs.List.Sorted.{IsSorted, IsStrictlySortedBy}
-use Rattle.std.specs.Ordering.{nat_cmp, is_eq}
-use Rattle.std.proofs.lemmas.Bool.Decides.{nat_tests}
 use Rattle.std.proofs.lemmas.Cmp.{nat_cmp_total, on_total, then_total}
-use Rattle.std.proofs.lemmas.List.Folds.{list_any-append}
-use Rattle.std.proofs.lemmas.List.Kept.{IsStrictlySortedBy-dedup}
-use Rattle.std.proofs.lemmas.List.Quantifiers.{position-Some}
-use Rattle.std.proofs.lemmas.Option.{slice_get-map, slice_get-get_or}
-use Rattle.std.proofs.lemmas.Map.Made.{AllPairs-from_IsDistinct}
 use Rattle.std.proofs.lemmas.Map.Views.{Contains-keys_from_lookup, IsSome-lookup_from_Contains}
-use Rattle.indexmap.specs.IndexMap.{IndexMap, keys, get, IsUnique}
-use Rattle.indexmap.specs.IndexSet.{IndexSet, contains}
-use Rattle.reiser_volume_objects.specs.reiser_walk.Items.{Item}
-use Rattle.reiser_volume_objects.specs.declared.key.ObjectKey.{ObjectKey}
-use Rattle.reiser_volume_objects.specs.declared.stat.ObjectStat.{ObjectStat}
-use Rattle.reiser_volume_objects.specs.Items.{stat_of_object}
-use Rattle.reiser_volume_objects.specs.Keys.{same_key}
-use Rattle.reiser_volume_objects.specs.Names.{IsNamed}
-use Rattle.reiser_volume_objects.specs.Reach.{IsReach}
-use Rattle.reiser_volume_objects.proofs.Broken.{some_same}
-use Rattle.reiser_volume_objects.proofs.Tables.{same_key-true}
-use Rattle.reiser_volume_names.specs.Links.{AreNamedKeys, TellsNamed, object_cmp}
 use Rattle.reiser_volume_names.specs.Known.{HasStats, is_known}
 use Rattle.reiser_volume_names.proofs.Uniqueness.{same_decides, same_laws, flips}
 
@@ -42,7 +20,7 @@ or_false false = refl
 seen_also : (seen : List ObjectKey) (key q : ObjectKey) (b : Bool) → same_key key q ≡ b → list_any (same_key q) (seen ++ key ∷ []) ≡ (list_any (same_key q) seen || (b || false))
 seen_also seen key q b is = list_any-append (same_key q) seen (key ∷ []) ∙ ap (λ (c : Bool). list_any (same_key q) seen || (c || false)) (flips q key ∙ is)
 
-module _ {S : Type 0} (items : List Item) (table new : IndexMap ObjectKey ObjectStat S) (seen : List ObjectKey) (key : ObjectKey) (has : HasStats items table seen) where
+module _ {S : Type 0} (items : List ReiserItem) (table new : IndexMap ObjectKey ObjectStat S) (seen : List ObjectKey) (key : ObjectKey) (has : HasStats items table seen) where
   -- one more object
   pub stats_more : (stat : ObjectStat) → stat_of_object items key ≡ Some stat → ((q : ObjectKey) → get same_key new q ≡ cond (same_key key q) (Some stat) (get same_key table q)) → HasStats items new (seen ++ key ∷ [])
   stats_more stat there grows q = grows q ∙ by (same_key key q) refl
@@ -97,7 +75,7 @@ object_total = then_total (on_total (λ (k : ObjectKey). k.dir) nat_cmp_total) (
 pub ascending : (ks : List ObjectKey) → IsSorted object_cmp ks → IsDistinct same_key ks → IsStrictlySortedBy object_cmp ks
 ascending ks sorted apart = subst (IsStrictlySortedBy object_cmp) (dedup_distinct ks apart) (IsStrictlySortedBy-dedup object_total object_ties ks sorted)
 
-module _ {S T : Type 0} (items : List Item) (table : IndexMap ObjectKey ObjectStat S) (named : IndexSet ObjectKey T) (has : HasStats items table named.keys) (reach : IsReach items (contains same_key named)) where
+module _ {S T : Type 0} (items : List ReiserItem) (table : IndexMap ObjectKey ObjectStat S) (named : IndexSet ObjectKey T) (has : HasStats items table named.keys) (reach : IsReach items (contains same_key named)) where
   -- what is in the table is named
   found : (key : ObjectKey) → Contains (keys table) key → contains same_key named key ≡ true
   found key among = by (contains same_key named key) refl
@@ -145,7 +123,7 @@ pub take_next : (ks : List ObjectKey) (i : ℕ) (key d : ObjectKey) → i < leng
 take_next ks i key d within is = ap (λ (n : ℕ). take n ks) (add-one i) ∙ (take-suc ks i d within ∙ ap (λ (k : ObjectKey). take i ks ++ k ∷ []) (sym is))
 
 -- the same keys in another order
-pub sorted_reach : {S : Type 0} (items : List Item) (reached named : IndexSet ObjectKey S) → IsReach items (contains same_key reached) → ((q : ObjectKey) → contains same_key named q ≡ contains same_key reached q) → IsReach items (contains same_key named)
+pub sorted_reach : {S : Type 0} (items : List ReiserItem) (reached named : IndexSet ObjectKey S) → IsReach items (contains same_key reached) → ((q : ObjectKey) → contains same_key named q ≡ contains same_key reached q) → IsReach items (contains same_key named)
 sorted_reach items reached named reach same =
     let tests : contains same_key reached ≡ contains same_key named = λ j q. sym (same q) j in
     subst (IsReach items) tests reach

@@ -1,26 +1,8 @@
 -- The links of a volume are one list, and its keys one set: what depends on them does not depend on how they were found.
-use Rattle.std.proofs.Common.{◌≡◌, ℕ, ◌+◌, ◌==◌, Bool, true, false, not, ◌&&◌, List, [], ◌∷◌, length, filter, count_by, sum_by, AllPairs, refl, sym, ap, ◌∙◌, if◌then◌else◌}
-use Rattle.std.specs.Prelude.{◌≢◌}
+use Rattle.reiser_volume_names.proofs.Imports.{◌≡◌, ℕ, ◌+◌, ◌==◌, Bool, true, false, not, ◌&&◌, List, [], ◌∷◌, length, filter, count_by, sum_by, AllPairs, refl, sym, ap, ◌∙◌, if◌then◌else◌, ◌≢◌, IsEquivalence, IsDistinct, is_lt, AllPairs-filter, length-filter, IsDistinct-from_AllPairs, is_member-Decides, is_member-filter, length-from_same_keys, extref_hash, ReiserItem, ObjectKey, Naming, same_key, root, namings, is_followed, Keys, same_key-true, same_key-self, AreLinks, AreNamedKeys, TellsNamed, object_cmp, link_list, ino_of_key, extended, extended_crowd_of}
 use Rattle.std.specs.Bool.{Decides}
-use Rattle.std.specs.Cmp.{IsEquivalence}
-use Rattle.std.specs.List.{IsDistinct}
-use Rattle.std.specs.Ordering.{is_lt}
 use Rattle.std.specs.Set.{is_member}
-use Rattle.std.proofs.lemmas.List.Kept.{AllPairs-filter}
-use Rattle.std.proofs.lemmas.List.Sums.{length-filter}
-use Rattle.std.proofs.lemmas.Map.Made.{IsDistinct-from_AllPairs, is_member-Decides, is_member-filter, length-from_same_keys}
-use Rattle.castagnoli.specs.Castagnoli.{extref_hash}
 use Rattle.reiser_volume_objects.proofs.fs_paths.FirstPlaces.{both_ways}
-use Rattle.reiser_volume_objects.specs.reiser_walk.Items.{Item}
-use Rattle.reiser_volume_objects.specs.declared.key.ObjectKey.{ObjectKey}
-use Rattle.reiser_volume_objects.specs.declared.naming.Naming.{Naming}
-use Rattle.reiser_volume_objects.specs.Keys.{same_key, root}
-use Rattle.reiser_volume_objects.specs.Names.{namings, is_followed}
-use Rattle.reiser_volume_objects.specs.Reach.{Keys}
-use Rattle.reiser_volume_objects.proofs.Tables.{same_key-true, same_key-self}
-use Rattle.reiser_volume_names.specs.Links.{AreLinks, AreNamedKeys, TellsNamed, object_cmp}
-use Rattle.reiser_volume_names.specs.Passes.{link_list}
-use Rattle.reiser_volume_names.specs.Names.{inode_of, extended, extended_crowd_of}
 
 pub same_decides : (a b : ObjectKey) → Decides (same_key a b) (a ≡ b)
 same_decides a b = (same_key-true a b, λ e. ap (same_key a) (sym e) ∙ same_key-self a)
@@ -51,20 +33,20 @@ filter_both p q (x ∷ xs) = outer (p x) (filter_both p q xs)
     outer false same = none (q x) same
 
 -- the links, by the test of the named objects
-pub links_found : (items : List Item) (ns : List Naming) (has : Keys) → ns ≡ namings items → TellsNamed items has → AreLinks items (filter (λ n. has n.dir) ns) (link_list has ns)
+pub links_found : (items : List ReiserItem) (ns : List Naming) (has : Keys) → ns ≡ namings items → TellsNamed items has → AreLinks items (filter (λ n. has n.dir) ns) (link_list has ns)
 links_found items ns has ns_is exact = record { has = has; exact = exact; are_visible = ap (filter (λ n. has n.dir)) ns_is; are_links = filter_both (λ n. has n.dir) is_followed ns }
 
-same_test : (items : List Item) (f g : Keys) → TellsNamed items f → TellsNamed items g → f ≡ g
+same_test : (items : List ReiserItem) (f g : Keys) → TellsNamed items f → TellsNamed items g → f ≡ g
 same_test items f g a b = λ j key. both_ways (f key) (g key) (λ h. (b key).1 ((a key).0 h)) (λ h. (a key).1 ((b key).0 h)) j
 
-module _ (items : List Item) (visible links also_visible also_links : List Naming) (a : AreLinks items visible links) (b : AreLinks items also_visible also_links) where
+module _ (items : List ReiserItem) (visible links also_visible also_links : List Naming) (a : AreLinks items visible links) (b : AreLinks items also_visible also_links) where
   pub visible_one : visible ≡ also_visible
   visible_one = a.are_visible ∙ (ap (λ (has : Keys). filter (λ n. has n.dir) (namings items)) (same_test items a.has b.has a.exact b.exact) ∙ sym b.are_visible)
 
   pub links_one : links ≡ also_links
   links_one = a.are_links ∙ (ap (filter is_followed) visible_one ∙ sym b.are_links)
 
-module _ (items : List Item) (keys also : List ObjectKey) (a : AreNamedKeys items keys) (b : AreNamedKeys items also) where
+module _ (items : List ReiserItem) (keys also : List ObjectKey) (a : AreNamedKeys items keys) (b : AreNamedKeys items also) where
   same_member : (key : ObjectKey) → is_member same_key keys key ≡ is_member same_key also key
   same_member key =
       let first = is_member-Decides same_decides keys key in
@@ -85,7 +67,7 @@ module _ (items : List Item) (keys also : List ObjectKey) (a : AreNamedKeys item
       (λ key. kept p keys key ∙ (ap (λ (m : Bool). m && p key) (same_member key) ∙ sym (kept p also key)))
       ∙ length-filter p also)
 
-  inode_one : inode_of keys ≡ inode_of also
+  inode_one : ino_of_key keys ≡ ino_of_key also
   inode_one = λ j key. if same_key key root then 256 else 257 + count_one (λ k. is_lt (object_cmp k key) && not (same_key k root)) j
 
   pub extended_one : (links : List Naming) (object : ObjectKey) (hash : ℕ) → extended_crowd_of links keys object hash ≡ extended_crowd_of links also object hash

@@ -5,7 +5,7 @@ use Rattle.reiser_volume_objects.specs.refusals.declared.answer.VolAnswer.{VolAn
 use Rattle.reiser_volume_objects.specs.refusals.declared.answer.VolAnswer.TheVariants.{Refused, Fault, Memory}
 use Rattle.reiser_volume_objects.specs.refusals.declared.refusal.VolumeRefusal.TheVariants.{Damaged}
 use Rattle.reiser_volume_objects.specs.refusals.declared.rule.Rule.TheVariants.{SizeRange}
-use Rattle.reiser_volume_objects.specs.reiser_walk.Items.{Item}
+use Rattle.reiser_volume_objects.specs.reiser_walk.Items.{ReiserItem}
 use Rattle.reiser_volume_objects.specs.declared.key.ObjectKey.{ObjectKey}
 use Rattle.reiser_volume_objects.specs.declared.naming.Naming.{Naming}
 use Rattle.reiser_volume_objects.specs.declared.stat.ObjectStat.{ObjectStat}
@@ -19,16 +19,16 @@ abbrev pub names_of : List Naming → ObjectKey → ℕ
 names_of links key = count_by (λ n. same_key n.target key) links
 
 -- an object with stat data that is no directory
-abbrev pub is_counted : List Item → ObjectKey → Bool
+abbrev pub is_counted : List ReiserItem → ObjectKey → Bool
 is_counted items key = is_some (stat_of_object items key) && not (is_directory_at items key)
 
 -- the counts are those of these links, and no object that is no directory has too many names
-pub record CountsNames {S : Type 0} (items : List Item) (counts : IndexMap ObjectKey ℕ S) (links : List Naming) : Type 0 where
+pub record CountsNames {S : Type 0} (items : List ReiserItem) (counts : IndexMap ObjectKey ℕ S) (links : List Naming) : Type 0 where
   pub each : (key : ObjectKey) → is_counted items key ≡ true → tally same_key counts key ≡ names_of links key
   pub few : (key : ObjectKey) → is_counted items key ≡ true → names_of links key < 2 ^ 32
 
 -- an object that is no directory has too many names, or there was no memory
-abbrev pub BlamesCount : List Item → List Naming → VolAnswer → Type 0
+abbrev pub BlamesCount : List ReiserItem → List Naming → VolAnswer → Type 0
 BlamesCount items links (Refused refusal) =
     (n : Naming) × Contains links n × ((stat : ObjectStat) × (stat_of_object items n.target ≡ Some stat) × (is_directory_at items n.target ≡ false) × (2 ^ 32 ≤ names_of links n.target) × (refusal ≡ Damaged stat.leaf SizeRange))
 BlamesCount items links Fault = ⊥

@@ -15,7 +15,7 @@ abbrev pub same_crowd : Crowd → Crowd → Bool
 same_crowd a b = same_key a.of b.of && (a.hash == b.hash)
 
 -- the sums are those of the crowds of these links, and all of them fit
-pub record Counts {S : Type 0} (sums : IndexMap Crowd ℕ S) (links : List Naming) : Type 0 where
+pub record CrowdCounts {S : Type 0} (sums : IndexMap Crowd ℕ S) (links : List Naming) : Type 0 where
   pub each : (q : Crowd) → tally same_crowd sums q ≡ crowd_of links q.of q.hash
   pub fit : (dir : ObjectKey) (hash : ℕ) → crowd_of links dir hash ≤ 3900
 

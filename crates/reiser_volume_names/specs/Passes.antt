@@ -4,11 +4,11 @@ use Rattle.reiser_volume_objects.specs.refusals.declared.refusal.VolumeRefusal.{
 use Rattle.reiser_volume_objects.specs.refusals.declared.refusal.VolumeRefusal.TheVariants.{Damaged, NameTaken, NameTooLong}
 use Rattle.reiser_volume_objects.specs.refusals.declared.rule.Rule.TheVariants.{EntryForm, DirTwice}
 use Rattle.reiser_volume_objects.specs.declared.naming.Naming.{Naming}
-use Rattle.reiser_volume_objects.specs.reiser_walk.Items.{Item}
+use Rattle.reiser_volume_objects.specs.reiser_walk.Items.{ReiserItem}
 use Rattle.reiser_volume_objects.specs.declared.key.ObjectKey.{ObjectKey}
 use Rattle.reiser_volume_objects.specs.declared.stat.ObjectStat.{ObjectStat}
 use Rattle.reiser_volume_objects.specs.Items.{stat_of_object}
-use Rattle.reiser_volume_objects.specs.Summary.{has_form}
+use Rattle.reiser_volume_objects.specs.Summary.{has_entry_form}
 use Rattle.reiser_volume_objects.specs.Keys.{root, items_of}
 use Rattle.reiser_volume_objects.specs.Names.{is_followed}
 use Rattle.reiser_volume_objects.specs.Reach.{Keys}
@@ -44,8 +44,8 @@ abbrev pub is_symlink_mode : ℕ → Bool
 is_symlink_mode mode = mode / 4096 == 10
 
 -- the directory items of an object are on the grammar of entries, and the target of a symlink is short
-pub record HasForms (items : List Item) (key : ObjectKey) : Type 0 where
-  pub forms : (i : Item) → Contains (items_of key items) i → has_form i ≡ true
+pub record HasForms (items : List ReiserItem) (key : ObjectKey) : Type 0 where
+  pub forms : (i : ReiserItem) → Contains (items_of key items) i → has_entry_form i ≡ true
   pub target : (stat : ObjectStat) → stat_of_object items key ≡ Some stat → is_symlink_mode stat.fields.mode ≡ true → stat.fields.size ≤ 3900
 
 pub record BlamesTarget (key : ObjectKey) (stat : ObjectStat) (r : VolumeRefusal) : Type 0 where
@@ -53,6 +53,6 @@ pub record BlamesTarget (key : ObjectKey) (stat : ObjectStat) (r : VolumeRefusal
   pub long : 3900 < stat.fields.size
   pub is : r ≡ NameTooLong key.dir key.object stat.fields.size
 
-pub data BlamesObject (items : List Item) (key : ObjectKey) (r : VolumeRefusal) : Type 0 where
-  off_form : (i : Item) → Contains (items_of key items) i → has_form i ≡ false → r ≡ Damaged i.leaf EntryForm → BlamesObject items key r
+pub data BlamesObject (items : List ReiserItem) (key : ObjectKey) (r : VolumeRefusal) : Type 0 where
+  off_form : (i : ReiserItem) → Contains (items_of key items) i → has_entry_form i ≡ false → r ≡ Damaged i.leaf EntryForm → BlamesObject items key r
   long_target : (stat : ObjectStat) → stat_of_object items key ≡ Some stat → BlamesTarget key stat r → BlamesObject items key r

@@ -6,11 +6,11 @@ use Rattle.reiser_volume_objects.specs.refusals.declared.refusal.VolumeRefusal.{
 use Rattle.reiser_volume_objects.specs.refusals.declared.refusal.VolumeRefusal.TheVariants.{NotVolume, Unclean, Unsupported, Short, JournalPending, Damaged, HasAttributes, PendingLinks, NameTaken, NameTooLong, HashCrowd}
 use Rattle.reiser_volume_objects.specs.refusals.declared.rule.Rule.{Rule}
 use Rattle.reiser_volume_objects.specs.refusals.declared.rule.Rule.TheVariants.{SuperField, SystemFree, NodeHead, Layout, KeyOrder, BlockFree, BlockRange, BlockTwice, Body, EntryForm, ObjectForm, Overlap, NameTwice, DirTwice, SizeRange, Reread}
-use Rattle.reiser_volume_objects.specs.reiser_walk.Items.{Item}
+use Rattle.reiser_volume_objects.specs.reiser_walk.Items.{ReiserItem}
 use Rattle.reiser_volume_names.specs.Names.{IsNamesRefusal}
 
 -- a rule of names fails, or there was no memory
-abbrev pub RefusesNames : List Item → VolAnswer → Type 0
+abbrev pub RefusesNames : List ReiserItem → VolAnswer → Type 0
 RefusesNames items (Refused refusal) = IsNamesRefusal items refusal
 RefusesNames items Fault = ⊥
 RefusesNames items Memory = Unit {0}

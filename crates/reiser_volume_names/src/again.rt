@@ -1,7 +1,7 @@
 ghost use Rattle.std.specs.Prelude.{IfErr, ◌≡◌, ◌++◌, ◌∷◌, [], ◌||◌, not, List, AllPairs, OnOk, IfOk, if◌then◌else◌};
 ghost use Rattle.std.specs.Result.{MatchResult};
 ghost use Rattle.indexmap.specs.IndexSet.{contains};
-ghost use Rattle.reiser_volume_objects.specs.reiser_walk.Items.{Item};
+ghost use Rattle.reiser_volume_objects.specs.reiser_walk.Items.{ReiserItem};
 ghost use Rattle.reiser_volume_objects.specs.declared.key.ObjectKey.{ObjectKey as KeyOf};
 ghost use Rattle.reiser_volume_objects.specs.declared.naming.Naming.{Naming as NamingOf};
 ghost use Rattle.reiser_volume_objects.specs.Keys.{same_key};
@@ -21,7 +21,7 @@ pub fn check_directories(
     objects: &Objects,
     named: &IndexSet<ObjectKey>,
 ) -> Result<(), VolAnswer>
-    ensures checked { (items : List Item) → HasNoted objects.now items → let links = link_list (contains same_key named.now) objects.now.namings.items in
+    ensures checked { (items : List ReiserItem) → HasNoted objects.now items → let links = link_list (contains same_key named.now) objects.now.namings.items in
         MatchResult result (λ _. AllPairs (NamesAnother items) links) (BlamesAgain items links) }
     ensures answers { IfErr result IsNamesAnswer }
 {
@@ -39,7 +39,7 @@ fn see_link(
     named: &IndexSet<ObjectKey>,
     naming: &Naming,
 ) -> Result<(), VolAnswer>
-    ensures checked { (items : List Item) (links : List NamingOf) → HasNoted objects.now items → HasDirectories items seen.old links
+    ensures checked { (items : List ReiserItem) (links : List NamingOf) → HasNoted objects.now items → HasDirectories items seen.old links
         → let more = if is_link (contains same_key named.now) naming.now then naming.now ∷ [] else [] in
         MatchResult result (λ _. HasDirectories items seen.new (links ++ more)) (BlamesAgain items (links ++ more)) }
     ensures answers { IfErr result IsNamesAnswer }
@@ -57,7 +57,7 @@ fn see_target(
     objects: &Objects,
     naming: &Naming,
 ) -> Result<(), VolAnswer>
-    ensures checked { (items : List Item) (links : List NamingOf) → HasNoted objects.now items → HasDirectories items seen.old links
+    ensures checked { (items : List ReiserItem) (links : List NamingOf) → HasNoted objects.now items → HasDirectories items seen.old links
         → MatchResult result (λ _. HasDirectories items seen.new (links ++ naming.now ∷ [])) (BlamesAgain items (links ++ naming.now ∷ [])) }
     ensures answers { IfErr result IsNamesAnswer }
 {

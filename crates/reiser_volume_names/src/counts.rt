@@ -1,7 +1,7 @@
 ghost use Rattle.std.specs.Prelude.{IfErr, ◌≡◌, ◌≤◌, ◌<◌, ◌+◌, ◌^◌, ◌++◌, ◌∷◌, [], ℕ, true, List, OnOk, IfOk, if◌then◌else◌};
 ghost use Rattle.std.specs.Result.{MatchResult};
 ghost use Rattle.indexmap.specs.IndexSet.{contains};
-ghost use Rattle.reiser_volume_objects.specs.reiser_walk.Items.{Item};
+ghost use Rattle.reiser_volume_objects.specs.reiser_walk.Items.{ReiserItem};
 ghost use Rattle.reiser_volume_objects.specs.declared.key.ObjectKey.{ObjectKey as KeyOf};
 ghost use Rattle.reiser_volume_objects.specs.declared.naming.Naming.{Naming as NamingOf};
 ghost use Rattle.reiser_volume_objects.specs.Keys.{same_key};
@@ -22,7 +22,7 @@ pub fn check_counts(
     objects: &Objects,
     named: &IndexSet<ObjectKey>,
 ) -> Result<(), VolAnswer>
-    ensures checked { (items : List Item) → HasNoted objects.now items → let links = link_list (contains same_key named.now) objects.now.namings.items in
+    ensures checked { (items : List ReiserItem) → HasNoted objects.now items → let links = link_list (contains same_key named.now) objects.now.namings.items in
         MatchResult result (λ _. (key : KeyOf) → is_counted items key ≡ true → names_of links key < 2 ^ 32) (BlamesCount items links) }
     ensures answers { IfErr result IsNamesAnswer }
 {
@@ -40,7 +40,7 @@ fn count_link(
     named: &IndexSet<ObjectKey>,
     naming: &Naming,
 ) -> Result<(), VolAnswer>
-    ensures checked { (items : List Item) (links : List NamingOf) → HasNoted objects.now items → CountsNames items counts.old links
+    ensures checked { (items : List ReiserItem) (links : List NamingOf) → HasNoted objects.now items → CountsNames items counts.old links
         → let more = if is_link (contains same_key named.now) naming.now then naming.now ∷ [] else [] in
         MatchResult result (λ _. CountsNames items counts.new (links ++ more)) (BlamesCount items (links ++ more)) }
     ensures answers { IfErr result IsNamesAnswer }
@@ -58,7 +58,7 @@ fn count_target(
     objects: &Objects,
     naming: &Naming,
 ) -> Result<(), VolAnswer>
-    ensures checked { (items : List Item) (links : List NamingOf) → HasNoted objects.now items → CountsNames items counts.old links
+    ensures checked { (items : List ReiserItem) (links : List NamingOf) → HasNoted objects.now items → CountsNames items counts.old links
         → MatchResult result (λ _. CountsNames items counts.new (links ++ naming.now ∷ [])) (BlamesCount items (links ++ naming.now ∷ [])) }
     ensures answers { IfErr result IsNamesAnswer }
 {

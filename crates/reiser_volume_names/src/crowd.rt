@@ -7,7 +7,7 @@ ghost use Rattle.reiser_volume_names.specs.Passes.{is_link, link_list};
 ghost use Rattle.reiser_volume_objects.specs.declared.key.ObjectKey.{ObjectKey as KeyOf};
 ghost use Rattle.reiser_volume_objects.specs.Keys.{same_key};
 ghost use Rattle.reiser_volume_names.specs.declared.crowd.Crowd.{Crowd as CrowdOf};
-ghost use Rattle.reiser_volume_names.specs.Crowds.{same_crowd, Counts, BlamesCrowd};
+ghost use Rattle.reiser_volume_names.specs.Crowds.{same_crowd, CrowdCounts, BlamesCrowd};
 ghost use Rattle.reiser_volume_names.specs.Tally.{tally, capped};
 
 use crate::one::SAVED;
@@ -43,7 +43,7 @@ pub fn check_crowds(
 
 /// The crowds without any name but the one that the root has for the converted volume.
 fn root_crowd(alloc: Global) -> Result<IndexMap<Crowd, u64>, Memory>
-    ensures { IfOk result (λ sums. Counts sums []) }
+    ensures { IfOk result (λ sums. CrowdCounts sums []) }
 {
     let mut sums = IndexMap::new(alloc);
     let crowd = Crowd {
@@ -60,8 +60,8 @@ fn join_link(
     named: &IndexSet<ObjectKey>,
     naming: &Naming,
 ) -> Result<(), VolAnswer>
-    ensures { (links : List NamingOf) → Counts sums.old links → let more = if is_link (contains same_key named.now) naming.now then naming.now ∷ [] else [] in
-        MatchResult result (λ _. Counts sums.new (links ++ more)) (BlamesCrowd (links ++ more)) }
+    ensures { (links : List NamingOf) → CrowdCounts sums.old links → let more = if is_link (contains same_key named.now) naming.now then naming.now ∷ [] else [] in
+        MatchResult result (λ _. CrowdCounts sums.new (links ++ more)) (BlamesCrowd (links ++ more)) }
 {
     if is_link(named, naming) {
         join(sums, naming)
@@ -72,7 +72,7 @@ fn join_link(
 
 /// Adds a name to those of its directory with its hash, if there is room.
 fn join(sums: &mut IndexMap<Crowd, u64>, naming: &Naming) -> Result<(), VolAnswer>
-    ensures { (links : List NamingOf) → Counts sums.old links → MatchResult result (λ _. Counts sums.new (links ++ naming.now ∷ [])) (BlamesCrowd (links ++ naming.now ∷ [])) }
+    ensures { (links : List NamingOf) → CrowdCounts sums.old links → MatchResult result (λ _. CrowdCounts sums.new (links ++ naming.now ∷ [])) (BlamesCrowd (links ++ naming.now ∷ [])) }
 {
     let name = naming.name.bytes();
     let crowd = Crowd {

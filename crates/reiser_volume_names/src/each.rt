@@ -1,7 +1,7 @@
 ghost use Rattle.std.specs.Prelude.{IfErr, ◌≡◌, ◌≤◌, true, List};
 ghost use Rattle.std.specs.Result.{MatchResult};
 ghost use Rattle.indexmap.specs.IndexSet.{contains, IsUnique};
-ghost use Rattle.reiser_volume_objects.specs.reiser_walk.Items.{Item};
+ghost use Rattle.reiser_volume_objects.specs.reiser_walk.Items.{ReiserItem};
 ghost use Rattle.reiser_volume_objects.specs.declared.key.ObjectKey.{ObjectKey as KeyOf};
 ghost use Rattle.reiser_volume_objects.specs.Keys.{same_key};
 ghost use Rattle.reiser_volume_objects.specs.Table.{HasNoted};
@@ -15,7 +15,7 @@ use reiser_volume_objects::{ObjectKey, ObjectStat, Objects, Rule, VolumeRefusal}
 /// into one item of Btrfs.
 pub fn check_each(objects: &Objects, named: &IndexSet<ObjectKey>) -> Result<(), VolumeRefusal>
     ensures once { IsUnique same_key named.now }
-    ensures checked { (items : List Item) → HasNoted objects.now items
+    ensures checked { (items : List ReiserItem) → HasNoted objects.now items
         → MatchResult result (λ _. (key : KeyOf) → contains same_key named.now key ≡ true → HasForms items key) (λ r. (key : KeyOf) × (contains same_key named.now key ≡ true) × BlamesObject items key r) }
     ensures answers { IfErr result IsRefusalOfNames }
 {
@@ -27,7 +27,7 @@ pub fn check_each(objects: &Objects, named: &IndexSet<ObjectKey>) -> Result<(), 
 
 /// The same of one object.
 fn check_object(objects: &Objects, key: ObjectKey) -> Result<(), VolumeRefusal>
-    ensures checked { (items : List Item) → HasNoted objects.now items → MatchResult result (λ _. HasForms items key) (BlamesObject items key) }
+    ensures checked { (items : List ReiserItem) → HasNoted objects.now items → MatchResult result (λ _. HasForms items key) (BlamesObject items key) }
     ensures answers { IfErr result IsRefusalOfNames }
 {
     let object = objects.object_or_new(key);

@@ -9,7 +9,7 @@ ghost use Rattle.reiser_volume_objects.specs.Keys.{same_key, root};
 ghost use Rattle.reiser_volume_names.specs.declared.extended.NamesIn.{NamesIn as NamesInOf};
 ghost use Rattle.reiser_volume_names.specs.Extended.{same_names, CountsExtended, Refers, BlamesExtended};
 ghost use Rattle.reiser_volume_names.specs.Links.{object_cmp};
-ghost use Rattle.reiser_volume_names.specs.Names.{inode_of, extended, extended_crowd_of};
+ghost use Rattle.reiser_volume_names.specs.Names.{ino_of_key, extended, extended_crowd_of};
 ghost use Rattle.reiser_volume_names.specs.Passes.{is_link, link_list};
 ghost use Rattle.reiser_volume_names.specs.Tally.{tally, capped};
 
@@ -100,7 +100,7 @@ fn extend(
 fn inode_of(named: &IndexSet<ObjectKey>, dir: ObjectKey) -> u64
     requires sorted { IsStrictlySortedBy object_cmp named.now.keys }
     requires among { contains same_key named.now dir ≡ true }
-    ensures { result ≡ inode_of named.now.keys dir }
+    ensures { result ≡ ino_of_key named.now.keys dir }
 {
     if dir == ROOT {
         return 256;

@@ -2,7 +2,7 @@ ghost use Rattle.std.specs.Prelude.{List, IfErr};
 ghost use Rattle.std.specs.Result.{MatchResult};
 ghost use Rattle.std.specs.List.Sorted.{IsStrictlySortedBy};
 ghost use Rattle.indexmap.specs.IndexSet.{contains};
-ghost use Rattle.reiser_volume_objects.specs.reiser_walk.Items.{Item};
+ghost use Rattle.reiser_volume_objects.specs.reiser_walk.Items.{ReiserItem};
 ghost use Rattle.reiser_volume_objects.specs.Keys.{same_key};
 ghost use Rattle.reiser_volume_objects.specs.Reach.{IsReach};
 ghost use Rattle.reiser_volume_objects.specs.Table.{HasNoted};
@@ -29,7 +29,7 @@ pub fn check_all_names(
     named: &IndexSet<ObjectKey>,
 ) -> Result<(), VolAnswer>
     requires sorted { IsStrictlySortedBy object_cmp named.now.keys }
-    ensures checked { (items : List Item) → HasNoted objects.now items → IsReach items (contains same_key named.now) → MatchResult result (λ _. AreNames items) (RefusesNames items) }
+    ensures checked { (items : List ReiserItem) → HasNoted objects.now items → IsReach items (contains same_key named.now) → MatchResult result (λ _. AreNames items) (RefusesNames items) }
     ensures answers { IfErr result IsNamesAnswer }
 {
     check_each(objects, named)?;

@@ -1,13 +1,13 @@
 ghost use Rattle.std.specs.Prelude.{◌≡◌, ◌++◌, ◌∷◌, [], true, false, List, Option, IsTrue, IfOk, IfErr, filter, Contains, if◌then◌else◌};
 ghost use Rattle.std.specs.Result.{MatchResult};
 ghost use Rattle.indexmap.specs.IndexSet.{contains};
-ghost use Rattle.reiser_volume_objects.specs.reiser_walk.Items.{Item};
+ghost use Rattle.reiser_volume_objects.specs.reiser_walk.Items.{ReiserItem};
 ghost use Rattle.reiser_volume_objects.specs.declared.key.ObjectKey.{ObjectKey as KeyOf};
 ghost use Rattle.reiser_volume_objects.specs.declared.naming.Naming.{Naming as NamingOf};
 ghost use Rattle.reiser_volume_objects.specs.Keys.{same_key};
 ghost use Rattle.reiser_volume_objects.specs.Names.{is_followed};
 ghost use Rattle.reiser_volume_objects.specs.Table.{HasNoted};
-ghost use Rattle.reiser_volume_names.specs.Private.{IsReadable, IsOnly, IsExtra, AreTargets, BlamesTargets, BlamesBelow, BlamesPrivate, HoldsNoAttribute, HasNoAttributes};
+ghost use Rattle.reiser_volume_names.specs.Private.{HasReadableEntries, IsOnly, IsExtra, AreTargets, BlamesTargets, BlamesBelow, BlamesPrivate, HoldsNoAttribute, HasNoAttributes};
 ghost use Rattle.reiser_volume_names.specs.Refuses.{IsNamesAnswer};
 
 use crate::again::add;
@@ -20,7 +20,7 @@ const XATTRS: &[u8; 6] = b"xattrs";
 
 /// Whether the private directory of the root, if there is one, holds no attribute.
 pub fn check_private(alloc: Global, objects: &Objects) -> Result<(), VolAnswer>
-    ensures checked { (items : List Item) → HasNoted objects.now items → MatchResult result (λ _. (n : NamingOf) → Contains objects.now.namings.items n → is_followed n ≡ false → HasNoAttributes items n.target) (BlamesPrivate items objects.now.namings.items) }
+    ensures checked { (items : List ReiserItem) → HasNoted objects.now items → MatchResult result (λ _. (n : NamingOf) → Contains objects.now.namings.items n → is_followed n ≡ false → HasNoAttributes items n.target) (BlamesPrivate items objects.now.namings.items) }
     ensures answers { IfErr result IsNamesAnswer }
 {
     for naming in &objects.namings {
@@ -31,7 +31,7 @@ pub fn check_private(alloc: Global, objects: &Objects) -> Result<(), VolAnswer>
 
 /// The same of what one entry names, if it is that of the private directory.
 fn check_entry(alloc: Global, objects: &Objects, naming: &Naming) -> Result<(), VolAnswer>
-    ensures checked { (items : List Item) → HasNoted objects.now items → MatchResult result (λ _. is_followed naming.now ≡ false → HasNoAttributes items naming.now.target)
+    ensures checked { (items : List ReiserItem) → HasNoted objects.now items → MatchResult result (λ _. is_followed naming.now ≡ false → HasNoAttributes items naming.now.target)
         (λ e. (is_followed naming.now ≡ false) × BlamesBelow items (HasNoAttributes items naming.now.target) naming.now.target e) }
     ensures answers { IfErr result IsNamesAnswer }
 {
@@ -43,7 +43,7 @@ fn check_entry(alloc: Global, objects: &Objects, naming: &Naming) -> Result<(), 
 
 /// Whether the private directory is empty, or has one entry, `xattrs`, that holds no attribute.
 fn check_directory(alloc: Global, objects: &Objects, dir: ObjectKey) -> Result<(), VolAnswer>
-    ensures checked { (items : List Item) → HasNoted objects.now items → MatchResult result (λ _. HasNoAttributes items dir) (BlamesBelow items (HasNoAttributes items dir) dir) }
+    ensures checked { (items : List ReiserItem) → HasNoted objects.now items → MatchResult result (λ _. HasNoAttributes items dir) (BlamesBelow items (HasNoAttributes items dir) dir) }
     ensures answers { IfErr result IsNamesAnswer }
 {
     if !is_readable(objects, dir) {
@@ -62,7 +62,7 @@ fn check_only(
     dir: ObjectKey,
     only: Option<ObjectKey>,
 ) -> Result<(), VolAnswer>
-    ensures checked { (items : List Item) → HasNoted objects.now items → IsReadable items dir → IsOnly (filter (λ n. same_key n.dir dir) objects.now.namings.items) only
+    ensures checked { (items : List ReiserItem) → HasNoted objects.now items → HasReadableEntries items dir → IsOnly (filter (λ n. same_key n.dir dir) objects.now.namings.items) only
         → MatchResult result (λ _. HasNoAttributes items dir) (BlamesBelow items (HasNoAttributes items dir) dir) }
     ensures answers { IfErr result IsNamesAnswer }
 {
@@ -74,7 +74,7 @@ fn check_only(
 
 /// Whether a directory holds only empty directories, as attributes leave them behind.
 fn check_inner(alloc: Global, objects: &Objects, dir: ObjectKey) -> Result<(), VolAnswer>
-    ensures checked { (items : List Item) → HasNoted objects.now items → MatchResult result (λ _. HoldsNoAttribute items dir) (BlamesBelow items (HoldsNoAttribute items dir) dir) }
+    ensures checked { (items : List ReiserItem) → HasNoted objects.now items → MatchResult result (λ _. HoldsNoAttribute items dir) (BlamesBelow items (HoldsNoAttribute items dir) dir) }
     ensures answers { IfErr result IsNamesAnswer }
 {
     if !is_readable(objects, dir) {
@@ -90,7 +90,7 @@ fn targets(
     objects: &Objects,
     dir: ObjectKey,
 ) -> Result<IndexSet<ObjectKey>, VolAnswer>
-    ensures checked { (items : List Item) → HasNoted objects.now items → let ns = filter (λ n. same_key n.dir dir) objects.now.namings.items in
+    ensures checked { (items : List ReiserItem) → HasNoted objects.now items → let ns = filter (λ n. same_key n.dir dir) objects.now.namings.items in
         MatchResult result (λ inside. AreTargets items ns (contains same_key inside)) (BlamesTargets items ns) }
     ensures answers { IfErr result IsNamesAnswer }
 {
@@ -108,7 +108,7 @@ fn add_target(
     dir: ObjectKey,
     naming: &Naming,
 ) -> Result<(), VolAnswer>
-    ensures checked { (items : List Item) (ns : List NamingOf) → HasNoted objects.now items → AreTargets items ns (contains same_key inside.old)
+    ensures checked { (items : List ReiserItem) (ns : List NamingOf) → HasNoted objects.now items → AreTargets items ns (contains same_key inside.old)
         → let more = if same_key naming.now.dir dir then naming.now ∷ [] else [] in
         MatchResult result (λ _. AreTargets items (ns ++ more) (contains same_key inside.new)) (BlamesTargets items (ns ++ more)) }
     ensures answers { IfErr result IsNamesAnswer }
@@ -149,8 +149,8 @@ fn attributes(key: ObjectKey) -> VolAnswer
 
 /// Whether an object is a directory whose items are on the grammar of entries.
 fn is_readable(objects: &Objects, key: ObjectKey) -> bool
-    ensures yes { (items : List Item) → HasNoted objects.now items → IsTrue result → IsReadable items key }
-    ensures no { (items : List Item) → HasNoted objects.now items → result ≡ false → ¬ IsReadable items key }
+    ensures yes { (items : List ReiserItem) → HasNoted objects.now items → IsTrue result → HasReadableEntries items key }
+    ensures no { (items : List ReiserItem) → HasNoted objects.now items → result ≡ false → ¬ HasReadableEntries items key }
 {
     objects.is_directory(key) && objects.object_or_new(key).off_form.is_none()
 }

@@ -1,18 +1,5 @@
 -- Each refusal names a rule that fails.
-use Rattle.std.proofs.Common.{◌≡◌, ℕ, ◌<◌, List, ◌∷◌, ◌++◌, length, get_or, suc, Option, Some, None, refl, sym, ap, subst, ◌∙◌, true≢false, length-append, arith}
-use Rattle.std.proofs.lemmas.List.{get_or_append_left, get_or_at}
-use Rattle.std.proofs.lemmas.List.Folds.{list_any-from_Any}
-use Rattle.reiser_bitmap.specs.refusals.declared.refusal.VolumeRefusal.{VolumeRefusal}
-use Rattle.fs_rows.specs.declared.row.Kind.{Kind}
-use Rattle.reiser_walk.specs.Items.{Item}
-use Rattle.reiser_walk.specs.Bodies.{is_save_link}
-use Rattle.reiser_volume_objects.specs.declared.key.ObjectKey.{ObjectKey}
-use Rattle.reiser_volume_objects.specs.declared.stat.ObjectStat.{ObjectStat}
-use Rattle.reiser_volume_files.specs.Laws.{SharesByte, AreApart}
-use Rattle.reiser_volume_objects.specs.Items.{IsOverlap, fits_kind}
-use Rattle.reiser_volume_objects.specs.Keys.{items_of}
-use Rattle.reiser_volume_objects.specs.Kinds.{kind_of_mode, fits_size}
-use Rattle.reiser_volume_objects.specs.Rules.{AreObjects, IsObject, IsKnown, IsObjectsRefusal, save_link, no_root, other_root, no_stat, unknown_kind, other_items, overlap, size_range}
+use Rattle.reiser_volume_objects.proofs.Imports.{◌≡◌, ℕ, ◌<◌, List, ◌∷◌, ◌++◌, length, get_or, suc, Option, Some, None, refl, sym, ap, subst, ◌∙◌, true≢false, length-append, arith, get_or_append_left, get_or_at, list_any-from_Any, VolumeRefusal, Kind, ReiserItem, is_save_link, ObjectKey, ObjectStat, SharesByte, AreItemsApart, IsOverlap, fits_kind, items_of, kind_of_mode, fits_size, AreObjects, IsObject, IsKnownObject, IsObjectsRefusal, save_link, no_root, other_root, no_stat, unknown_kind, other_items, overlap, size_range}
 
 -- one value is there
 pub some_same : {A : Type 0} (o : Option A) (x y : A) → o ≡ Some x → o ≡ Some y → x ≡ y
@@ -22,23 +9,23 @@ not_both : {A : Type 0} (o : Option A) (x : A) → o ≡ Some x → o ≡ None �
 not_both o x a b = let e : Some x ≡ None = sym a ∙ b in cc
 
 -- items that do not overlap have no overlap
-apart_none : (items : List Item) (leaf : ℕ) → AreApart items → IsOverlap items leaf → ⊥
+apart_none : (items : List ReiserItem) (leaf : ℕ) → AreItemsApart items → IsOverlap items leaf → ⊥
 apart_none items leaf apart o =
     let k : ℕ = o.among.0 in
     let within : k < length o.before = o.among.1 in
     let size : length items ≡ length (o.before ++ (o.later ∷ o.after)) = ap length o.split in
-    let first : get_or items k o.earlier ≡ o.earlier = ap (λ (l : List Item). get_or l k o.earlier) o.split ∙ (get_or_append_left o.before (o.later ∷ o.after) o.earlier k within ∙ o.among.2) in
-    let second : get_or items (length o.before) o.earlier ≡ o.later = ap (λ (l : List Item). get_or l (length o.before) o.earlier) o.split ∙ get_or_at o.before o.later o.after o.earlier (length o.before) refl in
+    let first : get_or items k o.earlier ≡ o.earlier = ap (λ (l : List ReiserItem). get_or l k o.earlier) o.split ∙ (get_or_append_left o.before (o.later ∷ o.after) o.earlier k within ∙ o.among.2) in
+    let second : get_or items (length o.before) o.earlier ≡ o.later = ap (λ (l : List ReiserItem). get_or l (length o.before) o.earlier) o.split ∙ get_or_at o.before o.later o.after o.earlier (length o.before) refl in
     apart k (length o.before) o.earlier within (omega (arith, size, length-append o.before (o.later ∷ o.after)))
-    (subst (λ (i : Item). SharesByte i (get_or items (length o.before) o.earlier)) (sym first) (subst (SharesByte o.earlier) (sym second) o.shares))
+    (subst (λ (i : ReiserItem). SharesByte i (get_or items (length o.before) o.earlier)) (sym first) (subst (SharesByte o.earlier) (sym second) o.shares))
 
 -- the kind of a known object is that of the object
-same_kind : (items : List Item) (key : ObjectKey) (stat : ObjectStat) (kind : Kind) (o : IsObject items key) → IsKnown items key stat kind → (stat ≡ o.stat) × (kind ≡ o.kind)
+same_kind : (items : List ReiserItem) (key : ObjectKey) (stat : ObjectStat) (kind : Kind) (o : IsObject items key) → IsKnownObject items key stat kind → (stat ≡ o.stat) × (kind ≡ o.kind)
 same_kind items key stat kind o k =
     let stats : stat ≡ o.stat = some_same _ stat o.stat k.has_stat o.has_stat in
     (stats, some_same _ kind o.kind k.known (ap (λ (s : ObjectStat). kind_of_mode s.fields.mode) stats ∙ o.known))
 
-pub broken : (root_block : ℕ) (items : List Item) (r : VolumeRefusal) → IsObjectsRefusal root_block items r → AreObjects items → ⊥
+pub broken : (root_block : ℕ) (items : List ReiserItem) (r : VolumeRefusal) → IsObjectsRefusal root_block items r → AreObjects items → ⊥
 broken root_block items r (save_link i among is refused) a =
     true≢false (sym (list_any-from_Any (λ x. is_save_link x.head) items (among.0, i, among.1, among.2, is)) ∙ a.no_save_link)
 broken root_block items r (no_root none refused) a = not_both _ a.root_directory.stat a.root_directory.has_stat none

@@ -1,31 +1,9 @@
 -- That an object is in order, or which rule it breaks.
-use Rattle.std.proofs.Common.{◌≡◌, ℕ, ◌/◌, ◌==◌, ◌<◌, ◌≤◌, Bool, true, false, not, ◌&&◌, ◌||◌, List, [], ◌∷◌, length, get_or, Option, Some, None, Contains, find, refl, sym, ap, subst, ◌∙◌, true≢false, if◌then◌else◌, arith}
-use Rattle.std.specs.Option.{option_map, option_map_or}
-use Rattle.std.specs.List.{list_any, list_all}
+use Rattle.reiser_volume_objects.proofs.Imports.{◌≡◌, ℕ, ◌/◌, ◌==◌, ◌<◌, ◌≤◌, Bool, true, false, not, ◌&&◌, ◌||◌, List, [], ◌∷◌, length, get_or, Option, Some, None, Contains, find, refl, sym, ap, subst, ◌∙◌, true≢false, if◌then◌else◌, arith, option_map, option_map_or, list_any, list_all, VolumeRefusal, Damaged, PendingLinks, ObjectForm, Overlap, SizeRange, Kind, Directory, File, Symlink, Character, Block, Fifo, Socket, ReiserItem, ObjectKey, Object, ObjectStat, is_save_link, Keys, IsReach, first_save_link, items_of, same_key, Contains-append_right, Any-from_list_any, is_directory_mode, kind_of_mode, may_have, is_file, is_symlink, is_directory, fits_size, stat_of_object, is_directory_at, fits_kind, IsNamed, AreObjects, IsDirectory, IsObject, IsKnownObject, save_link, IsObjectsRefusal, unknown_kind, other_items, overlap, size_range, Summarises, has_pointers, has_bytes, has_entries, fits_summary}
 use Rattle.reiser_items.specs.reiser_node.declared.head.ItemKind.{ItemKind}
 use Rattle.reiser_items.specs.reiser_node.declared.head.ItemKind.TheVariants.{Stat, Indirect, Direct, Directory as Entries}
-use Rattle.reiser_bitmap.specs.refusals.declared.refusal.VolumeRefusal.{VolumeRefusal}
-use Rattle.reiser_bitmap.specs.refusals.declared.refusal.VolumeRefusal.TheVariants.{Damaged, PendingLinks}
-use Rattle.reiser_bitmap.specs.refusals.declared.rule.Rule.TheVariants.{ObjectForm, Overlap, SizeRange}
-use Rattle.fs_rows.specs.declared.row.Kind.{Kind}
-use Rattle.fs_rows.specs.declared.row.Kind.TheVariants.{Directory, File, Symlink, Character, Block, Fifo, Socket}
-use Rattle.reiser_walk.specs.Items.{Item}
-use Rattle.reiser_volume_objects.specs.declared.key.ObjectKey.{ObjectKey}
-use Rattle.reiser_volume_objects.specs.declared.object.Object.{Object}
-use Rattle.reiser_volume_objects.specs.declared.stat.ObjectStat.{ObjectStat}
-use Rattle.reiser_walk.specs.Bodies.{is_save_link}
-use Rattle.reiser_volume_objects.specs.Reach.{Keys, IsReach}
-use Rattle.reiser_volume_objects.specs.Table.{first_save_link}
-use Rattle.reiser_volume_objects.specs.Keys.{items_of, same_key}
 use Rattle.reiser_volume_objects.proofs.Reaching.{head_is, code_of_directory}
-use Rattle.std.proofs.lemmas.List.Elements.{Contains-append_right}
 use Rattle.reiser_volume_objects.proofs.Tables.{same_key-true}
-use Rattle.std.proofs.lemmas.List.Folds.{Any-from_list_any}
-use Rattle.reiser_volume_objects.specs.Kinds.{is_directory_mode, kind_of_mode, may_have, is_file, is_symlink, is_directory, fits_size}
-use Rattle.reiser_volume_objects.specs.Items.{stat_of_object, is_directory_at, fits_kind}
-use Rattle.reiser_volume_objects.specs.Names.{IsNamed}
-use Rattle.reiser_volume_objects.specs.Rules.{AreObjects, IsDirectory, IsObject, IsKnown, save_link, IsObjectsRefusal, unknown_kind, other_items, overlap, size_range}
-use Rattle.reiser_volume_objects.specs.Summary.{Summarises, has_pointers, has_bytes, has_entries, fits_summary}
 
 -- what a kind with these answers may have, where pointers, bytes and entries are among the items or not
 abbrev tests : Bool → Bool → Bool → Bool → Bool → Bool → Bool
@@ -57,7 +35,7 @@ with_entries f g false p b e = by (not p || f) (not b || g)
     by false y = refl
 
 -- the items fit the kind exactly where what is among them does
-fits_by_tests : (kind : Kind) (xs : List Item)
+fits_by_tests : (kind : Kind) (xs : List ReiserItem)
     → list_all (λ i. may_have kind i.head.kind) xs
     ≡ tests (is_file kind) (is_file kind || is_symlink kind) (is_directory kind) (list_any (λ i. has_pointers i.head.kind) xs) (list_any (λ i. has_bytes i.head.kind) xs) (list_any (λ i. has_entries i.head.kind) xs)
 fits_by_tests kind [] = refl
@@ -72,26 +50,26 @@ fits_by_tests kind (x ∷ xs) = by x.head.kind (fits_by_tests kind xs)
     by Direct h = ap (λ (b : Bool). (is_file kind || is_symlink kind) && b) h ∙ with_bytes (is_file kind) (is_file kind || is_symlink kind) (is_directory kind) (list_any (λ i. has_pointers i.head.kind) xs) (list_any (λ i. has_bytes i.head.kind) xs) (list_any (λ i. has_entries i.head.kind) xs)
     by Entries h = ap (λ (b : Bool). is_directory kind && b) h ∙ with_entries (is_file kind) (is_file kind || is_symlink kind) (is_directory kind) (list_any (λ i. has_pointers i.head.kind) xs) (list_any (λ i. has_bytes i.head.kind) xs) (list_any (λ i. has_entries i.head.kind) xs)
 
-summary_fits : (kind : Kind) (o : Object) (xs : List Item) → Summarises o xs → fits_summary kind o ≡ fits_kind kind xs
+summary_fits : (kind : Kind) (o : Object) (xs : List ReiserItem) → Summarises o xs → fits_summary kind o ≡ fits_kind kind xs
 summary_fits kind o xs s =
     ap (λ (p : Bool). tests (is_file kind) (is_file kind || is_symlink kind) (is_directory kind) p o.bytes o.entries) s.pointers
     ∙ (ap (λ (b : Bool). tests (is_file kind) (is_file kind || is_symlink kind) (is_directory kind) (list_any (λ i. has_pointers i.head.kind) xs) b o.entries) s.bytes
     ∙ (ap (λ (e : Bool). tests (is_file kind) (is_file kind || is_symlink kind) (is_directory kind) (list_any (λ i. has_pointers i.head.kind) xs) (list_any (λ i. has_bytes i.head.kind) xs) e) s.entries
     ∙ sym (fits_by_tests kind xs)))
 
-pub refused_kind : (items : List Item) (key : ObjectKey) (stat : ObjectStat) (r : VolumeRefusal) (root_block : ℕ) → IsNamed items key → stat_of_object items key ≡ Some stat → kind_of_mode stat.fields.mode ≡ None → r ≡ Damaged stat.leaf ObjectForm → IsObjectsRefusal root_block items r
+pub refused_kind : (items : List ReiserItem) (key : ObjectKey) (stat : ObjectStat) (r : VolumeRefusal) (root_block : ℕ) → IsNamed items key → stat_of_object items key ≡ Some stat → kind_of_mode stat.fields.mode ≡ None → r ≡ Damaged stat.leaf ObjectForm → IsObjectsRefusal root_block items r
 refused_kind items key stat r root_block named has none is = unknown_kind key stat named has none is
 
-pub refused_items : (items : List Item) (key : ObjectKey) (stat : ObjectStat) (kind : Kind) (o : Object) (r : VolumeRefusal) (root_block : ℕ) → IsKnown items key stat kind → Summarises o (items_of key items) → fits_summary kind o ≡ false → r ≡ Damaged stat.leaf ObjectForm → IsObjectsRefusal root_block items r
+pub refused_items : (items : List ReiserItem) (key : ObjectKey) (stat : ObjectStat) (kind : Kind) (o : Object) (r : VolumeRefusal) (root_block : ℕ) → IsKnownObject items key stat kind → Summarises o (items_of key items) → fits_summary kind o ≡ false → r ≡ Damaged stat.leaf ObjectForm → IsObjectsRefusal root_block items r
 refused_items items key stat kind o r root_block known s no_fit is = other_items key stat kind known (sym (summary_fits kind o (items_of key items) s) ∙ no_fit) is
 
-pub refused_size : (items : List Item) (key : ObjectKey) (stat : ObjectStat) (kind : Kind) (r : VolumeRefusal) (root_block : ℕ) → IsKnown items key stat kind → fits_size kind stat.fields.size ≡ false → r ≡ Damaged stat.leaf SizeRange → IsObjectsRefusal root_block items r
+pub refused_size : (items : List ReiserItem) (key : ObjectKey) (stat : ObjectStat) (kind : Kind) (r : VolumeRefusal) (root_block : ℕ) → IsKnownObject items key stat kind → fits_size kind stat.fields.size ≡ false → r ≡ Damaged stat.leaf SizeRange → IsObjectsRefusal root_block items r
 refused_size items key stat kind r root_block known no_fit is = size_range key stat kind known no_fit is
 
-pub refused_overlap : (items : List Item) (key : ObjectKey) (stat : ObjectStat) (kind : Kind) (o : Object) (leaf : ℕ) (r : VolumeRefusal) (root_block : ℕ) → IsKnown items key stat kind → Summarises o (items_of key items) → o.overlap ≡ Some leaf → r ≡ Damaged leaf Overlap → IsObjectsRefusal root_block items r
+pub refused_overlap : (items : List ReiserItem) (key : ObjectKey) (stat : ObjectStat) (kind : Kind) (o : Object) (leaf : ℕ) (r : VolumeRefusal) (root_block : ℕ) → IsKnownObject items key stat kind → Summarises o (items_of key items) → o.overlap ≡ Some leaf → r ≡ Damaged leaf Overlap → IsObjectsRefusal root_block items r
 refused_overlap items key stat kind o leaf r root_block known s found is = overlap key leaf known.named (s.overlap leaf found) is
 
-pub in_order : (items : List Item) (key : ObjectKey) (stat : ObjectStat) (kind : Kind) (o : Object) → IsKnown items key stat kind → Summarises o (items_of key items) → fits_summary kind o ≡ true → fits_size kind stat.fields.size ≡ true → o.overlap ≡ None → IsObject items key
+pub in_order : (items : List ReiserItem) (key : ObjectKey) (stat : ObjectStat) (kind : Kind) (o : Object) → IsKnownObject items key stat kind → Summarises o (items_of key items) → fits_summary kind o ≡ true → fits_size kind stat.fields.size ≡ true → o.overlap ≡ None → IsObject items key
 in_order items key stat kind o known s fit size none = record {
   stat = stat;
   has_stat = known.has_stat;
@@ -108,9 +86,9 @@ each_found P keys n all each key found =
     let a = Any-from_list_any (same_key key) keys found in
     subst P (sym (same_key-true key a.1 a.4)) (subst P a.3 (each a.0 a.1 (omega (arith, a.2))))
 
-module _ (p : Item → Bool) where
+module _ (p : ReiserItem → Bool) where
   -- an item that is found is among the items, and passes
-  found_among : (items : List Item) (i : Item) → find p items ≡ Some i → Contains items i × (p i ≡ true)
+  found_among : (items : List ReiserItem) (i : ReiserItem) → find p items ≡ Some i → Contains items i × (p i ≡ true)
   found_among [] i h = cc
   found_among (x ∷ xs) i h = by (p x) refl h (λ rest. found_among xs i rest)
     where
@@ -118,7 +96,7 @@ module _ (p : Item → Bool) where
       by true e h more = let same : x ≡ i = cc in (head_is x xs i same, sym (ap p same) ∙ e)
       by false e h more = let r = more h in (Contains-append_right (x ∷ []) xs i r.0, r.1)
 
-  none_passes : (items : List Item) → find p items ≡ None → list_any p items ≡ false
+  none_passes : (items : List ReiserItem) → find p items ≡ None → list_any p items ≡ false
   none_passes [] h = refl
   none_passes (x ∷ xs) h = by (p x) h (λ rest. none_passes xs rest)
     where
@@ -126,23 +104,23 @@ module _ (p : Item → Bool) where
       by true h more = cc
       by false h more = more h
 
-mapped_some : (o : Option Item) (n : ℕ) → option_map (λ i. i.head.object) o ≡ Some n → (i : Item) × (o ≡ Some i) × (n ≡ i.head.object)
+mapped_some : (o : Option ReiserItem) (n : ℕ) → option_map (λ i. i.head.object) o ≡ Some n → (i : ReiserItem) × (o ≡ Some i) × (n ≡ i.head.object)
 mapped_some None n h = cc
 mapped_some (Some i) n h = (i, refl, cc)
 
-mapped_none : (o : Option Item) → option_map (λ i. i.head.object) o ≡ None → o ≡ None
+mapped_none : (o : Option ReiserItem) → option_map (λ i. i.head.object) o ≡ None → o ≡ None
 mapped_none None h = refl
 mapped_none (Some i) h = cc
 
 -- a save link is refused
-pub refused_link : (items : List Item) (object : ℕ) (root_block : ℕ) → first_save_link items ≡ Some object → IsObjectsRefusal root_block items (PendingLinks object)
+pub refused_link : (items : List ReiserItem) (object : ℕ) (root_block : ℕ) → first_save_link items ≡ Some object → IsObjectsRefusal root_block items (PendingLinks object)
 refused_link items object root_block found =
     let m = mapped_some (find (λ i. is_save_link i.head) items) object found in
     let f = found_among (λ i. is_save_link i.head) items m.0 m.1 in
     save_link m.0 f.0 f.1 (ap PendingLinks m.2)
 
 -- and where there is none, named objects that are in order are all
-pub all_in_order : (items : List Item) (has : Keys) → first_save_link items ≡ None → IsReach items has → ((key : ObjectKey) → has key ≡ true → IsObject items key) → AreObjects items
+pub all_in_order : (items : List ReiserItem) (has : Keys) → first_save_link items ≡ None → IsReach items has → ((key : ObjectKey) → has key ≡ true → IsObject items key) → AreObjects items
 all_in_order items has none reach each = record {
   no_save_link = none_passes (λ i. is_save_link i.head) items (mapped_none (find (λ i. is_save_link i.head) items) none);
   root_directory = reach.root_directory;
@@ -150,13 +128,13 @@ all_in_order items has none reach each = record {
 }
 
 -- the test of directories tells the fact
-pub directory_tested : (items : List Item) (key : ObjectKey) → is_directory_at items key ≡ true → IsDirectory items key
+pub directory_tested : (items : List ReiserItem) (key : ObjectKey) → is_directory_at items key ≡ true → IsDirectory items key
 directory_tested items key h = by (stat_of_object items key) refl h
   where
     by : (o : Option ObjectStat) → stat_of_object items key ≡ o → option_map_or (λ stat. is_directory_mode stat.fields.mode) o false ≡ true → IsDirectory items key
     by None is h = absurd (true≢false (sym h))
     by (Some stat) is h = record { stat = stat; has_stat = is; known = ap (λ (b : Bool). if b then Some Directory else (if stat.fields.mode / 4096 == 8 then Some File else (if stat.fields.mode / 4096 == 10 then Some Symlink else (if stat.fields.mode / 4096 == 2 then Some Character else (if stat.fields.mode / 4096 == 6 then Some Block else (if stat.fields.mode / 4096 == 1 then Some Fifo else (if stat.fields.mode / 4096 == 12 then Some Socket else None))))))) h }
 
-pub directory_passes : (items : List Item) (key : ObjectKey) → IsDirectory items key → is_directory_at items key ≡ true
+pub directory_passes : (items : List ReiserItem) (key : ObjectKey) → IsDirectory items key → is_directory_at items key ≡ true
 directory_passes items key d =
     ap (λ (o : Option ObjectStat). option_map_or (λ stat. is_directory_mode stat.fields.mode) o false) d.has_stat ∙ code_of_directory (d.stat.fields.mode / 4096) (d.stat.fields.mode / 4096 == 4) refl d.known

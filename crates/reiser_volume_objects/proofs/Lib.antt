@@ -4,6 +4,7 @@ pub use Rattle.reiser_items.proofs.reiser_node as reiser_node
 pub use Rattle.reiser_walk.proofs as reiser_walk
 pub mod Broken
 pub mod Checking
+pub mod Imports
 pub mod Nodes
 pub mod Ordered
 pub mod Reaching

@@ -1,17 +1,6 @@
 -- What the root reaches over the steps of entries, as nodes, is what it reaches over the entries.
-use Rattle.std.proofs.Common.{◌≡◌, ℕ, zero, suc, Bool, List, [], ◌∷◌, map, filter, Contains, ⊎_elim, refl, sym, ap, subst, ◌∙◌, arith}
-use Rattle.fs_paths.specs.declared.link.Link.{Link}
-use Rattle.fs_paths.specs.declared.node.NodeId.{NodeId}
+use Rattle.reiser_volume_objects.proofs.Imports.{◌≡◌, ℕ, zero, suc, Bool, List, [], ◌∷◌, map, filter, Contains, ⊎_elim, refl, sym, ap, subst, ◌∙◌, arith, NodeLink, NodeId, AreReached, in_map, from_map, ReiserItem, ObjectKey, Naming, root, is_followed, namings, followed, IsReachedBy, node_of, step_of, steps, TellsReached}
 use Rattle.fs_paths.specs.Reached as over
-use Rattle.fs_paths.specs.Reached.{AreReached}
-use Rattle.fs_paths.proofs.Lists.{in_map, from_map}
-use Rattle.reiser_walk.specs.Items.{Item}
-use Rattle.reiser_volume_objects.specs.declared.key.ObjectKey.{ObjectKey}
-use Rattle.reiser_volume_objects.specs.declared.naming.Naming.{Naming}
-use Rattle.reiser_volume_objects.specs.Keys.{root}
-use Rattle.reiser_volume_objects.specs.Names.{is_followed, namings, followed, IsReachedBy}
-use Rattle.reiser_volume_objects.specs.Nodes.{node_of, step_of, steps}
-use Rattle.reiser_volume_objects.specs.Reach.{TellsNamed}
 
 -- objects of one node are the same
 pub node_same : (a b : ObjectKey) → node_of a ≡ node_of b → a ≡ b
@@ -31,11 +20,11 @@ module _ (ns : List Naming) where
       let m = from_map step_of (filter is_followed ns) r.0 r.1 in
       let n : Naming = m.0 in
       let before = over_entries count r.0.dir r.3 in
-      let dir : n.dir ≡ before.0 = node_same n.dir before.0 (ap (λ (l : Link). l.dir) m.2 ∙ before.1) in
-      (n.target, sym r.2 ∙ sym (ap (λ (l : Link). l.target) m.2), (n, m.1, refl, subst (IsReachedBy (filter is_followed ns) count) (sym dir) before.2))
+      let dir : n.dir ≡ before.0 = node_same n.dir before.0 (ap (λ (l : NodeLink). l.dir) m.2 ∙ before.1) in
+      (n.target, sym r.2 ∙ sym (ap (λ (l : NodeLink). l.target) m.2), (n, m.1, refl, subst (IsReachedBy (filter is_followed ns) count) (sym dir) before.2))
 
 -- so the nodes are those of the named objects
-pub nodes_tell : (items : List Item) (reached : NodeId → Bool) → AreReached (steps (namings items)) (node_of root) reached → TellsNamed items reached
+pub nodes_tell : (items : List ReiserItem) (reached : NodeId → Bool) → AreReached (steps (namings items)) (node_of root) reached → TellsReached items reached
 nodes_tell items reached r = record {
   sound = λ key has.
       let s = r.sound (node_of key) has in

@@ -1,12 +1,5 @@
 -- The leaves of items, with one more item.
-use Rattle.std.proofs.Common.{◌≡◌, ℕ, suc, ◌-◌, ◌<◌, ◌==◌, nat_eq, Bool, true, false, List, [], ◌∷◌, ◌++◌, length, get_or, Option, Some, if◌then◌else◌, refl, sym, ap, ◌∙◌, arith}
-use Rattle.std.specs.List.{dedup_from}
-use Rattle.std.specs.Option.{option_map_or}
-use Rattle.std.proofs.lemmas.Bool.{eqb-true}
-use Rattle.std.proofs.lemmas.Bool.Decides.{nat_tests}
-use Rattle.std.proofs.lemmas.List.{append-nil}
-use Rattle.std.proofs.lemmas.Option.{slice_get-get_or}
-use Rattle.reiser_volume_objects.specs.Leaves.{without_repeats, ends_with}
+use Rattle.reiser_volume_objects.proofs.Imports.{◌≡◌, ℕ, suc, ◌-◌, ◌<◌, ◌==◌, nat_eq, Bool, true, false, List, [], ◌∷◌, ◌++◌, length, get_or, Option, Some, if◌then◌else◌, refl, sym, ap, ◌∙◌, arith, dedup_from, option_map_or, eqb-true, nat_tests, append-nil, slice_get-get_or, without_repeats, ends_with}
 
 -- the last number of k ∷ bs
 abbrev final : ℕ → List ℕ → ℕ

@@ -1,22 +1,11 @@
 -- The summary of an object's items, with one more item.
-use Rattle.std.proofs.Common.{◌≡◌, ℕ, ◌<◌, ◌≤◌, nat_lt, max, Bool, true, false, ◌&&◌, ◌||◌, List, [], ◌∷◌, ◌++◌, get_or, Option, Some, None, Contains, ◌⊎◌, inl, inr, ⊎_elim, refl, sym, ap, subst, ◌∙◌, append_assoc, if◌then◌else◌, arith}
-use Rattle.std.proofs.lemmas.Bool.{cases_lt, ltb-true, ltb-false}
-use Rattle.std.specs.Option.{option_or}
-use Rattle.std.specs.List.{list_any}
-use Rattle.std.proofs.lemmas.List.Elements.{Contains-get_or, Contains-push, Contains-push_cases, Contains-append_left}
-use Rattle.std.proofs.lemmas.List.Folds.{list_any-append}
+use Rattle.reiser_volume_objects.proofs.Imports.{◌≡◌, ℕ, ◌<◌, ◌≤◌, nat_lt, max, Bool, true, false, ◌&&◌, ◌||◌, List, [], ◌∷◌, ◌++◌, get_or, Option, Some, None, Contains, ◌⊎◌, inl, inr, ⊎_elim, refl, sym, ap, subst, ◌∙◌, append_assoc, if◌then◌else◌, arith, cases_lt, ltb-true, ltb-false, option_or, list_any, Contains-get_or, Contains-push, Contains-push_cases, Contains-append_left, list_any-append, ReiserItem, Object, ObjectStat, SharesByte, AreItemsApart, stat_by_kind, first_stat, IsOverlap, Summarises, with_item, overlap_at, has_pointers, has_bytes, has_entries, has_entry_form, HasForm}
 use Rattle.std.proofs.lemmas.List.Quantifiers.{all_pairs_push}
 use Rattle.std.proofs.Math.Nat.{le-max_left, le-max_right}
-use Rattle.reiser_walk.specs.Items.{Item}
-use Rattle.reiser_volume_objects.specs.declared.object.Object.{Object}
-use Rattle.reiser_volume_objects.specs.declared.stat.ObjectStat.{ObjectStat}
 use Rattle.reiser_volume_files.specs.Bytes.{first_byte, byte_count, end_of}
-use Rattle.reiser_volume_files.specs.Laws.{SharesByte, AreApart}
-use Rattle.reiser_volume_objects.specs.Items.{stat_by_kind, first_stat, IsOverlap}
-use Rattle.reiser_volume_objects.specs.Summary.{Summarises, with_item, overlap_at, has_pointers, has_bytes, has_entries, has_form, HasForm}
 
 -- the first stat data of a list with one more item
-first_stat-push : (xs : List Item) (i : Item) → first_stat (xs ++ i ∷ []) ≡ option_or (first_stat xs) (stat_by_kind i.head.kind i)
+first_stat-push : (xs : List ReiserItem) (i : ReiserItem) → first_stat (xs ++ i ∷ []) ≡ option_or (first_stat xs) (stat_by_kind i.head.kind i)
 first_stat-push [] i = or_none (stat_by_kind i.head.kind i)
   where
     or_none : (s : Option ObjectStat) → option_or s None ≡ s
@@ -29,7 +18,7 @@ first_stat-push (x ∷ xs) i = ap (option_or (stat_by_kind x.head.kind x)) (firs
     or_assoc (Some a) b c = refl
 
 -- a test of the kinds
-any-push : (p : Item → Bool) (xs : List Item) (i : Item) (b : Bool) → b ≡ list_any p xs → (b || p i) ≡ list_any p (xs ++ i ∷ [])
+any-push : (p : ReiserItem → Bool) (xs : List ReiserItem) (i : ReiserItem) (b : Bool) → b ≡ list_any p xs → (b || p i) ≡ list_any p (xs ++ i ∷ [])
 any-push p xs i b is = ap (λ c. c || p i) is ∙ (ap (λ c. list_any p xs || c) (sym (or_false (p i))) ∙ sym (list_any-append p xs (i ∷ [])))
   where
     or_false : (c : Bool) → (c || false) ≡ c
@@ -51,7 +40,7 @@ or_some None b x is = inr is
 or_some (Some a) b x is = inl is
 
 -- what the look at one more item says
-pub record Meets (covered : ℕ) (i : Item) (leaf : ℕ) : Type 0 where
+pub record Meets (covered : ℕ) (i : ReiserItem) (leaf : ℕ) : Type 0 where
   pub some : 0 < byte_count i.head.kind i.body
   pub below : first_byte i < covered
   pub here : leaf ≡ i.leaf
@@ -66,27 +55,27 @@ fails true true leaf found is = (refl, refl, cc)
 fails true false leaf found is = cc
 fails false b leaf found is = cc
 
-quiet : (covered : ℕ) (i : Item) → overlap_at covered i ≡ None → (byte_count i.head.kind i.body ≤ 0) ⊎ (covered ≤ first_byte i)
+quiet : (covered : ℕ) (i : ReiserItem) → overlap_at covered i ≡ None → (byte_count i.head.kind i.body ≤ 0) ⊎ (covered ≤ first_byte i)
 quiet covered i is = ⊎_elim (λ a. inl (ltb-false 0 (byte_count i.head.kind i.body) a)) (λ b. inr (ltb-false (first_byte i) covered b)) (passes (nat_lt 0 (byte_count i.head.kind i.body)) (nat_lt (first_byte i) covered) covered i.leaf is)
 
-meets : (covered : ℕ) (i : Item) (leaf : ℕ) → overlap_at covered i ≡ Some leaf → Meets covered i leaf
+meets : (covered : ℕ) (i : ReiserItem) (leaf : ℕ) → overlap_at covered i ≡ Some leaf → Meets covered i leaf
 meets covered i leaf is =
     let f = fails (nat_lt 0 (byte_count i.head.kind i.body)) (nat_lt (first_byte i) covered) i.leaf leaf is in
     record { some = ltb-true 0 (byte_count i.head.kind i.body) f.0; below = ltb-true (first_byte i) covered f.1; here = f.2 }
 
-covered_push : (o : Object) (xs : List Item) (i : Item) → Summarises o xs → (x : Item) → Contains (xs ++ i ∷ []) x → end_of x ≤ max o.covered (end_of i)
+covered_push : (o : Object) (xs : List ReiserItem) (i : ReiserItem) → Summarises o xs → (x : ReiserItem) → Contains (xs ++ i ∷ []) x → end_of x ≤ max o.covered (end_of i)
 covered_push o xs i s x h =
     ⊎_elim (λ old. omega (arith, s.covered x old, le-max_left o.covered (end_of i)))
-    (λ same. subst (λ (y : Item). end_of y ≤ max o.covered (end_of i)) same (le-max_right o.covered (end_of i)))
+    (λ same. subst (λ (y : ReiserItem). end_of y ≤ max o.covered (end_of i)) same (le-max_right o.covered (end_of i)))
     (Contains-push_cases xs i x h)
 
-reached_push : (o : Object) (xs : List Item) (i : Item) → Summarises o xs → (b : ℕ) → b < max o.covered (end_of i) → (x : Item) × Contains (xs ++ i ∷ []) x × (b < end_of x)
+reached_push : (o : Object) (xs : List ReiserItem) (i : ReiserItem) → Summarises o xs → (b : ℕ) → b < max o.covered (end_of i) → (x : ReiserItem) × Contains (xs ++ i ∷ []) x × (b < end_of x)
 reached_push o xs i s b below =
     ⊎_elim (λ old. let e = s.reached b old in (e.0, Contains-append_left xs (i ∷ []) e.0 e.1, e.2))
     (λ new. (i, Contains-push xs i, omega arith))
     (cases_lt b o.covered)
 
-apart_push : (o : Object) (xs : List Item) (i : Item) → Summarises o xs → option_or o.overlap (overlap_at o.covered i) ≡ None → AreApart (xs ++ i ∷ [])
+apart_push : (o : Object) (xs : List ReiserItem) (i : ReiserItem) → Summarises o xs → option_or o.overlap (overlap_at o.covered i) ≡ None → AreItemsApart (xs ++ i ∷ [])
 apart_push o xs i s none =
     all_pairs_push (λ a b. ¬ SharesByte a b) xs i (s.apart (or_none_left _ _ none))
     (λ k d h shares.
@@ -94,7 +83,7 @@ apart_push o xs i s none =
     ⊎_elim {C = ⊥} (λ empty. absurd (omega (arith, shares.second_from, shares.second_to, empty))) (λ above. absurd (omega (arith, shares.first_to, shares.second_from, low, above)))
     (quiet o.covered i (or_none_right o.overlap (overlap_at o.covered i) none)))
 
-overlap_stays : (xs : List Item) (i : Item) (leaf : ℕ) → IsOverlap xs leaf → IsOverlap (xs ++ i ∷ []) leaf
+overlap_stays : (xs : List ReiserItem) (i : ReiserItem) (leaf : ℕ) → IsOverlap xs leaf → IsOverlap (xs ++ i ∷ []) leaf
 overlap_stays xs i leaf o = record {
   before = o.before;
   later = o.later;
@@ -106,7 +95,7 @@ overlap_stays xs i leaf o = record {
   where_ = o.where_;
 }
 
-overlap_push : (o : Object) (xs : List Item) (i : Item) → Summarises o xs → ((e : Item) → Contains xs e → e.head.offset ≤ i.head.offset) → (leaf : ℕ) → option_or o.overlap (overlap_at o.covered i) ≡ Some leaf → IsOverlap (xs ++ i ∷ []) leaf
+overlap_push : (o : Object) (xs : List ReiserItem) (i : ReiserItem) → Summarises o xs → ((e : ReiserItem) → Contains xs e → e.head.offset ≤ i.head.offset) → (leaf : ℕ) → option_or o.overlap (overlap_at o.covered i) ≡ Some leaf → IsOverlap (xs ++ i ∷ []) leaf
 overlap_push o xs i s behind leaf is =
     ⊎_elim (λ old. overlap_stays xs i leaf (s.overlap leaf old))
     (λ new.
@@ -126,23 +115,23 @@ overlap_push o xs i s behind leaf is =
     (or_some o.overlap (overlap_at o.covered i) leaf is)
 
 -- the first item off its form
-formed_push : (o : Object) (xs : List Item) (i : Item) → Summarises o xs → option_or o.off_form (if has_form i then None else Some i.leaf) ≡ None → (x : Item) → Contains (xs ++ i ∷ []) x → HasForm x
+formed_push : (o : Object) (xs : List ReiserItem) (i : ReiserItem) → Summarises o xs → option_or o.off_form (if has_entry_form i then None else Some i.leaf) ≡ None → (x : ReiserItem) → Contains (xs ++ i ∷ []) x → HasForm x
 formed_push o xs i s none x among =
-    ⊎_elim (λ old. s.formed (or_none_left o.off_form _ none) x old) (λ same. subst HasForm same (by (has_form i) (or_none_right o.off_form _ none))) (Contains-push_cases xs i x among)
+    ⊎_elim (λ old. s.formed (or_none_left o.off_form _ none) x old) (λ same. subst HasForm same (by (has_entry_form i) (or_none_right o.off_form _ none))) (Contains-push_cases xs i x among)
   where
     by : (b : Bool) → (if b then None else Some i.leaf) ≡ None → b ≡ true
     by true h = refl
     by false h = cc
 
-off_push : (o : Object) (xs : List Item) (i : Item) → Summarises o xs → (leaf : ℕ) → option_or o.off_form (if has_form i then None else Some i.leaf) ≡ Some leaf → (x : Item) × Contains (xs ++ i ∷ []) x × (has_form x ≡ false) × (leaf ≡ x.leaf)
+off_push : (o : Object) (xs : List ReiserItem) (i : ReiserItem) → Summarises o xs → (leaf : ℕ) → option_or o.off_form (if has_entry_form i then None else Some i.leaf) ≡ Some leaf → (x : ReiserItem) × Contains (xs ++ i ∷ []) x × (has_entry_form x ≡ false) × (leaf ≡ x.leaf)
 off_push o xs i s leaf is =
-    ⊎_elim (λ old. let e = s.off_form leaf old in (e.0, Contains-append_left xs (i ∷ []) e.0 e.1, e.2, e.3)) (λ new. let n = by (has_form i) new in (i, Contains-push xs i, n.0, n.1)) (or_some o.off_form _ leaf is)
+    ⊎_elim (λ old. let e = s.off_form leaf old in (e.0, Contains-append_left xs (i ∷ []) e.0 e.1, e.2, e.3)) (λ new. let n = by (has_entry_form i) new in (i, Contains-push xs i, n.0, n.1)) (or_some o.off_form _ leaf is)
   where
     by : (b : Bool) → (if b then None else Some i.leaf) ≡ Some leaf → (b ≡ false) × (leaf ≡ i.leaf)
     by true h = cc
     by false h = (refl, cc)
 
-pub summary_push : (o : Object) (xs : List Item) (i : Item) → Summarises o xs → ((e : Item) → Contains xs e → e.head.offset ≤ i.head.offset) → Summarises (with_item o i) (xs ++ i ∷ [])
+pub summary_push : (o : Object) (xs : List ReiserItem) (i : ReiserItem) → Summarises o xs → ((e : ReiserItem) → Contains xs e → e.head.offset ≤ i.head.offset) → Summarises (with_item o i) (xs ++ i ∷ [])
 summary_push o xs i s behind = record {
   stat = ap (λ t. option_or t (stat_by_kind i.head.kind i)) s.stat ∙ sym (first_stat-push xs i);
   pointers = any-push (λ x. has_pointers x.head.kind) xs i _ s.pointers;

@@ -1,5 +1,6 @@
 -- Kinds of objects: the high four bits of the mode in the stat data, as `stat` has them.
 use Rattle.std.specs.Prelude.{ℕ, ◌/◌, ◌^◌, ◌==◌, nat_le, Bool, true, ◌||◌, Option}
+use Rattle.vol_block.specs.declared.mode.TheConstants.{DT_DIR}
 use Rattle.reiser_items.specs.reiser_node.declared.head.ItemKind.{ItemKind}
 use Rattle.reiser_items.specs.reiser_node.declared.head.ItemKind.TheVariants.{Stat, Indirect, Direct, Directory as Entries}
 pub use Rattle.fs_rows.specs.Kinds.{kind_of_code, is_directory, is_file, is_symlink}
@@ -29,4 +30,4 @@ fits_size Subvolume size = true
 
 -- the same bits as a test
 abbrev pub is_directory_mode : ℕ → Bool
-is_directory_mode mode = mode / 4096 == 4
+is_directory_mode mode = mode / 4096 == DT_DIR

@@ -8,7 +8,7 @@ use Rattle.reiser_bitmap.specs.refusals.declared.rule.Rule.{Rule}
 use Rattle.reiser_bitmap.specs.refusals.declared.rule.Rule.TheVariants.{ObjectForm, Overlap, SizeRange}
 use Rattle.std.specs.Prelude.{[], ◌∷◌}
 use Rattle.fs_paths.specs.declared.node.NodeId.{NodeId}
-use Rattle.reiser_walk.specs.Items.{Item}
+use Rattle.reiser_walk.specs.Items.{ReiserItem}
 use Rattle.reiser_volume_objects.specs.declared.key.ObjectKey.{ObjectKey}
 use Rattle.reiser_volume_objects.specs.declared.naming.Naming.{Naming}
 use Rattle.reiser_volume_objects.specs.Keys.{root}
@@ -42,7 +42,7 @@ IsObjectsAnswer Fault = ⊥
 IsObjectsAnswer Memory = Unit {0}
 
 -- the refusal is one of these items, or there was no memory
-abbrev pub Refuses : ℕ → List Item → VolAnswer → Type 0
+abbrev pub Refuses : ℕ → List ReiserItem → VolAnswer → Type 0
 Refuses root_block items (Refused refusal) = IsObjectsRefusal root_block items refusal
 Refuses root_block items Fault = ⊥
 Refuses root_block items Memory = Unit {0}
@@ -52,15 +52,15 @@ abbrev pub Keys : Type 0
 Keys = ObjectKey → Bool
 
 -- the object is named, and has stat data
-pub record IsSeen (items : List Item) (key : ObjectKey) : Type 0 where
+pub record IsSeen (items : List ReiserItem) (key : ObjectKey) : Type 0 where
   pub named : IsNamed items key
   pub has_stat : is_some (stat_of_object items key) ≡ true
 
-abbrev pub AreSeen : List Item → Keys → Type 0
+abbrev pub AreSeen : List ReiserItem → Keys → Type 0
 AreSeen items has = (key : ObjectKey) → has key ≡ true → IsSeen items key
 
 -- a set of nodes, as a test, that has exactly those of the named objects
-pub record TellsNamed (items : List Item) (reached : NodeId → Bool) : Type 0 where
+pub record TellsReached (items : List ReiserItem) (reached : NodeId → Bool) : Type 0 where
   pub sound : (key : ObjectKey) → reached (node_of key) ≡ true → IsNamed items key
   pub whole : (key : ObjectKey) → IsNamed items key → reached (node_of key) ≡ true
 
@@ -68,16 +68,16 @@ pub record TellsNamed (items : List Item) (reached : NodeId → Bool) : Type 0 w
 abbrev pub Closes : (NodeId → Bool) → Keys → Naming → Type 0
 Closes reached has n = is_followed n ≡ true → reached (node_of n.dir) ≡ true → has n.target ≡ true
 
-abbrev pub Keeps : Keys → Keys → Type 0
-Keeps old new = (key : ObjectKey) → old key ≡ true → new key ≡ true
+abbrev pub KeepsReached : Keys → Keys → Type 0
+KeepsReached old new = (key : ObjectKey) → old key ≡ true → new key ≡ true
 
 -- one entry was followed
-pub record Follows (n : Naming) (reached : NodeId → Bool) (old new : Keys) : Type 0 where
-  pub keeps : Keeps old new
+pub record FollowsEntry (n : Naming) (reached : NodeId → Bool) (old new : Keys) : Type 0 where
+  pub keeps : KeepsReached old new
   pub closed : Closes reached new n
 
 -- the keys of exactly the named objects, which all have stat data
-pub record IsReach (items : List Item) (has : Keys) : Type 0 where
+pub record IsReach (items : List ReiserItem) (has : Keys) : Type 0 where
   pub seen : AreSeen items has
   pub whole : (key : ObjectKey) → IsNamed items key → has key ≡ true
   pub root_directory : IsDirectory items root

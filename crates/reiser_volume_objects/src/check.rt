@@ -1,13 +1,13 @@
 ghost use Rattle.std.specs.Prelude.{◌≡◌, ℕ, true, List, Some, IfOk, IfErr};
 ghost use Rattle.std.specs.Result.{MatchResult};
 ghost use Rattle.indexmap.specs.IndexSet.{contains};
-ghost use Rattle.reiser_walk.specs.Items.{Item};
+ghost use Rattle.reiser_walk.specs.Items.{ReiserItem};
 ghost use Rattle.reiser_volume_objects.specs.declared.key.ObjectKey.{ObjectKey as KeyOf};
 ghost use Rattle.reiser_volume_objects.specs.Items.{stat_of_object};
 ghost use Rattle.reiser_volume_objects.specs.Keys.{same_key, items_of};
 ghost use Rattle.reiser_volume_objects.specs.Kinds.{fits_size};
 ghost use Rattle.reiser_volume_objects.specs.Names.{IsNamed};
-ghost use Rattle.reiser_volume_objects.specs.Rules.{AreObjects, IsObject, IsKnown, IsObjectsRefusal};
+ghost use Rattle.reiser_volume_objects.specs.Rules.{AreObjects, IsObject, IsKnownObject, IsObjectsRefusal};
 ghost use Rattle.reiser_volume_objects.specs.Reach.{IsReach, IsSeen, AreSeen, Refuses, IsObjectsRule, IsObjectsAnswer};
 ghost use Rattle.reiser_volume_objects.specs.Summary.{Summarises, fits_summary};
 ghost use Rattle.reiser_volume_objects.specs.Table.{HasNoted};
@@ -32,9 +32,9 @@ impl Objects {
         alloc: Global,
         root_block: BlockNo,
     ) -> Result<IndexSet<ObjectKey>, VolAnswer>
-        ensures sound { (items : List Item) → HasNoted self.now items → IfOk result (λ _. AreObjects items) }
-        ensures named { (items : List Item) → HasNoted self.now items → IfOk result (λ named. IsReach items (contains same_key named)) }
-        ensures refused { (items : List Item) → HasNoted self.now items → IfErr result (Refuses root_block items) }
+        ensures sound { (items : List ReiserItem) → HasNoted self.now items → IfOk result (λ _. AreObjects items) }
+        ensures named { (items : List ReiserItem) → HasNoted self.now items → IfOk result (λ named. IsReach items (contains same_key named)) }
+        ensures refused { (items : List ReiserItem) → HasNoted self.now items → IfErr result (Refuses root_block items) }
         ensures answers { IfErr result IsObjectsAnswer }
     {
         match self.save_link {
@@ -49,7 +49,7 @@ impl Objects {
 
 /// Whether each of the named objects is in order.
 fn check_named(objects: &Objects, named: &IndexSet<ObjectKey>) -> Result<(), VolumeRefusal>
-    ensures checked { (items : List Item) → HasNoted objects.now items → AreSeen items (contains same_key named.now)
+    ensures checked { (items : List ReiserItem) → HasNoted objects.now items → AreSeen items (contains same_key named.now)
         → MatchResult result (λ _. (key : KeyOf) → contains same_key named.now key ≡ true → IsObject items key) (λ r. (root_block : ℕ) → IsObjectsRefusal root_block items r) }
     ensures answers { IfErr result IsObjectsRule }
 {
@@ -61,7 +61,7 @@ fn check_named(objects: &Objects, named: &IndexSet<ObjectKey>) -> Result<(), Vol
 
 /// Whether a named object is in order.
 fn check_object(objects: &Objects, key: ObjectKey) -> Result<(), VolumeRefusal>
-    ensures checked { (items : List Item) → HasNoted objects.now items → IsSeen items key
+    ensures checked { (items : List ReiserItem) → HasNoted objects.now items → IsSeen items key
         → MatchResult result (λ _. IsObject items key) (λ r. (root_block : ℕ) → IsObjectsRefusal root_block items r) }
     ensures answers { IfErr result IsObjectsRule }
 {
@@ -75,7 +75,7 @@ fn check_object(objects: &Objects, key: ObjectKey) -> Result<(), VolumeRefusal>
 
 /// Whether an object with this stat data is in order.
 fn check_stat(object: &Object, stat: &ObjectStat) -> Result<(), VolumeRefusal>
-    ensures checked { (items : List Item) (key : KeyOf) → IsNamed items key → stat_of_object items key ≡ Some stat.now → Summarises object.now (items_of key items)
+    ensures checked { (items : List ReiserItem) (key : KeyOf) → IsNamed items key → stat_of_object items key ≡ Some stat.now → Summarises object.now (items_of key items)
         → MatchResult result (λ _. IsObject items key) (λ r. (root_block : ℕ) → IsObjectsRefusal root_block items r) }
     ensures answers { IfErr result IsObjectsRule }
 {
@@ -87,7 +87,7 @@ fn check_stat(object: &Object, stat: &ObjectStat) -> Result<(), VolumeRefusal>
 
 /// Whether an object of this kind with this stat data is in order.
 fn check_kind(object: &Object, stat: &ObjectStat, kind: Kind) -> Result<(), VolumeRefusal>
-    ensures checked { (items : List Item) (key : KeyOf) → IsKnown items key stat.now kind → Summarises object.now (items_of key items)
+    ensures checked { (items : List ReiserItem) (key : KeyOf) → IsKnownObject items key stat.now kind → Summarises object.now (items_of key items)
         → MatchResult result (λ _. IsObject items key) (λ r. (root_block : ℕ) → IsObjectsRefusal root_block items r) }
     ensures answers { IfErr result IsObjectsRule }
 {

@@ -1,5 +1,5 @@
 ghost use Rattle.std.specs.Prelude.{◌≡◌};
-ghost use Rattle.reiser_volume_objects.specs.Nodes.{node_of, key_at, Fits};
+ghost use Rattle.reiser_volume_objects.specs.Nodes.{node_of, key_at, FitsKey};
 
 use crate::ObjectKey;
 use fs_paths::NodeId;
@@ -7,7 +7,7 @@ use fs_paths::NodeId;
 /// The node that stands for an object. Both of its numbers have 32 bits.
 pub fn node_of(key: ObjectKey) -> NodeId
     ensures node { result ≡ node_of key }
-    ensures fits { Fits result }
+    ensures fits { FitsKey result }
 {
     NodeId {
         space: key.dir as u64,

@@ -1,7 +1,7 @@
 ghost use Rattle.std.specs.Prelude.{◌≡◌, [], Some, None, ◌&&◌, nat_lt, if◌then◌else◌};
 ghost use Rattle.reiser_volume_files.specs.Bytes.{byte_count};
 ghost use Rattle.reiser_volume_objects.specs.Items.{stat_by_kind};
-ghost use Rattle.reiser_volume_objects.specs.Summary.{Summarises, with_item, has_pointers, has_bytes, has_entries, has_form};
+ghost use Rattle.reiser_volume_objects.specs.Summary.{Summarises, with_item, has_pointers, has_bytes, has_entries, has_entry_form};
 
 use crate::ObjectStat;
 use reiser_items::{BlockNo, Entries, ItemHead, ItemKind, StatData};
@@ -84,7 +84,7 @@ fn overlap_at(covered: u128, first: u128, count: u128, leaf: BlockNo) -> Option<
 
 /// The leaf, where an item in it is a directory item that is off the grammar of entries.
 fn off_form_at(leaf: BlockNo, head: &ItemHead, body: &[u8]) -> Option<BlockNo>
-    ensures { result ≡ (if has_form (record { leaf = leaf; head = head.now; body = body.now }) then None else Some leaf) }
+    ensures { result ≡ (if has_entry_form (record { leaf = leaf; head = head.now; body = body.now }) then None else Some leaf) }
 {
     if !has_entries(head.kind) || Entries::read(body, head.count).is_some() {
         None

@@ -2,26 +2,30 @@ ghost use Rattle.std.specs.Prelude.{◌≡◌, ◌||◌, ◌++◌, ◌∷◌, []
 ghost use Rattle.std.specs.Result.{MatchResult};
 ghost use Rattle.indexmap.specs.IndexSet.{contains};
 ghost use Rattle.fs_paths.specs.Links.{same_node};
-ghost use Rattle.reiser_walk.specs.Items.{Item};
+ghost use Rattle.reiser_walk.specs.Items.{ReiserItem};
 ghost use Rattle.reiser_volume_objects.specs.declared.key.ObjectKey.{ObjectKey as KeyOf};
 ghost use Rattle.reiser_volume_objects.specs.Keys.{same_key, root};
 ghost use Rattle.reiser_volume_objects.specs.Names.{is_followed, namings};
 ghost use Rattle.reiser_volume_objects.specs.Rules.{IsDirectory};
 ghost use Rattle.reiser_volume_objects.specs.Nodes.{step_of, steps};
-ghost use Rattle.reiser_volume_objects.specs.Reach.{TellsNamed, Follows, AreSeen, IsReach, Refuses, IsObjectsAnswer};
+ghost use Rattle.reiser_volume_objects.specs.Reach.{TellsReached, FollowsEntry, AreSeen, IsReach, Refuses, IsObjectsAnswer};
 ghost use Rattle.reiser_volume_objects.specs.Table.{HasNoted};
 
 use crate::kinds::is_directory_mode;
 use crate::{Naming, ObjectKey, Objects, node_of};
-use fs_paths::{Link, NodeId, reached};
+use fs_paths::{NodeId, NodeLink, reached};
 use fs_rows::Name;
 use indexmap::IndexSet;
 use reiser_bitmap::{Memory, Rule, VolAnswer, VolumeRefusal};
 use reiser_items::BlockNo;
+use reiserfs_format::key::{ROOT_OBJECTID, ROOT_PARENT_OBJECTID};
 use std::alloc::Global;
 
 /// The root directory.
-pub const ROOT: ObjectKey = ObjectKey { dir: 1, object: 2 };
+pub const ROOT: ObjectKey = ObjectKey {
+    dir: ROOT_PARENT_OBJECTID,
+    object: ROOT_OBJECTID,
+};
 
 /// The name of the root's private directory, in which Linux keeps extended attributes.
 const PRIVATE: &[u8; 14] = b".reiserfs_priv";
@@ -34,7 +38,7 @@ pub fn reach(
     objects: &Objects,
     root_block: BlockNo,
 ) -> Result<IndexSet<ObjectKey>, VolAnswer>
-    ensures reached { (items : List Item) → HasNoted objects.now items
+    ensures reached { (items : List ReiserItem) → HasNoted objects.now items
         → MatchResult result (λ named. IsReach items (contains same_key named)) (Refuses root_block items) }
     ensures answers { IfErr result IsObjectsAnswer }
 {
@@ -45,7 +49,7 @@ pub fn reach(
 
 /// Whether the root is a directory.
 fn check_root(objects: &Objects, root_block: BlockNo) -> Result<(), VolAnswer>
-    ensures checked { (items : List Item) → HasNoted objects.now items → MatchResult result (λ _. IsDirectory items root) (Refuses root_block items) }
+    ensures checked { (items : List ReiserItem) → HasNoted objects.now items → MatchResult result (λ _. IsDirectory items root) (Refuses root_block items) }
     ensures answers { IfErr result IsObjectsAnswer }
 {
     match objects.stat(ROOT) {
@@ -70,7 +74,7 @@ fn off_form(block: BlockNo) -> VolAnswer
 }
 
 /// The steps of the entries that are followed.
-fn steps_of(alloc: Global, objects: &Objects) -> Result<Vec<Link>, Memory>
+fn steps_of(alloc: Global, objects: &Objects) -> Result<Vec<NodeLink>, Memory>
     ensures { IfOk result (λ links. links.items ≡ steps objects.now.namings.items) }
 {
     let mut links = Vec::new(alloc);
@@ -81,7 +85,7 @@ fn steps_of(alloc: Global, objects: &Objects) -> Result<Vec<Link>, Memory>
 }
 
 /// Adds the step of an entry, if it is followed.
-fn add_step(links: &mut Vec<Link>, alloc: Global, naming: &Naming) -> Result<(), Memory>
+fn add_step(links: &mut Vec<NodeLink>, alloc: Global, naming: &Naming) -> Result<(), Memory>
     ensures { OnOk result (links.new.items ≡ links.old.items ++ (if is_followed naming.now then step_of naming.now ∷ [] else [])) }
 {
     if is_followed(naming) {
@@ -91,10 +95,10 @@ fn add_step(links: &mut Vec<Link>, alloc: Global, naming: &Naming) -> Result<(),
 }
 
 /// The step of an entry. Its name is left out, and takes no memory.
-fn step_of(alloc: Global, naming: &Naming) -> Result<Link, Memory>
+fn step_of(alloc: Global, naming: &Naming) -> Result<NodeLink, Memory>
     ensures { IfOk result (λ link. link ≡ step_of naming.now) }
 {
-    Ok(Link {
+    Ok(NodeLink {
         dir: node_of(naming.dir),
         target: node_of(naming.target),
         name: Name::new(alloc, &[])?,
@@ -107,7 +111,7 @@ fn named_by(
     objects: &Objects,
     nodes: &IndexSet<NodeId>,
 ) -> Result<IndexSet<ObjectKey>, VolAnswer>
-    ensures named { (items : List Item) → HasNoted objects.now items → IsDirectory items root → TellsNamed items (contains same_node nodes.now)
+    ensures named { (items : List ReiserItem) → HasNoted objects.now items → IsDirectory items root → TellsReached items (contains same_node nodes.now)
         → MatchResult result (λ named. IsReach items (contains same_key named)) (λ e. (root_block : ℕ) → Refuses root_block items e) }
     ensures answers { IfErr result IsObjectsAnswer }
 {
@@ -126,9 +130,9 @@ fn follow(
     named: &mut IndexSet<ObjectKey>,
     naming: &Naming,
 ) -> Result<(), VolAnswer>
-    ensures follows { OnOk result (Follows naming.now (contains same_node nodes.now) (contains same_key named.old) (contains same_key named.new)) }
-    ensures sound { (items : List Item) → HasNoted objects.now items → Contains (namings items) naming.now
-        → TellsNamed items (contains same_node nodes.now) → AreSeen items (contains same_key named.old)
+    ensures follows { OnOk result (FollowsEntry naming.now (contains same_node nodes.now) (contains same_key named.old) (contains same_key named.new)) }
+    ensures sound { (items : List ReiserItem) → HasNoted objects.now items → Contains (namings items) naming.now
+        → TellsReached items (contains same_node nodes.now) → AreSeen items (contains same_key named.old)
         → MatchResult result (λ _. AreSeen items (contains same_key named.new)) (λ e. (root_block : ℕ) → Refuses root_block items e) }
     ensures answers { IfErr result IsObjectsAnswer }
 {

@@ -2,8 +2,8 @@ ghost use Rattle.std.specs.Prelude.{◌≡◌, ◌≤◌, ◌<◌, ◌+◌, [], 
 ghost use Rattle.reiser_bitmap.specs.outside.Fault.{HasCauseOf};
 ghost use Rattle.reiser_bitmap.specs.outside.History.{OverTold};
 ghost use Rattle.reiser_walk.specs.Rules.{tree_damages};
-ghost use Rattle.reiser_walk.specs.Tree.{items_of};
-ghost use Rattle.reiser_volume_objects.specs.Read.{tree_at, BlamesTree, IsReadAnswer};
+ghost use Rattle.reiser_walk.specs.Tree.{items_of_tree};
+ghost use Rattle.reiser_volume_objects.specs.Read.{tree_at, BlamesTree, IsObjectsReadAnswer};
 ghost use Rattle.reiser_volume_objects.specs.Table.{HasNoted};
 
 use crate::Objects;
@@ -30,8 +30,8 @@ impl Objects {
         requires source { length map.now ≤ S.size src.old }
         ensures kept { S.kept src.old src.new }
         ensures cause { HasCauseOf VolAnswer.Fault (S.faults src.old) (S.faults src.new) result }
-        ensures answers { IfErr result IsReadAnswer }
-        ensures noted { OverTold S.tells (S.blocks src.old) (λ image. IfOk result (λ objects. HasNoted objects (items_of (tree_at root height journal_first journal_size) image (length map.now)))) }
+        ensures answers { IfErr result IsObjectsReadAnswer }
+        ensures noted { OverTold S.tells (S.blocks src.old) (λ image. IfOk result (λ objects. HasNoted objects (items_of_tree (tree_at root height journal_first journal_size) image (length map.now)))) }
         ensures sound { OverTold S.tells (S.blocks src.old) (λ image. IfOk result (λ _. tree_damages (tree_at root height journal_first journal_size) image map.now ≡ [])) }
         ensures damage { OverTold S.tells (S.blocks src.old) (λ image. IfErr result (BlamesTree (tree_at root height journal_first journal_size) image map.now)) }
     {

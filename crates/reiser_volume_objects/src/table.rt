@@ -2,13 +2,13 @@ ghost use Rattle.std.specs.Prelude.{◌≡◌, ℕ, ◌++◌, ◌∷◌, [], Lis
 ghost use Rattle.std.specs.Option.{MatchOption, option_map_or};
 ghost use Rattle.indexmap.specs.IndexMap.{get};
 ghost use Rattle.reiser_items.specs.Entries.{entry_value};
-ghost use Rattle.reiser_walk.specs.Items.{Item};
+ghost use Rattle.reiser_walk.specs.Items.{ReiserItem};
 ghost use Rattle.reiser_volume_objects.specs.Items.{stat_of_object, is_directory_at};
-ghost use Rattle.reiser_volume_objects.specs.Keys.{key_of, items_of, same_key};
+ghost use Rattle.reiser_volume_objects.specs.Keys.{object_key_of, items_of, same_key};
 ghost use Rattle.reiser_volume_objects.specs.Leaves.{IsFirstLeaf};
 ghost use Rattle.reiser_volume_objects.specs.Names.{is_listed, naming_by, namings_in};
 ghost use Rattle.reiser_volume_objects.specs.Summary.{Summarises};
-ghost use Rattle.reiser_volume_objects.specs.Table.{HasNoted, IsBehind, Tells, first_save_link};
+ghost use Rattle.reiser_volume_objects.specs.Table.{HasNoted, IsBehind, TellsItems, first_save_link};
 
 use crate::kinds::is_directory_mode;
 use crate::{LeafList, Naming, Object, ObjectKey, ObjectStat};
@@ -48,7 +48,7 @@ impl Objects {
         head: &ItemHead,
         body: &[u8],
     ) -> Result<(), Memory>
-        ensures { (items : List Item) → HasNoted self.old items
+        ensures { (items : List ReiserItem) → HasNoted self.old items
             → IsBehind items (record { leaf = leaf; head = head.now; body = body.now })
             → OnOk result (HasNoted self.new (items ++ record { leaf = leaf; head = head.now; body = body.now } ∷ [])) }
     {
@@ -66,14 +66,14 @@ impl Objects {
 
     /// The stat data of an object, if it has any.
     pub fn stat(&self, key: ObjectKey) -> Option<ObjectStat>
-        ensures { (items : List Item) → HasNoted self.now items → result ≡ stat_of_object items key }
+        ensures { (items : List ReiserItem) → HasNoted self.now items → result ≡ stat_of_object items key }
     {
         self.object_or_new(key).stat
     }
 
     /// Whether an object is a directory.
     pub fn is_directory(&self, key: ObjectKey) -> bool
-        ensures { (items : List Item) → HasNoted self.now items → result ≡ is_directory_at items key }
+        ensures { (items : List ReiserItem) → HasNoted self.now items → result ≡ is_directory_at items key }
     {
         match self.stat(key) {
             Some(stat) => is_directory_mode(stat.fields.mode),
@@ -83,7 +83,7 @@ impl Objects {
 
     /// What is kept of an object, if anything is.
     pub fn object_or_new(&self, key: ObjectKey) -> Object
-        ensures { (items : List Item) → HasNoted self.now items → Summarises result (items_of key items) }
+        ensures { (items : List ReiserItem) → HasNoted self.now items → Summarises result (items_of key items) }
     {
         object_at(&self.map, key, 0)
     }
@@ -92,7 +92,7 @@ impl Objects {
     ///
     /// Where the items ascend by their keys, those of the object are all in this leaf and in some that follow it.
     pub fn first_leaf(&self, key: ObjectKey) -> Option<usize>
-        ensures { (items : List Item) → HasNoted self.now items → MatchOption result (items_of key items ≡ []) (IsFirstLeaf key items) }
+        ensures { (items : List ReiserItem) → HasNoted self.now items → MatchOption result (items_of key items ≡ []) (IsFirstLeaf key items) }
     {
         match self.map.get(&key) {
             Some(object) => Some(object.first),
@@ -103,7 +103,7 @@ impl Objects {
 
 /// What is kept of an object; where nothing is, one without items, whose first is to stand in the leaf of this number.
 fn object_at(map: &IndexMap<ObjectKey, Object>, key: ObjectKey, place: usize) -> Object
-    ensures summary { (items : List Item) → Tells (get same_key map.now key) items → Summarises result items }
+    ensures summary { (items : List ReiserItem) → TellsItems (get same_key map.now key) items → Summarises result items }
     ensures first { result.first ≡ option_map_or (λ o. o.first) (get same_key map.now key) place }
 {
     match map.get(&key) {

@@ -1,15 +1,10 @@
 -- Pointers of a list, one after the other.
-use Rattle.std.proofs.Common.{◌≡◌, ℕ, zero, suc, ◌+◌, ◌≤◌, Bool, true, false, List, [], ◌∷◌, ◌++◌, length, filter, drop, Some, slice_get, refl, ◌∙◌, ap, arith}
-use Rattle.reiser_walk.specs.declared.pointer.Pointer.{Pointer}
-use Rattle.reiser_walk.specs.declared.tree.Tree.{Tree}
-use Rattle.reiser_walk.specs.Items.{held_by, is_no_hole}
-use Rattle.reiser_walk.specs.Rules.{reach_damages}
-use Rattle.reiser_walk.specs.Marks.{seen_after}
+use Rattle.reiser_walk.proofs.Imports.{◌≡◌, ℕ, zero, suc, ◌+◌, ◌≤◌, Bool, true, false, List, [], ◌∷◌, ◌++◌, length, filter, drop, Some, slice_get, refl, ◌∙◌, ap, arith, BlockPointer, ReiserTree, held_by, is_no_hole, reach_damages, seen_after}
 use Rattle.reiser_walk.proofs.Events.{reach_damages-append, seen_after-append}
 
 pub held_by-append : (holder : ℕ) (xs ys : List ℕ) → held_by holder (xs ++ ys) ≡ held_by holder xs ++ held_by holder ys
 held_by-append holder [] ys = refl
-held_by-append holder (x ∷ xs) ys = ap (λ (z : List Pointer). record { block = x; holder = holder } ∷ z) (held_by-append holder xs ys)
+held_by-append holder (x ∷ xs) ys = ap (λ (z : List BlockPointer). record { block = x; holder = holder } ∷ z) (held_by-append holder xs ys)
 
 filter_first : (p : ℕ → Bool) (x : ℕ) (xs : List ℕ) (t : Bool) → p x ≡ t → filter p (x ∷ xs) ≡ filter p (x ∷ []) ++ filter p xs
 filter_first p x xs true e = rw e refl
@@ -36,7 +31,7 @@ left_step xs holder i x h =
     ∙ (held_by-append holder (filter is_no_hole (x ∷ [])) (filter is_no_hole (drop (suc i) xs))
     ∙ ap (λ (k : ℕ). held_by holder (filter is_no_hole (x ∷ [])) ++ held_by holder (filter is_no_hole (drop k xs))) e))
 
-pub damages_step : (tree : Tree) (used : List Bool) (now xs : List ℕ) (holder i x : ℕ) → slice_get xs i ≡ Some x
+pub damages_step : (tree : ReiserTree) (used : List Bool) (now xs : List ℕ) (holder i x : ℕ) → slice_get xs i ≡ Some x
     → reach_damages tree used now (held_by holder (filter is_no_hole (drop i xs)))
     ≡ reach_damages tree used now (held_by holder (filter is_no_hole (x ∷ []))) ++ reach_damages tree used (seen_after now (held_by holder (filter is_no_hole (x ∷ [])))) (held_by holder (filter is_no_hole (drop (i + 1) xs)))
 damages_step tree used now xs holder i x h = ap (reach_damages tree used now) (left_step xs holder i x h) ∙ reach_damages-append tree used now (held_by holder (filter is_no_hole (x ∷ []))) _

@@ -1,10 +1,5 @@
 -- A rule that fails is among the damages.
-use Rattle.std.proofs.Common.{◌≡◌, ℕ, Bool, false, ◌++◌, Contains, refl, arith}
-use Rattle.std.proofs.lemmas.List.Elements.{Contains-append_left, Contains-append_right}
-use Rattle.reiser_bitmap.specs.refusals.declared.refusal.VolumeRefusal.TheVariants.{Damaged}
-use Rattle.reiser_bitmap.specs.refusals.declared.rule.Rule.{Rule}
-use Rattle.reiser_bitmap.specs.refusals.declared.rule.Rule.TheVariants.{KeyOrder, Body}
-use Rattle.reiser_walk.specs.Rules.{unless}
+use Rattle.reiser_walk.proofs.Imports.{◌≡◌, ℕ, Bool, false, ◌++◌, Contains, refl, arith, Contains-append_left, Contains-append_right, Damaged, Rule, KeyOrder, Body, unless}
 
 pub unless_in : (test : Bool) (b : ℕ) (r : Rule) → test ≡ false → Contains (unless test b r) (Damaged b r)
 unless_in test b r e = rw e (0, omega arith, refl)

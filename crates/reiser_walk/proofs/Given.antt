@@ -1,24 +1,14 @@
 -- What a walk has given so far, in the words of the whole tree.
-use Rattle.std.proofs.Common.{◌≡◌, Bool, true, List, [], ◌++◌, None, length, All, AllPairs, sym, ◌∙◌, ap, subst}
-use Rattle.std.specs.List.{flat_map}
-use Rattle.std.specs.Ordering.{is_lt}
-use Rattle.reiser_bitmap.specs.outside.History.{Image}
-use Rattle.reiser_items.specs.Order.{key_order}
-use Rattle.reiser_walk.specs.declared.walker.Walker.{Walker}
-use Rattle.reiser_walk.specs.Items.{Item}
-use Rattle.reiser_walk.specs.Tree.{items_in, reached_in}
-use Rattle.reiser_walk.specs.Laws.{FitsHead}
-use Rattle.reiser_walk.specs.Rules.{order_damages, body_damage}
-use Rattle.reiser_walk.specs.Walks.{Walks, IsFirstPart, rest}
+use Rattle.reiser_walk.proofs.Imports.{◌≡◌, Bool, true, List, [], ◌++◌, None, length, All, AllPairs, sym, ◌∙◌, ap, subst, flat_map, is_lt, Image, key_order, Walker, ReiserItem, items_of_events, reached_in, FitsHead, order_damages, body_damage, Walks, IsFirstPart, rest}
 use Rattle.reiser_walk.proofs.Events.{items_in-append, reached_in-append}
 use Rattle.reiser_walk.proofs.Lists.{all_pairs_from_pairs}
 use Rattle.reiser_walk.proofs.Rules.{ascending_from, all_fit}
 
-module _ (w : Walker) (image : Image) (used : List Bool) (given : List Item) (k : Walks w image used given) where
+module _ (w : Walker) (image : Image) (used : List Bool) (given : List ReiserItem) (k : Walks w image used given) where
   pub first_part : IsFirstPart w image used given
   first_part = record {
-    later = items_in (rest image (length used) w);
-    items = sym (ap items_in k.whole) ∙ (items_in-append k.done (rest image (length used) w) ∙ ap (λ (z : List Item). z ++ items_in (rest image (length used) w)) k.items);
+    later = items_of_events (rest image (length used) w);
+    items = sym (ap items_of_events k.whole) ∙ (items_in-append k.done (rest image (length used) w) ∙ ap (λ (z : List ReiserItem). z ++ items_of_events (rest image (length used) w)) k.items);
     met = reached_in k.done;
     ahead = reached_in (rest image (length used) w);
     reached = sym (ap reached_in k.whole) ∙ reached_in-append k.done (rest image (length used) w);
@@ -27,8 +17,8 @@ module _ (w : Walker) (image : Image) (used : List Bool) (given : List Item) (k 
 
   -- the items given ascend
   pub given_ascend : AllPairs (λ i j. is_lt (key_order i.head j.head) ≡ true) given
-  given_ascend = all_pairs_from_pairs _ given (ascending_from given (subst (λ (items : List Item). order_damages None items ≡ []) k.items k.sound.order))
+  given_ascend = all_pairs_from_pairs _ given (ascending_from given (subst (λ (items : List ReiserItem). order_damages None items ≡ []) k.items k.sound.order))
 
   -- each of them has a body that fits its head
   pub given_fit : All (λ i. FitsHead i.head i.body) given
-  given_fit = all_fit given (subst (λ (items : List Item). flat_map body_damage items ≡ []) k.items k.sound.bodies)
+  given_fit = all_fit given (subst (λ (items : List ReiserItem). flat_map body_damage items ≡ []) k.items k.sound.bodies)

@@ -4,6 +4,7 @@ pub mod Counting
 pub mod Damages
 pub mod Events
 pub mod Given
+pub mod Imports
 pub mod Lists
 pub mod Paths
 pub mod Rules

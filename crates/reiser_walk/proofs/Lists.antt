@@ -1,6 +1,5 @@
 -- A fact of each element of a list, and of each element and each later one, by recursion over the list.
-use Rattle.std.proofs.Common.{◌≡◌, zero, suc, List, [], ◌∷◌, ◌++◌, All, AllPairs, refl, arith}
-use Rattle.std.specs.List.{flat_map}
+use Rattle.reiser_walk.proofs.Imports.{◌≡◌, zero, suc, List, [], ◌∷◌, ◌++◌, All, AllPairs, refl, arith, flat_map}
 
 abbrev pub Each : {X : Type 0} → (X → Type 0) → List X → Type 0
 Each P [] = Unit {0}

@@ -7,7 +7,7 @@ use Rattle.reiser_bitmap.specs.refusals.declared.refusal.VolumeRefusal.{VolumeRe
 use Rattle.reiser_bitmap.specs.refusals.declared.refusal.VolumeRefusal.TheVariants.{NotVolume, Unclean, Unsupported, Short, JournalPending, Damaged, HasAttributes, PendingLinks, NameTaken, NameTooLong, HashCrowd}
 use Rattle.reiser_bitmap.specs.refusals.declared.rule.Rule.{Rule}
 use Rattle.reiser_bitmap.specs.refusals.declared.rule.Rule.TheVariants.{SuperField, SystemFree, NodeHead, Layout, KeyOrder, BlockFree, BlockRange, BlockTwice, Body, EntryForm, ObjectForm, Overlap, NameTwice, DirTwice, SizeRange, Reread}
-use Rattle.reiser_walk.specs.declared.tree.Tree.{Tree}
+use Rattle.reiser_walk.specs.declared.reiser_tree.ReiserTree.{ReiserTree}
 use Rattle.reiser_walk.specs.Rules.{tree_damages}
 
 -- a rule of the tree
@@ -56,5 +56,5 @@ IsOneOf damages Fault = Unit {0}
 IsOneOf damages Memory = ⊥
 
 -- the answer is one of what is wrong with the tree, or a fault
-abbrev pub Blames : Tree → Image → List Bool → VolAnswer → Type 0
-Blames tree image used = IsOneOf (tree_damages tree image used)
+abbrev pub BlamesDamage : ReiserTree → Image → List Bool → VolAnswer → Type 0
+BlamesDamage tree image used = IsOneOf (tree_damages tree image used)

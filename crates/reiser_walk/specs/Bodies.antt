@@ -1,5 +1,6 @@
 -- Which bodies fit their heads, as ReiserFS 3.6 has them. What a directory item holds is not looked at here.
 use Rattle.std.specs.Prelude.{ℕ, ◌%◌, ◌^◌, ◌==◌, nat_le, Bool, true, ◌&&◌, ◌||◌, List, is_some}
+use Rattle.reiserfs_format.specs.declared.key.TheConstants.{MAX_KEY_OBJECTID}
 use Rattle.reiser_items.specs.reiser_node.declared.head.ItemHead.{ItemHead}
 use Rattle.reiser_items.specs.reiser_node.declared.head.ItemKind.{ItemKind}
 use Rattle.reiser_items.specs.reiser_node.declared.head.ItemKind.TheVariants.{Stat, Indirect, Direct, Directory}
@@ -8,7 +9,7 @@ use Rattle.reiser_items.specs.Stat.{stat_of}
 
 -- a save link: an item of the list of files to be removed or cut when the volume is next mounted
 abbrev pub is_save_link : ItemHead → Bool
-is_save_link head = head.dir == 0xFFFFFFFF
+is_save_link head = head.dir == MAX_KEY_OBJECTID
 
 -- Stat data is at offset 0 and on its grammar. A list of pointers is for whole blocks of a file, and offsets of a file
 -- begin with 1.

@@ -13,11 +13,11 @@ use Rattle.reiser_items.specs.reiser_node.Inner.{is_inner}
 use Rattle.reiser_items.specs.Order.{key_order}
 use Rattle.reiser_bitmap.specs.Bits.{has}
 use Rattle.reiser_bitmap.specs.System.{is_system}
-use Rattle.reiser_walk.specs.declared.pointer.Pointer.{Pointer}
-use Rattle.reiser_walk.specs.declared.tree.Tree.{Tree}
+use Rattle.reiser_walk.specs.declared.block_pointer.BlockPointer.{BlockPointer}
+use Rattle.reiser_walk.specs.declared.reiser_tree.ReiserTree.{ReiserTree}
 use Rattle.reiser_walk.specs.Bodies.{is_body}
-use Rattle.reiser_walk.specs.Items.{Item, Event}
-use Rattle.reiser_walk.specs.Tree.{Visit, visits_in, items_in, reached_in, tree_events}
+use Rattle.reiser_walk.specs.Items.{ReiserItem, Event}
+use Rattle.reiser_walk.specs.Tree.{Visit, visits_in, items_of_events, reached_in, tree_events}
 
 -- the rule fails at that block, if the test fails
 abbrev pub unless : Bool → ℕ → Rule → List VolumeRefusal
@@ -42,18 +42,18 @@ abbrev pub is_in : List ℕ → ℕ → Bool
 is_in seen b = list_any (λ s. s == b) seen
 
 -- the block is one of those that the volume keeps for itself
-abbrev pub is_system_of : Tree → ℕ → Bool
+abbrev pub is_system_of : ReiserTree → ℕ → Bool
 is_system_of tree b = is_system tree.journal_first tree.journal_size b
 
 -- a block that is reached lies in the volume, is used, is no system block, and was not reached before
-abbrev pub reach_damage : Tree → List Bool → List ℕ → Pointer → List VolumeRefusal
+abbrev pub reach_damage : ReiserTree → List Bool → List ℕ → BlockPointer → List VolumeRefusal
 reach_damage tree used seen p =
     if nat_lt p.block (length used)
     then unless (has used p.block) p.block BlockFree ++ unless (not (is_system_of tree p.block || is_in seen p.block)) p.block BlockTwice
     else Damaged p.holder BlockRange ∷ []
 
 -- the same of each, after those that were seen before
-abbrev pub reach_damages : Tree → List Bool → List ℕ → List Pointer → List VolumeRefusal
+abbrev pub reach_damages : ReiserTree → List Bool → List ℕ → List BlockPointer → List VolumeRefusal
 reach_damages tree used seen [] = []
 reach_damages tree used seen (p ∷ ps) = reach_damage tree used seen p ++ reach_damages tree used (p.block ∷ seen) ps
 
@@ -62,20 +62,20 @@ abbrev pub is_above : Option ItemHead → ItemHead → Bool
 is_above None head = true
 is_above (Some last) head = is_lt (key_order last head)
 
-abbrev pub order_damages : Option ItemHead → List Item → List VolumeRefusal
+abbrev pub order_damages : Option ItemHead → List ReiserItem → List VolumeRefusal
 order_damages last [] = []
 order_damages last (i ∷ items) = unless (is_above last i.head) i.leaf KeyOrder ++ order_damages (Some i.head) items
 
 -- an item's body fits its head
-abbrev pub body_damage : Item → List VolumeRefusal
+abbrev pub body_damage : ReiserItem → List VolumeRefusal
 body_damage i = unless (is_body i.head i.body) i.leaf Body
 
 -- each rule over the whole of a list of events
-abbrev pub damages : Tree → Image → List Bool → List Event → List VolumeRefusal
+abbrev pub damages : ReiserTree → Image → List Bool → List Event → List VolumeRefusal
 damages tree image used events =
     (flat_map (visit_damage image (length used)) (visits_in events) ++ reach_damages tree used [] (reached_in events))
-    ++ (order_damages None (items_in events) ++ flat_map body_damage (items_in events))
+    ++ (order_damages None (items_of_events events) ++ flat_map body_damage (items_of_events events))
 
 -- All that is wrong with the tree of a volume whose bitmap is this. A refusal by the rules of the tree is any of them.
-abbrev pub tree_damages : Tree → Image → List Bool → List VolumeRefusal
+abbrev pub tree_damages : ReiserTree → Image → List Bool → List VolumeRefusal
 tree_damages tree image used = damages tree image used (tree_events tree image (length used))

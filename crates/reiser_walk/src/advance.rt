@@ -6,32 +6,30 @@ ghost use Rattle.reiser_bitmap.specs.refusals.declared.rule.Rule.TheVariants.{Ke
 ghost use Rattle.reiser_items.specs.reiser_node.declared.head.ItemHead.{ItemHead};
 ghost use Rattle.reiser_items.specs.reiser_node.Head.{head_at};
 ghost use Rattle.reiser_items.specs.reiser_node.Leaf.{head_place, body_at};
-ghost use Rattle.reiser_walk.specs.declared.pointer.Pointer.{Pointer};
-ghost use Rattle.reiser_walk.specs.declared.tree.Tree.{Tree};
-ghost use Rattle.reiser_walk.specs.Answers.{IsTreeAnswer, IsTreeRefusal, Blames};
+ghost use Rattle.reiser_walk.specs.declared.block_pointer.BlockPointer.{BlockPointer};
+ghost use Rattle.reiser_walk.specs.declared.reiser_tree.ReiserTree.{ReiserTree};
+ghost use Rattle.reiser_walk.specs.Answers.{IsTreeAnswer, IsTreeRefusal, BlamesDamage};
 ghost use Rattle.reiser_walk.specs.Bodies.{is_body};
-ghost use Rattle.reiser_walk.specs.Items.{Item};
+ghost use Rattle.reiser_walk.specs.Items.{ReiserItem};
 ghost use Rattle.reiser_walk.specs.Marks.{unmarked};
 ghost use Rattle.reiser_walk.specs.Rules.{unless, is_above, tree_damages};
 ghost use Rattle.reiser_walk.specs.Tree.{node_events};
-ghost use Rattle.reiser_walk.specs.Walks.{Walks, Moves, Takes, IsDone, Comes, HasItem, block_count, fuel, standing, pending, level_of};
+ghost use Rattle.reiser_walk.specs.Walks.{Walks, Moves, TakesPointer, IsDone, Comes, HasItem, block_count, fuel, standing, pending, level_of};
 
 use crate::Walker;
+use crate::block_pointer::BlockPointer;
 use crate::bodies::{is_above, is_body};
 use crate::claim::{claim, claim_named};
-use crate::hand::{LeafInHand, Place};
+use crate::hand::{LeafInHand, NodeCursor};
 use crate::path::next_child;
-use crate::pointer::Pointer;
-use crate::tree::Tree;
+use crate::reiser_tree::ReiserTree;
 use reiser_bitmap::{Bitmap, BlockSource, Fault, Memory, Rule, VolAnswer, VolumeRefusal};
 use reiser_items::{Block, BlockNo, ItemHead, LeafView};
+use reiserfs_format::block::SUPER_BLOCK;
 use std::alloc::Global;
 
 /// How many inner nodes lie above a leaf at most.
 const DEPTH: usize = 5;
-
-/// The block of the superblock, which holds the pointer to the root.
-const SUPERBLOCK: BlockNo = 16;
 
 impl Walker {
     /// A walk that has not begun, over the tree of a volume with this bitmap. The root has the level `height` - 1; the
@@ -56,7 +54,7 @@ impl Walker {
         ensures unspent { IfOk result (λ w. w.spent ≡ false) }
     {
         Ok(Walker {
-            tree: Tree {
+            tree: ReiserTree {
                 root,
                 height,
                 journal_first,
@@ -68,7 +66,7 @@ impl Walker {
             leaf: LeafInHand {
                 no: 0,
                 block: Block::zero(),
-                at: Place { next: 0, left: 0 },
+                at: NodeCursor { next: 0, left: 0 },
             },
             last: None,
             spent: false,
@@ -76,7 +74,7 @@ impl Walker {
     }
 
     /// Takes the next node off what is pending.
-    fn next_pointer(&mut self) -> Option<Pointer>
+    fn next_pointer(&mut self) -> Option<BlockPointer>
         ensures next { IfSome result (λ p. (image : Image) (n : ℕ) →
             pending image n self.old ≡ node_events image n (level_of self.new) p.holder p.block ++ pending image n self.new) }
         ensures none { IfNone result ((image : Image) (n : ℕ) → (pending image n self.old ≡ []) × (pending image n self.new ≡ [])) }
@@ -95,18 +93,18 @@ impl Walker {
             return None;
         }
         self.at_start = false;
-        Some(Pointer {
+        Some(BlockPointer {
             block: self.tree.root,
-            holder: SUPERBLOCK,
+            holder: SUPER_BLOCK,
         })
     }
 
     /// Takes the next node off what is pending, and marks it.
-    fn take_pointer(&mut self, map: &Bitmap) -> Result<Option<Pointer>, VolumeRefusal>
+    fn take_pointer(&mut self, map: &Bitmap) -> Result<Option<BlockPointer>, VolumeRefusal>
         requires done { self.old.leaf.at.left ≡ 0 }
         requires same { block_count self.old ≡ length map.now }
-        ensures takes { (image : Image) (given : List Item) → Walks self.old image map.now given →
-            MatchResult result (λ found. Takes found self.old.tree self.new image map.now given) (Contains (tree_damages self.old.tree image map.now)) }
+        ensures takes { (image : Image) (given : List ReiserItem) → Walks self.old image map.now given →
+            MatchResult result (λ found. TakesPointer found self.old.tree self.new image map.now given) (Contains (tree_damages self.old.tree image map.now)) }
         ensures rules { IfErr result IsTreeRefusal }
         ensures done { IfOk result (λ found. IfNone found (IsDone self.new)) }
         ensures again { IsDone self.old → result ≡ Ok None }
@@ -137,8 +135,8 @@ impl Walker {
         ensures tree { self.new.tree ≡ self.old.tree }
         ensures size { block_count self.new ≡ block_count self.old }
         ensures spent { self.new.spent ≡ self.old.spent }
-        ensures moves { OverTold S.tells (S.blocks src.old) (λ image. (given : List Item) → Walks self.old image map.now given →
-            MatchResult result (λ more. Moves more self.old.tree self.new image map.now given) (Blames self.old.tree image map.now)) }
+        ensures moves { OverTold S.tells (S.blocks src.old) (λ image. (given : List ReiserItem) → Walks self.old image map.now given →
+            MatchResult result (λ more. Moves more self.old.tree self.new image map.now given) (BlamesDamage self.old.tree image map.now)) }
         ensures ends { IfOk result (λ more. IsTrue more → fuel self.new < fuel self.old) }
         ensures done { IfOk result (λ more. (more ≡ false) → IsDone self.new) }
         ensures again { IsDone self.old → (result ≡ Ok false) × (src.new ≡ src.old) }
@@ -191,7 +189,7 @@ impl Walker {
     fn take_item(&mut self, map: &Bitmap) -> Result<(), VolumeRefusal>
         requires left { 0 < self.old.leaf.at.left }
         requires same { block_count self.old ≡ length map.now }
-        ensures comes { (image : Image) (given : List Item) → Walks self.old image map.now given →
+        ensures comes { (image : Image) (given : List ReiserItem) → Walks self.old image map.now given →
             MatchResult result (λ _. Comes true self.old.tree self.new image map.now given) (Contains (tree_damages self.old.tree image map.now)) }
         ensures stands { OnOk result (HasItem self.new) }
         ensures ends { OnOk result (fuel self.new < fuel self.old) }
@@ -216,7 +214,7 @@ impl Walker {
             Err(e) => return Err(e),
         }
         self.last = Some(head);
-        self.leaf.at = Place {
+        self.leaf.at = NodeCursor {
             next: self.leaf.at.next + 1,
             left: self.leaf.at.left - 1,
         };
@@ -237,8 +235,8 @@ impl Walker {
         ensures ends { IfOk result (λ more. IsTrue more → fuel self.new < fuel self.old) }
         ensures done { IfOk result (λ more. (more ≡ false) → IsDone self.new) }
         ensures again { IsDone self.old → (result ≡ Ok false) × (src.new ≡ src.old) }
-        ensures comes { OverTold S.tells (S.blocks src.old) (λ image. (given : List Item) → Walks self.old image map.now given →
-            MatchResult result (λ more. Comes more self.old.tree self.new image map.now given) (Blames self.old.tree image map.now)) }
+        ensures comes { OverTold S.tells (S.blocks src.old) (λ image. (given : List ReiserItem) → Walks self.old image map.now given →
+            MatchResult result (λ more. Comes more self.old.tree self.new image map.now given) (BlamesDamage self.old.tree image map.now)) }
     {
         while self.leaf.at.left == 0 {
             match self.descend(src, map) {
@@ -274,8 +272,8 @@ impl Walker {
         ensures ends { IfOk result (λ more. IsTrue more → fuel self.new < fuel self.old) }
         ensures done { IfOk result (λ more. (more ≡ false) → IsDone self.new) }
         ensures again { IsDone self.old → (result ≡ Ok false) × (src.new ≡ src.old) }
-        ensures comes { OverTold S.tells (S.blocks src.old) (λ image. (given : List Item) → Walks self.old image map.now given →
-            MatchResult result (λ more. Comes more self.old.tree self.new image map.now given) (Blames self.old.tree image map.now)) }
+        ensures comes { OverTold S.tells (S.blocks src.old) (λ image. (given : List ReiserItem) → Walks self.old image map.now given →
+            MatchResult result (λ more. Comes more self.old.tree self.new image map.now given) (BlamesDamage self.old.tree image map.now)) }
     {
         match self.step(src, map) {
             Ok(more) => Ok(more),

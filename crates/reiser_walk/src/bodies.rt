@@ -3,9 +3,7 @@ ghost use Rattle.reiser_walk.specs.Bodies.{fits_kind, is_save_link, is_body};
 ghost use Rattle.reiser_walk.specs.Rules.{is_above};
 
 use reiser_items::{ItemHead, ItemKind, Pointers, StatData, key_order};
-
-/// The number of the directory that save links have.
-const SAVE_LINKS: u32 = 0xFFFF_FFFF;
+use reiserfs_format::key::MAX_KEY_OBJECTID;
 
 /// The greatest offset of an item.
 const MAX_OFFSET: u64 = 1 << 45;
@@ -14,7 +12,7 @@ const MAX_OFFSET: u64 = 1 << 45;
 pub fn is_save_link(head: &ItemHead) -> bool
     ensures { result ≡ is_save_link head.now }
 {
-    head.dir == SAVE_LINKS
+    head.dir == MAX_KEY_OBJECTID
 }
 
 /// Whether the offset and the body fit the kind.

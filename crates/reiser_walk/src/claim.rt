@@ -3,24 +3,24 @@ ghost use Rattle.reiser_walk.specs.Bodies.{is_body};
 ghost use Rattle.reiser_walk.specs.Items.{blocks_named, held_by, is_no_hole};
 ghost use Rattle.reiser_walk.specs.Rules.{reach_damage, reach_damages};
 ghost use Rattle.reiser_walk.specs.Answers.{IsTreeRefusal};
-ghost use Rattle.reiser_walk.specs.Marks.{Marks, Claims, seen_after, unmarked};
+ghost use Rattle.reiser_walk.specs.Marks.{MarksSeen, Claims, seen_after, unmarked};
 
+use crate::block_pointer::BlockPointer;
 use crate::bodies::is_save_link;
-use crate::pointer::Pointer;
-use crate::tree::Tree;
+use crate::reiser_tree::ReiserTree;
 use reiser_bitmap::{Bitmap, Rule, VolumeRefusal, is_system};
 use reiser_items::{BlockNo, ItemHead, ItemKind, Pointers};
 
 /// Marks a block as reached, if it may be.
 pub fn claim(
     reached: &mut Bitmap,
-    tree: &Tree,
+    tree: &ReiserTree,
     map: &Bitmap,
-    pointer: Pointer,
+    pointer: BlockPointer,
 ) -> Result<(), VolumeRefusal>
     requires same { length reached.old ≡ length map.now }
     ensures size { length reached.new ≡ length reached.old }
-    ensures claimed { (seen : List ℕ) → Marks reached.old seen → Claims (reach_damage tree.now map.now seen pointer) reached.new (pointer.block ∷ seen) result }
+    ensures claimed { (seen : List ℕ) → MarksSeen reached.old seen → Claims (reach_damage tree.now map.now seen pointer) reached.new (pointer.block ∷ seen) result }
     ensures rules { IfErr result IsTreeRefusal }
     ensures within { OnOk result (pointer.block < length map.now) }
     ensures no_more { unmarked reached.new ≤ unmarked reached.old }
@@ -52,13 +52,13 @@ pub fn claim(
 /// The same of a pointer that may be a hole.
 fn claim_unless_hole(
     reached: &mut Bitmap,
-    tree: &Tree,
+    tree: &ReiserTree,
     map: &Bitmap,
-    pointer: Pointer,
+    pointer: BlockPointer,
 ) -> Result<(), VolumeRefusal>
     requires same { length reached.old ≡ length map.now }
     ensures size { length reached.new ≡ length reached.old }
-    ensures claimed { (seen : List ℕ) → Marks reached.old seen →
+    ensures claimed { (seen : List ℕ) → MarksSeen reached.old seen →
         Claims (reach_damages tree.now map.now seen (held_by pointer.holder (filter is_no_hole (pointer.block ∷ [])))) reached.new
         (seen_after seen (held_by pointer.holder (filter is_no_hole (pointer.block ∷ [])))) result }
     ensures rules { IfErr result IsTreeRefusal }
@@ -73,14 +73,14 @@ fn claim_unless_hole(
 /// Marks the blocks of a list of pointers.
 fn claim_all(
     reached: &mut Bitmap,
-    tree: &Tree,
+    tree: &ReiserTree,
     map: &Bitmap,
     blocks: &Pointers<'_>,
     holder: BlockNo,
 ) -> Result<(), VolumeRefusal>
     requires same { length reached.old ≡ length map.now }
     ensures size { length reached.new ≡ length reached.old }
-    ensures claimed { (seen : List ℕ) → Marks reached.old seen →
+    ensures claimed { (seen : List ℕ) → MarksSeen reached.old seen →
         Claims (reach_damages tree.now map.now seen (held_by holder (filter is_no_hole blocks.now))) reached.new
         (seen_after seen (held_by holder (filter is_no_hole blocks.now))) result }
     ensures rules { IfErr result IsTreeRefusal }
@@ -88,7 +88,7 @@ fn claim_all(
 {
     for i in 0..blocks.len() {
         let block = blocks.get(i) as u64;
-        match claim_unless_hole(reached, tree, map, Pointer { block, holder }) {
+        match claim_unless_hole(reached, tree, map, BlockPointer { block, holder }) {
             Ok(()) => {}
             Err(e) => return Err(e),
         }
@@ -99,7 +99,7 @@ fn claim_all(
 /// Marks the blocks that an item names, whose body fits its head.
 pub fn claim_named(
     reached: &mut Bitmap,
-    tree: &Tree,
+    tree: &ReiserTree,
     map: &Bitmap,
     head: &ItemHead,
     body: &[u8],
@@ -108,7 +108,7 @@ pub fn claim_named(
     requires same { length reached.old ≡ length map.now }
     requires fits { is_body head.now body.now ≡ true }
     ensures size { length reached.new ≡ length reached.old }
-    ensures claimed { (seen : List ℕ) → Marks reached.old seen →
+    ensures claimed { (seen : List ℕ) → MarksSeen reached.old seen →
         Claims (reach_damages tree.now map.now seen (held_by holder (blocks_named head.now body.now))) reached.new
         (seen_after seen (held_by holder (blocks_named head.now body.now))) result }
     ensures rules { IfErr result IsTreeRefusal }

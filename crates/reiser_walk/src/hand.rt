@@ -1,12 +1,12 @@
 ghost use Rattle.std.specs.Prelude.{◌≡◌, ◌<◌, ◌+◌};
-ghost use Rattle.reiser_items.specs.reiser_node.Inner.{IsInner, children};
+ghost use Rattle.reiser_items.specs.reiser_node.Inner.{IsInner, pointer_count};
 ghost use Rattle.reiser_items.specs.reiser_node.Leaf.{IsLeaf, level, count};
 
 use reiser_items::{Block, BlockNo};
 
 /// Which items or children of a node are still to come.
 #[derive(Clone, Copy, Debug)]
-pub struct Place {
+pub struct NodeCursor {
     pub next: usize,
     pub left: usize,
 }
@@ -17,7 +17,7 @@ pub struct Place {
 pub struct LeafInHand {
     pub no: BlockNo,
     pub block: Block,
-    pub at: Place,
+    pub at: NodeCursor,
     ghost leaf: { 0 < at.next + at.left → IsLeaf block.bytes },
     ghost all: { 0 < at.next + at.left → at.next + at.left ≡ count block.bytes },
 }
@@ -27,7 +27,7 @@ pub struct LeafInHand {
 pub struct Step {
     pub no: BlockNo,
     pub block: Block,
-    pub at: Place,
+    pub at: NodeCursor,
     ghost inner: { IsInner (level block.bytes) block.bytes },
-    ghost all: { at.next + at.left ≡ children block.bytes },
+    ghost all: { at.next + at.left ≡ pointer_count block.bytes },
 }

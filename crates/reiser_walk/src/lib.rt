@@ -7,15 +7,15 @@
 #![tactic(auto)]
 
 mod advance;
+mod block_pointer;
 mod bodies;
 mod claim;
 mod hand;
 mod laws;
 mod open;
 mod path;
-mod pointer;
+mod reiser_tree;
 mod stats;
-mod tree;
 mod walker;
 
 pub use laws::{sound_trees_keep_rules, walks_are_first_parts};

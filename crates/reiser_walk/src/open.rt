@@ -5,7 +5,7 @@ ghost use Rattle.reiser_walk.specs.Walks.{Opens, level_of};
 ghost use Rattle.reiser_bitmap.specs.refusals.declared.refusal.VolumeRefusal.TheVariants.{Damaged};
 
 use crate::Walker;
-use crate::hand::{Place, Step};
+use crate::hand::{NodeCursor, Step};
 use reiser_bitmap::{Rule, VolumeRefusal};
 use reiser_items::{Block, BlockNo, InnerView, LeafView, u16_at};
 
@@ -21,7 +21,7 @@ impl Walker {
         ensures no { self.new.leaf.no ≡ no }
         ensures at { self.new.leaf.at ≡ record { next = 0; left = 0 } }
     {
-        self.leaf.at = Place { next: 0, left: 0 };
+        self.leaf.at = NodeCursor { next: 0, left: 0 };
         self.leaf.no = no;
     }
 
@@ -63,7 +63,7 @@ impl Walker {
             return Err(off_grammar(self.leaf.no, &self.leaf.block, 1));
         };
         let left = leaf.count();
-        self.leaf.at = Place { next: 0, left };
+        self.leaf.at = NodeCursor { next: 0, left };
         Ok(())
     }
 
@@ -85,7 +85,7 @@ impl Walker {
         self.path.push_reserved(Step {
             no: self.leaf.no,
             block: self.leaf.block,
-            at: Place { next: 0, left },
+            at: NodeCursor { next: 0, left },
         });
         Ok(())
     }

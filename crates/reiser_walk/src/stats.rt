@@ -1,7 +1,7 @@
 ghost use Rattle.std.specs.Prelude.{◌≡◌, ◌≤◌, ◌<◌, ◌^◌, [], false, length, IfOk, IfErr, OnOk};
 ghost use Rattle.reiser_bitmap.specs.outside.Fault.{HasCauseOf};
 ghost use Rattle.reiser_bitmap.specs.outside.History.{OverTold};
-ghost use Rattle.reiser_walk.specs.Answers.{IsTreeAnswer, Blames};
+ghost use Rattle.reiser_walk.specs.Answers.{IsTreeAnswer, BlamesDamage};
 ghost use Rattle.reiser_walk.specs.Rules.{tree_damages};
 ghost use Rattle.reiser_walk.specs.Stats.{is_stat_kind, stat_count};
 ghost use Rattle.reiser_walk.specs.Walks.{Walks, block_count};
@@ -29,7 +29,7 @@ pub fn count_stats<S: BlockSource>(
     ensures count { OverTold S.tells (S.blocks src.old) (λ image. Walks walker.old image map.now [] →
         IfOk result (λ n. n ≡ stat_count walker.old.tree image (length map.now))) }
     ensures sound { OverTold S.tells (S.blocks src.old) (λ image. Walks walker.old image map.now [] → OnOk result (tree_damages walker.old.tree image map.now ≡ [])) }
-    ensures damage { OverTold S.tells (S.blocks src.old) (λ image. Walks walker.old image map.now [] → IfErr result (Blames walker.old.tree image map.now)) }
+    ensures damage { OverTold S.tells (S.blocks src.old) (λ image. Walks walker.old image map.now [] → IfErr result (BlamesDamage walker.old.tree image map.now)) }
 {
     let mut count = 0;
     while walker.advance(src, map)? {

@@ -1,7 +1,7 @@
 ghost use Rattle.std.specs.Prelude.{◌≡◌, ◌≤◌, ◌<◌, ◌+◌, ◌^◌, length, vec_capacity};
 
 use crate::hand::{LeafInHand, Step};
-use crate::tree::Tree;
+use crate::reiser_tree::ReiserTree;
 use reiser_bitmap::Bitmap;
 use reiser_items::ItemHead;
 
@@ -11,7 +11,7 @@ use reiser_items::ItemHead;
 /// further items of the tree.
 #[derive(Drop)]
 pub struct Walker {
-    pub(crate) tree: Tree,
+    pub(crate) tree: ReiserTree,
     pub(crate) reached: Bitmap,
     pub(crate) at_start: bool,
     pub(crate) path: Vec<Step>,

@@ -7,8 +7,9 @@ use crate::sentences::{
 use crate::space::Space;
 use crate::start::Missing;
 use crate::wrong_words::find;
-use host_edge::{Call, Cause, Trouble, Use};
+use host_edge::{Cause, DiskCall, Trouble, Use};
 use std::alloc::{AllocError, Global};
+use std::io::ErrorKind;
 use std::str;
 
 /// How a run ended that was not done.
@@ -117,6 +118,9 @@ const SPACE: u64 = 15;
 /// The number of the refusal of a saved image, behind whose word stands the image's own.
 const IMAGE: u64 = 19;
 
+/// What a text on a volume begins with.
+const PATH: &str = "{path}:";
+
 fn tell_refusal(
     alloc: Global,
     text: &mut Paragraph<'_>,
@@ -128,6 +132,7 @@ fn tell_refusal(
         words.push(word)?;
     }
     if let Some(refusal) = Refusal::read(words.as_slice()) {
+        text.say(PATH, &[])?;
         let next = refusal.tell(text, outcome.is_trial)?;
         if refusal.number == IMAGE {
             if let Some(own) = Refusal::read(refusal.numbers) {
@@ -164,19 +169,17 @@ fn tell_line(
         return tell_wrong_words(alloc, text, outcome.words);
     }
     let sentence = of_line(line);
-    let mut next = sentence.next;
-    match (line, outcome.trouble) {
-        ("device fault", Some(trouble)) => {
-            let fault = of_fault(cause(&trouble));
-            if let Cause::System(_) | Cause::Holds(_) = trouble.cause {
-                let reason = format!(in alloc; "The reason: {}.", trouble)?;
-                text.say(reason.as_str(), &[])?;
-            }
-            text.say(fault.means, &[])?;
-            next = fault.next;
-        }
-        _ => text.say(sentence.means, &[])?,
+    if sentence.means.is_empty() {
+        return Ok(());
     }
+    text.say(PATH, &[])?;
+    let next = match (line, outcome.trouble) {
+        ("device fault", Some(trouble)) => tell_fault(alloc, text, &trouble, outcome)?,
+        _ => {
+            text.say(sentence.means, &[])?;
+            sentence.next
+        }
+    };
     text.end()?;
     match line {
         "device fault" => tell_safety(text, written(outcome, "cut"))?,
@@ -185,6 +188,25 @@ fn tell_line(
         _ => {}
     }
     tell_next(text, next, &[])
+}
+
+/// Tells why a call of the device failed, and returns what to do.
+fn tell_fault(
+    alloc: Global,
+    text: &mut Paragraph<'_>,
+    trouble: &Trouble,
+    outcome: &Outcome<'_>,
+) -> Result<&'static str, AllocError> {
+    let case = cause(trouble, outcome.is_trial);
+    if let Cause::System(_) | Cause::Holds(_) = trouble.cause {
+        if case != ABSENT && case != UNTRIED {
+            let reason = format!(in alloc; "{}.", trouble)?;
+            text.say(reason.as_str(), &[])?;
+        }
+    }
+    let fault = of_fault(case);
+    text.say(fault.means, &[])?;
+    Ok(fault.next)
 }
 
 /// Tells what is wrong with words that are no command.
@@ -228,9 +250,18 @@ fn tell_next(text: &mut Paragraph<'_>, next: &str, numbers: &[&str]) -> Result<(
     Ok(())
 }
 
+/// The name, in the table of sentences, of a path where nothing is.
+const ABSENT: &str = "absent";
+
+/// The same of a trial.
+const UNTRIED: &str = "untried";
+
 /// The cause's name in the table of sentences.
-fn cause(trouble: &Trouble) -> &'static str {
+fn cause(trouble: &Trouble, is_trial: bool) -> &'static str {
     match trouble.cause {
+        Cause::System(e) if e.kind() == ErrorKind::NotFound && trouble.call == DiskCall::Open => {
+            if is_trial { UNTRIED } else { ABSENT }
+        }
         Cause::InUse(Use::Mounted) => "mounted",
         Cause::InUse(Use::Swap) => "swap",
         Cause::InUse(Use::Held) => "held",
@@ -240,7 +271,7 @@ fn cause(trouble: &Trouble) -> &'static str {
         Cause::ReadOnly => "readonly",
         Cause::Holds(_) => "holds",
         Cause::Kind => "kind",
-        Cause::System(_) | Cause::Closed if trouble.call == Call::Open => "open",
+        Cause::System(_) | Cause::Closed if trouble.call == DiskCall::Open => "open",
         Cause::System(_) | Cause::Closed => "device",
     }
 }

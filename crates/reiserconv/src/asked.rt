@@ -42,11 +42,12 @@ impl Verb {
     /// What it does with the disk.
     pub fn task(self) -> Task {
         match self {
-            Verb::Inspect | Verb::Recover => Task::Check,
-            Verb::List => Task::ReadAll,
+            Verb::Inspect => Task::Inspect,
+            Verb::List => Task::List,
             Verb::Convert => Task::Convert,
-            Verb::Rollback => Task::WriteBack,
-            Verb::Trial => Task::Try,
+            Verb::Recover => Task::Recover,
+            Verb::Rollback => Task::Rollback,
+            Verb::Trial => Task::Trial,
         }
     }
 }
@@ -101,7 +102,7 @@ impl<'a> Asked<'a> {
     pub fn task(&self) -> Task {
         match self.verb {
             Some(verb) => verb.task(),
-            None => Task::Check,
+            None => Task::Inspect,
         }
     }
 

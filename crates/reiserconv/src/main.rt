@@ -13,6 +13,7 @@ mod nearest;
 mod notices;
 mod options;
 mod paragraph;
+mod question;
 mod sentences;
 mod shell;
 mod sizes;
@@ -23,11 +24,12 @@ mod wrong_words;
 
 use asked::Asked;
 use host_edge::{FileDisk, LineSink, Sink, StatusLine, StdSink, hold_streams};
+use question::is_confirmed;
 use sizes::best_size;
 use start::{Missing, Start};
 use std::env::Env;
 use std::fs::{File, Files};
-use std::io::Write;
+use std::io::{Stdin, Write};
 use std::process::ExitCode;
 use std::random::RandomSource;
 use std::time::Clock;
@@ -37,13 +39,16 @@ use volume_app::run;
 /// The status where the arguments, the clock or the random source failed.
 const START_FAULT: u8 = 7;
 
+/// The status where a person did not confirm what was asked for.
+const NOT_CONFIRMED: u8 = 1;
+
 fn main(rt: HostRuntime) -> ExitCode {
     let start = begin(&rt);
     let shown = StatusLine::new(rt.stderr(), &rt);
     let mut err = LineSink::new(StdSink::new(rt.stderr(), &shown));
     let mut out = LineSink::new(StdSink::new(rt.stdout(), &shown));
     let status = match start {
-        Ok(start) => serve(&rt, &start, &shown, &mut out, &mut err),
+        Ok(start) => serve(&rt, &start, &shown, rt.stdin(), &mut out, &mut err),
         Err(missing) => {
             let _ = err.write(b"start fault\n");
             tell_start(rt.alloc(), missing, &shown, &mut err);
@@ -63,7 +68,7 @@ fn begin<R: Env + Clock + RandomSource + Files<File = File> + AllocGlobal>(
     Start::new(rt)
 }
 
-/// Does what the words ask for, tells of it, and answers the status.
+/// Does what the words ask for, if it is to be done, and answers the status.
 fn serve<
     R: Files<File = File> + AllocGlobal + Clock + Copy + Drop,
     O: Write + Drop,
@@ -72,18 +77,21 @@ fn serve<
     rt: R,
     start: &Start,
     shown: &StatusLine,
+    keyboard: Stdin,
     out: &mut LineSink<'_, O>,
     err: &mut LineSink<'_, W>,
 ) -> u8 {
-    let alloc = rt.alloc();
     let asked = Asked::new(&start.words);
-    let talk = Talk::new(alloc, &start.words, asked, shown);
+    if !is_confirmed(&rt, &asked, shown, keyboard, err) {
+        return NOT_CONFIRMED;
+    }
+    let talk = Talk::new(rt.alloc(), &start.words, asked, shown);
     if let Some(talk) = &talk {
         talk.begin(shown, err);
     }
     let mut disk = disk_for(rt, shown, &asked);
     let status = run(
-        alloc,
+        rt.alloc(),
         &start.words,
         start.ids,
         start.now,
@@ -98,14 +106,31 @@ fn serve<
             trouble: disk.trouble(),
             wrote: disk.written() > 0,
         };
-        let best = match talk.lacks_space(status, out) {
-            Some(size) => best_size(rt, start, size, shown),
-            None => None,
-        };
-        shown.wipe();
-        talk.end(&ended, best.as_ref(), out, err);
+        tell_end(rt, start, talk, &ended, shown, out, err);
     }
     status
+}
+
+/// Tells what the lines of a run mean that ended so.
+fn tell_end<
+    R: Files<File = File> + AllocGlobal + Clock + Copy + Drop,
+    O: Write + Drop,
+    W: Write + Drop,
+>(
+    rt: R,
+    start: &Start,
+    talk: &Talk<'_>,
+    ended: &Ended,
+    shown: &StatusLine,
+    out: &LineSink<'_, O>,
+    err: &mut LineSink<'_, W>,
+) {
+    let best = match talk.lacks_space(ended.status, out) {
+        Some(size) => best_size(rt, start, size, shown),
+        None => None,
+    };
+    shown.wipe();
+    talk.end(ended, best.as_ref(), out, err);
 }
 
 /// The disk of a run. That of a trial is to be overwritten.

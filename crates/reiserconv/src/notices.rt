@@ -30,11 +30,12 @@ pub fn before(alloc: Global, asked: &Asked<'_>, path: &str) -> Result<String, Al
 }
 
 /// What comes behind a conversion, each a paragraph.
-const CONVERTED: [&str; 4] = [
+const CONVERTED: [&str; 5] = [
     "{path} is a Btrfs volume now. The old one is the file 'reiserfs_saved/image' in it.",
     "What comes next: 'btrfs check --readonly {path}' has to find nothing. The first time, mount it with 'mount -t btrfs -o space_cache=v2 {path} /mnt'.",
     "If /etc/fstab names the volume, change its line: the type is 'btrfs', options that only ReiserFS has go, and the last two fields are '0 0'. If the line names the UUID, 'blkid {path}' shows the one that it has now.",
-    "To go back, unmount it and run 'reiserconv rollback {path}': then it is as it was, without what was written since. Keep the image for as long as you may want that, and don't balance, defragment, shrink, deduplicate or compress the volume. When you are sure that all is well, 'btrfs subvolume delete /mnt/reiserfs_saved' and then 'btrfs filesystem sync /mnt' free the space of the image. From then on nothing leads back.",
+    "To go back, unmount it and run 'reiserconv rollback {path}': then it is as it was, without what was written since. Keep the image for as long as you may want that. What closes the way back: a balance of data, a smaller size that moves blocks of the image, RAID, another device, and to delete the image or to move it into another folder.",
+    "When you are sure that all is well, 'btrfs subvolume delete -c /mnt/reiserfs_saved', then 'btrfs subvolume sync /mnt' and then 'btrfs filesystem sync /mnt' free the space of the image. From then on nothing leads back.",
 ];
 
 const ROLLED_BACK: &str =

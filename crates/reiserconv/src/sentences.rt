@@ -66,7 +66,7 @@ pub fn of_refusal(number: u64) -> Sentence {
         },
         14 => Sentence {
             means: "The volume was not unmounted, and a log waits to be replayed, at the address {1}.",
-            next: "Mount it in Linux and unmount it.",
+            next: "Mount it in Linux once, and unmount it. The way back stays open.",
         },
         15 => Sentence {
             means: "A conversion needs {1} free units of 1 MiB, with {3} in one row. Of units that are free as a whole there are {2}, with {4} in the longest row.",
@@ -78,11 +78,11 @@ pub fn of_refusal(number: u64) -> Sentence {
         },
         17 => Sentence {
             means: "There is no file 'image' in a subvolume 'reiserfs_saved' of the root, so that there is nothing to go back to.",
-            next: "If you have renamed or moved them, give them their names and places back. If they were removed, stay with Btrfs, or copy your files to a new volume.",
+            next: "If you have renamed or moved them, give them their names and places back: the way back is open again then. If they were removed, nothing leads back: stay with Btrfs, or copy your files to a new volume.",
         },
         18 => Sentence {
-            means: "Block {1} of the old volume no longer lies where it lay. A balance, a defragmentation, a deduplication or a smaller size moves blocks.",
-            next: "Stay with Btrfs, or copy your files to a new volume. The old volume can still be read: the file 'image' is one, if no other number is wrong with it.",
+            means: "Block {1} of the old volume no longer lies where it lay. A balance of data moves blocks, as do a smaller size, and a defragmentation or a deduplication of the file 'image' itself.",
+            next: "Nothing leads back any more. Stay with Btrfs, or copy your files to a new volume. The old volume can still be read: the file 'image' is one, if no other number is wrong with it.",
         },
         19 => Sentence {
             means: "The old volume in the file 'image' is refused. Somebody has written to the file, or a block of it is damaged.",
@@ -91,6 +91,14 @@ pub fn of_refusal(number: u64) -> Sentence {
         20 => Sentence {
             means: "Block {1}, which the old volume needs back, is used by Btrfs.",
             next: "Stay with Btrfs, or copy your files to a new volume.",
+        },
+        21 => Sentence {
+            means: "The volume is not sound: part {1} of what a sound volume is does not hold at {2}.",
+            next: "Run 'btrfs check --readonly {path}'.",
+        },
+        22 => Sentence {
+            means: "The subvolume with the saved image is shared with tree {1}, and is not removed.",
+            next: "Remove the snapshots and entries that name it, and make another subvolume the default one.",
         },
         _ => NOTHING,
     }
@@ -286,18 +294,22 @@ pub fn of_feature(number: u64) -> Sentence {
         },
         15 => Sentence {
             means: "The Btrfs volume has more devices than one.",
-            next: "",
+            next: "Take the others out with 'btrfs device remove'. The way back is open again then, if no block of the old volume was moved.",
         },
         16 => Sentence {
-            means: "Chunks are kept twice, or spread over devices.",
-            next: "Make them single with 'btrfs balance start -f -dconvert=single -mconvert=single -sconvert=single', which closes the way back.",
+            means: "Chunks are mixed, or spread over devices.",
+            next: "Where only metadata is kept so, 'btrfs balance start -f -mconvert=single -sconvert=single /mnt/disk', without '-dconvert', makes it single and keeps the way back open. Data takes '-dconvert=single' too, which moves it and closes the way back.",
         },
         17 => Sentence {
-            means: "A file is compressed.",
-            next: "",
+            means: "A file is compressed, and its bytes can't be listed.",
+            next: "It is not in the way of 'rollback', unless it is the file 'image' itself.",
         },
         18 => Sentence {
             means: "A file is encrypted.",
+            next: "",
+        },
+        19 => Sentence {
+            means: "The Btrfs volume can't be changed once more: its generation is the highest that there is.",
             next: "",
         },
         _ => NOTHING,
@@ -310,6 +322,10 @@ pub fn of_line(line: &str) -> Sentence {
         "usage: .." => Sentence {
             means: "The arguments are invalid, and nothing was opened.",
             next: "'reiserconv --help' has the commands and their options.",
+        },
+        "not confirmed" => Sentence {
+            means: "The answer was not 'yes'. Nothing was opened for writing, and the volume stays as it is.",
+            next: "",
         },
         "device fault" => Sentence {
             means: "A call of the system failed, or the device is in use, is read-only, or holds what a trial would overwrite.",
@@ -335,8 +351,16 @@ pub fn of_line(line: &str) -> Sentence {
 pub fn of_fault(cause: &str) -> Sentence {
     match cause {
         "open" => Sentence {
-            means: "It could not be opened: it is not there, for example, or you may not open it.",
-            next: "See whether the path is right ('lsblk'). A device is opened by root alone.",
+            means: "It could not be opened: you may not open it, for example.",
+            next: "A device is opened by root alone. See whether the path is right ('lsblk').",
+        },
+        "absent" => Sentence {
+            means: "Nothing is there.",
+            next: "See whether the path is right: 'lsblk' lists the devices.",
+        },
+        "untried" => Sentence {
+            means: "Nothing is there, and a trial makes no file.",
+            next: "Make one with 'truncate -s 256M {path}', or give a file or a device of that size which holds nothing.",
         },
         "kind" => Sentence {
             means: "It is neither a plain file nor a block device.",
@@ -344,7 +368,7 @@ pub fn of_fault(cause: &str) -> Sentence {
         },
         "mounted" => Sentence {
             means: "It is mounted, or one of its partitions or the disk that it lies on is.",
-            next: "Unmount it with 'umount'; 'findmnt' shows what is mounted where. The volume that the system runs from is converted from a rescue system.",
+            next: "Unmount it with 'umount'; 'findmnt' shows what is mounted where. Where it shows nothing, another name space has it mounted, as that of a container: 'grep -l {path} /proc/*/mountinfo' names the processes that see the mount. The volume that the system runs from is converted from a rescue system.",
         },
         "swap" => Sentence {
             means: "It is swap space, or one of its partitions or the disk that it lies on is.",

@@ -3,7 +3,7 @@ use crate::asked::Asked;
 use crate::disk_for;
 use crate::space::Space;
 use crate::start::Start;
-use host_edge::{LineSink, StatusLine, StdSink};
+use host_edge::{LineSink, StatusLine, StdSink, Task};
 use std::alloc::{AllocError, Global};
 use std::fs::{File, Files};
 use std::str;
@@ -32,11 +32,14 @@ pub fn best_size<R: Files<File = File> + AllocGlobal + Clock + Copy + Drop>(
     shown: &StatusLine,
 ) -> Option<Counted> {
     let mut best: Option<Counted> = None;
+    let mut time = 0_u64;
+    let of = if SIZES.contains(&asked_size) { 2 } else { 3 };
     for size in SIZES {
         if size != asked_size {
-            if let Some(space) = count(rt, start, size, shown) {
+            if let Some(space) = count(rt, start, size, shown, Task::InspectAgain { time, of }) {
                 best = Some(better(best, Counted { size, space }));
             }
+            time = time.saturating_add(1);
         }
     }
     best
@@ -50,18 +53,20 @@ fn better(best: Option<Counted>, other: Counted) -> Counted {
     }
 }
 
-/// The space that `inspect` counts with nodes of this size, by a further look at the volume.
+/// The space that `inspect` counts with nodes of this size, by a further look at the volume, which is told as this task.
 fn count<R: Files<File = File> + AllocGlobal + Clock + Copy + Drop>(
     rt: R,
     start: &Start,
     size: &str,
     shown: &StatusLine,
+    task: Task,
 ) -> Option<Space> {
     let alloc = rt.alloc();
     let words = words_with(alloc, &start.words, size).ok()?;
     let mut out = LineSink::new(StdSink::new(Vec::new(alloc), shown));
     let mut err = LineSink::new(StdSink::new(Vec::new(alloc), shown));
     let mut disk = disk_for(rt, shown, &Asked::new(&words));
+    disk.expect(task);
     let status = run(
         alloc, &words, start.ids, start.now, &mut disk, &mut out, &mut err,
     );

@@ -97,10 +97,21 @@ impl Space {
         if size != USUAL_SIZE {
             text.say(WITH_SIZE, &[size])?;
         }
-        if self.units.saturating_sub(self.needed) < GOOD_TO_SPARE {
+        self.tell_if_tight(text)?;
+        text.end()
+    }
+
+    /// How many free units a conversion leaves.
+    fn spare(&self) -> u64 {
+        self.units.saturating_sub(self.needed)
+    }
+
+    /// Tells where a conversion leaves too little for Linux to write.
+    fn tell_if_tight(&self, text: &mut Paragraph<'_>) -> Result<(), AllocError> {
+        if self.spare() < GOOD_TO_SPARE {
             text.say(HARDLY, &[])?;
         }
-        text.end()
+        Ok(())
     }
 
     /// Tells what helps where the space does not suffice. The size and the best count are as for `tell`.
@@ -138,12 +149,12 @@ impl Space {
             return text.say(NO_OTHER_NODES, &other_sizes(size));
         }
         let needed = decimal(alloc, best.space.needed)?;
-        let sentence = if best.space.suffices() {
-            BETTER_NODES
-        } else {
-            SMALLER_NEED
-        };
-        text.say(sentence, &[best.size, needed.as_str()])
+        if !best.space.suffices() {
+            return text.say(SMALLER_NEED, &[best.size, needed.as_str()]);
+        }
+        let spare = decimal(alloc, best.space.spare())?;
+        text.say(BETTER_NODES, &[best.size, needed.as_str(), spare.as_str()])?;
+        best.space.tell_if_tight(text)
     }
 }
 
@@ -173,7 +184,7 @@ const OTHER_NODES: &str =
     "Nodes of another size may need less: 'reiserconv inspect --nodesize {1} {path}' and the same with {2} tell how much.";
 
 const BETTER_NODES: &str =
-    "Or take nodes of {1} bytes, which need {2} units: 'reiserconv convert --nodesize {1} {path}'.";
+    "Or take nodes of {1} bytes, which need {2} units, so that {3} MiB are to spare: 'reiserconv convert --nodesize {1} {path}'.";
 
 const SMALLER_NEED: &str =
     "Nodes of {1} bytes need fewer units, {2} ('--nodesize {1}'), which alone does not suffice.";
@@ -206,7 +217,7 @@ impl Numbers {
         Ok(Numbers {
             units: decimal(alloc, space.units)?,
             needed: decimal(alloc, space.needed)?,
-            spare: decimal(alloc, space.units.saturating_sub(space.needed))?,
+            spare: decimal(alloc, space.spare())?,
             run: decimal(alloc, space.run)?,
             missing: decimal(alloc, missing)?,
             larger: decimal(alloc, missing.saturating_add(GOOD_TO_SPARE))?,

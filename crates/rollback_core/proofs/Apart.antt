@@ -1,27 +1,12 @@
 -- Where some blocks are not in use, no part of the volume lies there.
-use Rattle.std.proofs.Common.{◌≡◌, inr, ℕ, ◌/◌, eqb, nat_lt, Bool, true, false, not, ◌&&◌, List, Contains, Option, Some, None, refl, ◌∙◌, ap, subst, if◌then◌else◌}
-use Rattle.std.specs.Option.{option_and_then}
-use Rattle.std.proofs.lemmas.Bool.{and_parts}
-use Rattle.reiser_bitmap.specs.outside.History.{Image}
+use Rattle.rollback_core.proofs.Imports.{◌≡◌, inr, ℕ, ◌/◌, eqb, nat_lt, Bool, true, false, not, ◌&&◌, List, Contains, Option, Some, None, refl, ◌∙◌, ap, subst, if◌then◌else◌, option_and_then, and_parts, FS_TREE, Image, ImageFile, file_block, image_place, items_at, saved_image, tree_of, IsReadable, SavedImage, own_map, own_super, Super, TreeItem, MapRange, Tree, AreExtentsApart, IsVolumeApart, is_spare, from_filter, IsInUse, IsReservedFree, content_range, file_part, file_trees, item_range, extents_apart, file_tree_among, saved_tree_among, is_reserved, UnusedBlocksLieApart}
+use Rattle.btrfs_format.specs.declared.key.TheConstants.{EXTENT_DATA}
 use Rattle.btr_reader.specs.btr_reader_contents.Extents.{extents_of, is_extent_of}
 use Rattle.btr_reader.specs.btr_keys.FileExtent.{FileExtentValue, file_extent_of}
-use Rattle.btr_reader.specs.Image.{ImageFile, file_block, image_place, items_at, saved_image}
-use Rattle.btr_reader.specs.Opening.{tree_of}
-use Rattle.btr_reader.specs.Parts.{IsReadable, SavedImage, own_map, own_super}
-use Rattle.btr_super.specs.declared.superblock.Super.{Super}
-use Rattle.btr_reader.specs.btr_reader_walk.Events.{TreeItem}
 use Rattle.btr_reader.specs.btr_reader_walk.Walks.{found}
-use Rattle.btr_reader.specs.btr_reader_walk.declared.map.MapRange.{MapRange}
-use Rattle.btr_reader.specs.btr_reader_walk.declared.tree.Tree.{Tree}
 use Rattle.volume_state.proofs.Placed.{has_block, no_some}
 use Rattle.volume_state.proofs.Reaching.{reached}
-use Rattle.btr_reader.specs.Apart.{AreExtentsApart, IsVolumeApart, is_spare}
-use Rattle.reiser_volume.proofs.fs_paths.Lists.{from_filter}
-use Rattle.volume_state.specs.Using.{IsInUse, IsReservedFree, content_range, file_part, file_trees, item_range}
-use Rattle.volume_state.proofs.Apart.{extents_apart, file_tree_among, saved_tree_among}
-use Rattle.reiser_bitmap.specs.vol_block.Volume.{is_reserved}
 use Rattle.reiser_bitmap.proofs.vol_block.Reserved.{decides_reserved}
-use Rattle.rollback_core.specs.SavedLaws.{UnusedBlocksLieApart}
 use Rattle.rollback_core.proofs.Trees.{AreTreesApart, of_use}
 
 when_below : (t : Bool) (o : Option ℕ) (at : ℕ) → (if t then o else None) ≡ Some at → o ≡ Some at
@@ -43,7 +28,7 @@ module _ (disk : Image) (readable : IsReadable disk SavedImage) where
       let items : List TreeItem = items_at disk s ranges way.number way.q in
       let among : Contains (extents_of items way.ino) has.item = subst (λ (extents : List TreeItem). Contains extents has.item) way.extents has.among in
       let from = from_filter (is_extent_of way.ino) items has.item among in
-      let kind : eqb has.item.key.kind 108 ≡ true = (and_parts (eqb has.item.key.objectid way.ino) (eqb has.item.key.kind 108) from.1).1 in
+      let kind : eqb has.item.key.kind EXTENT_DATA ≡ true = (and_parts (eqb has.item.key.objectid way.ino) (eqb has.item.key.kind EXTENT_DATA) from.1).1 in
       let range : item_range has.item ≡ Some has.range =
       ap (λ (t : Bool). if t then option_and_then (λ x. content_range x.content) (file_extent_of has.item.body) else None) kind
       ∙ (ap (λ (o : Option FileExtentValue). option_and_then (λ x. content_range x.content) o) has.read
@@ -67,7 +52,7 @@ module _ (disk : Image) (readable : IsReadable disk SavedImage) where
       chunks = trees.chunks;
       roots = trees.roots;
       files = trees.files;
-      extents = λ p root. extents (tree_of s 5 p) (file_tree_among disk p root);
+      extents = λ p root. extents (tree_of s FS_TREE p) (file_tree_among disk p root);
       saved = trees.saved;
       blocks = λ f b at is placed. unused at (image_in_use f b at is placed);
     }

@@ -1,25 +1,5 @@
 -- What is prepared stands on the disk as the old volume.
-use Rattle.std.proofs.Common.{◌≡◌, ◌≢◌, ◌⊎◌, inl, inr, ⊎_elim, ℕ, zero, suc, ◌<◌, ◌≤◌, eqb, Bool, true, false, not, ◌&&◌, List, [], ◌∷◌, length, map, get_or, Contains, filter, Option, refl, sym, ◌∙◌, ap, subst, arith, true≢false}
-use Rattle.std.proofs.lemmas.Bool.{and_parts, cases_lt}
-use Rattle.std.proofs.lemmas.Bool.Decides.{nat_tests}
-use Rattle.reiser_volume.proofs.fs_paths.Lists.{from_filter, from_map, in_filter, in_map}
-use Rattle.reiser_bitmap.proofs.MoreLaws.{used_had}
-use Rattle.reiser_bitmap.specs.Bits.{has, used_blocks}
-use Rattle.reiser_bitmap.specs.outside.History.{Image, block_at}
-use Rattle.reiser_bitmap.specs.vol_block.Volume.{is_reserved}
-use Rattle.convert_steps.specs.Switch.{IsMirror}
-use Rattle.volume_state.specs.Moved.{IsOld}
-use Rattle.volume_state.specs.Saved.{block_or_hole, image_blocks}
-use Rattle.volume_state.proofs.Images.{image_block}
-use Rattle.reiser_bitmap.proofs.SystemBlocks.{superblock_in}
-use Rattle.reiser_volume.proofs.Holding.{used_length}
-use Rattle.reiser_volume.specs.Volume.{superblock}
-use Rattle.volume_state.specs.Untouched.{IsUntouched, old_used}
-use Rattle.rollback_core.specs.Prepared.{IsPrepared}
-use Rattle.rollback_core.specs.RolledBack.{IsBack, IsRestored, IsRolledBack, IsStanding, is_wiped, restored_blocks}
-use Rattle.rollback_core.specs.Writing.{AreApart, AreWiped, IsPlace, IsTurned, IsUnturned, IsWiped}
-use Rattle.rollback_core.specs.declared.way.Saved.{Saved}
-use Rattle.rollback_core.specs.declared.way.WayBack.{WayBack}
+use Rattle.rollback_core.proofs.Imports.{◌≡◌, ◌≢◌, ◌⊎◌, inl, inr, ⊎_elim, ℕ, zero, suc, ◌<◌, ◌≤◌, eqb, Bool, true, false, not, ◌&&◌, List, [], ◌∷◌, length, map, get_or, Contains, filter, Option, refl, sym, ◌∙◌, ap, subst, arith, true≢false, and_parts, cases_lt, nat_tests, from_filter, from_map, in_filter, in_map, used_had, has, used_blocks, Image, block_at, is_reserved, IsMirror, IsOld, block_or_hole, image_blocks, image_block, superblock_in, used_length, superblock, CanGoBack, old_used, IsWayBack, IsBack, IsRestored, IsRolledBack, StillStands, is_wiped, restored_blocks, AreWritesApart, AreWiped, IsSavedPlace, IsTurned, IsUnturned, IsWiped, Saved, WayBack}
 
 abbrev other_than : ℕ → Bool
 other_than b = not (eqb b 16)
@@ -41,19 +21,19 @@ has_within (x ∷ set) zero h = omega arith
 has_within (x ∷ set) (suc b) h = omega (arith, has_within set b h)
 
 -- a used block of the old volume is one of its image
-pub used_below : (disk : Image) → IsUntouched disk → (b : ℕ) → has (old_used disk) b ≡ true → b < length (image_blocks disk)
-used_below disk untouched b marked =
+pub used_below : (disk : Image) → CanGoBack disk → (b : ℕ) → has (old_used disk) b ≡ true → b < length (image_blocks disk)
+used_below disk can b marked =
     let within = has_within (old_used disk) b marked in
     let long = used_length (image_blocks disk) in
-    let fits = untouched.accepted.clean.superblock.fits in
+    let fits = can.accepted.clean.superblock.fits in
     omega (arith, within, long, fits)
 
 -- and where it is not reserved it is that of the disk
-image_in_place : (disk : Image) → IsUntouched disk → (b : ℕ) → IsOld (old_used disk) b → block_at (image_blocks disk) b ≡ block_at disk b
-image_in_place disk untouched b old =
-    image_block disk b (used_below disk untouched b old.marked) ∙ ap (λ (o : Option ℕ). block_or_hole disk o) (untouched.in_place b old)
+image_in_place : (disk : Image) → CanGoBack disk → (b : ℕ) → IsOld (old_used disk) b → block_at (image_blocks disk) b ≡ block_at disk b
+image_in_place disk can b old =
+    image_block disk b (used_below disk can b old.marked) ∙ ap (λ (o : Option ℕ). block_or_hole disk o) (can.in_place b old)
 
-module _ (disk : Image) (way : WayBack) (p : IsPrepared disk way) where
+module _ (disk : Image) (way : WayBack) (p : IsWayBack disk way) where
   abbrev used : List Bool
   used = old_used disk
 
@@ -61,13 +41,13 @@ module _ (disk : Image) (way : WayBack) (p : IsPrepared disk way) where
   reserved_here b = is_reserved b (length used)
 
   -- a place is one of the restored blocks, and not block 16
-  place_listed : (b : ℕ) → IsPlace way.reserved.items b → Contains (filter other_than (restored_blocks disk)) b
+  place_listed : (b : ℕ) → IsSavedPlace way.reserved.items b → Contains (filter other_than (restored_blocks disk)) b
   place_listed b at =
       let s : Saved = at.1 in
       subst (λ (numbers : List ℕ). Contains numbers b) p.reserved.numbers_are
       (subst (Contains (map (λ (t : Saved). t.at) way.reserved.items)) (sym at.4) (in_map (λ (t : Saved). t.at) way.reserved.items s (at.0, at.2, at.3)))
 
-  pub place_restored : (b : ℕ) → IsPlace way.reserved.items b → IsRestored disk b
+  pub place_restored : (b : ℕ) → IsSavedPlace way.reserved.items b → IsRestored disk b
   place_restored b at =
       let listed = from_filter other_than (restored_blocks disk) b (place_listed b at) in
       let marked = from_filter reserved_here (used_blocks used) b listed.0 in
@@ -82,7 +62,7 @@ module _ (disk : Image) (way : WayBack) (p : IsPrepared disk way) where
       from_map (λ (t : Saved). t.at) way.reserved.items b (subst (λ (numbers : List ℕ). Contains numbers b) (sym p.reserved.numbers_are) listed)
 
   -- before block 16 the Btrfs volume stands
-  pub standing : AreApart way → (other : Image) → IsUnturned way disk other → IsStanding disk other
+  pub standing : AreWritesApart way → (other : Image) → IsUnturned way disk other → StillStands disk other
   standing apart other is = record {
     size = is.size;
     superblock = is.others 16 apart.superblock;
@@ -127,10 +107,10 @@ module _ (disk : Image) (way : WayBack) (p : IsPrepared disk way) where
             subst (λ (n : ℕ). block_at other n ≡ block_at (image_blocks disk) n) found.2 (saved_stands found.0 found.1)
         by_reserved rest false free =
             let old : IsOld used b = record { marked = marked; outside = free } in
-            let outside : ¬ IsPlace way.reserved.items b = λ at. true≢false (sym ((place_restored b at).reserved) ∙ free) in
+            let outside : ¬ IsSavedPlace way.reserved.items b = λ at. true≢false (sym ((place_restored b at).reserved) ∙ free) in
             let same : block_at other b ≡ block_at disk b =
             ⊎_elim (λ kept. kept) (λ wiping. absurd (true≢false (sym marked ∙ free_unused b (wiped_free b wiping.0).1))) (is.others b rest outside) in
-            same ∙ sym (image_in_place disk p.untouched b old)
+            same ∙ sym (image_in_place disk p.can b old)
 
     -- and the old volume is back
     pub back : IsBack disk other
@@ -139,18 +119,18 @@ module _ (disk : Image) (way : WayBack) (p : IsPrepared disk way) where
       used = used_stands;
       others = λ b free.
           let rest : b ≢ 16 = λ first. true≢false (sym superblock_used ∙ (ap (has used) (sym first) ∙ free)) in
-          let outside : ¬ IsPlace way.reserved.items b = λ at. true≢false (sym ((place_restored b at).used) ∙ free) in
+          let outside : ¬ IsSavedPlace way.reserved.items b = λ at. true≢false (sym ((place_restored b at).used) ∙ free) in
           ⊎_elim (λ kept. inl kept) (λ wiping. let of = wiped_free b wiping.0 in inr (of.0, of.1, wiping.1)) (is.others b rest outside);
     }
       where
         superblock_used : has used 16 ≡ true
         superblock_used =
             let s = superblock (image_blocks disk) in
-            p.untouched.accepted.system 16 (superblock_in s.blocks s.journal_first s.journal_size)
+            p.can.accepted.system 16 (superblock_in s.blocks s.journal_first s.journal_size)
 
     pub rolled_back : AreWiped way other → IsRolledBack disk other
     rolled_back wiped = record {
-      untouched = p.untouched;
+      can = p.can;
       back = back;
       wiped = λ b mirror is_to. wiped b (to_wipe b mirror is_to);
     }

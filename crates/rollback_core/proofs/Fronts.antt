@@ -1,19 +1,12 @@
 -- The used blocks decide superblock, journal and bitmap of a ReiserFS volume that has them in order.
-use Rattle.std.proofs.Common.{◌≡◌, ◌∙◌, ◌+◌, ℕ, true, Bool, List, [], length, sym, ap, subst, arith}
+use Rattle.rollback_core.proofs.Imports.{◌≡◌, ◌∙◌, ◌+◌, ℕ, true, Bool, List, [], length, sym, ap, subst, arith, SUPER_BLOCK, Image, block_at, SameUsed, has, bitmap_decided, bitmap_in, journal_in, superblock_in, superblock_fields, IsFrontAccepted, MarksSystem, superblock, used_of}
 use Rattle.std.specs.Prelude.{Contains}
-use Rattle.reiser_bitmap.specs.outside.History.{Image, block_at}
-use Rattle.reiser_volume.specs.reiser_volume_contents.Laws.{SameUsed}
-use Rattle.reiser_bitmap.specs.Bits.{has}
 use Rattle.reiser_bitmap.specs.Layout.{bitmap_block, bitmap_of}
 use Rattle.reiser_bitmap.specs.System.{system_blocks}
-use Rattle.reiser_bitmap.proofs.MoreLaws.{bitmap_decided}
-use Rattle.reiser_bitmap.proofs.SystemBlocks.{bitmap_in, journal_in, superblock_in}
 use Rattle.reiser_volume.specs.reiser_super.declared.superblock.Super.{Super}
-use Rattle.reiser_volume.specs.reiser_super.Superblock.{super_of}
 use Rattle.reiser_volume.specs.reiser_super.Rules.{IsCleanSuper}
 use Rattle.reiser_volume.specs.reiser_super.Journal.{IsClean, pending_transactions}
 use Rattle.reiser_volume.proofs.reiser_super.Footprint.{same_pending}
-use Rattle.reiser_volume.specs.Volume.{IsFrontAccepted, MarksSystem, superblock, used_of}
 
 -- the bitmap marks the blocks that a volume of this superblock keeps for itself
 abbrev Marks : Super → List Bool → Type 0
@@ -23,11 +16,11 @@ module _ (image other : Image) (a : IsFrontAccepted image) (same : SameUsed (use
   system_same : (b : ℕ) → Contains (system_blocks (superblock image).blocks (superblock image).journal_first (superblock image).journal_size) b → block_at other b ≡ block_at image b
   system_same b h = same b (a.system b h)
 
-  pub super_same : block_at other 16 ≡ block_at image 16
+  pub super_same : block_at other SUPER_BLOCK ≡ block_at image SUPER_BLOCK
   super_same = let s = superblock image in system_same 16 (superblock_in s.blocks s.journal_first s.journal_size)
 
   fields_same : superblock other ≡ superblock image
-  fields_same = ap super_of super_same
+  fields_same = ap superblock_fields super_same
 
   pub used_same : used_of other ≡ used_of image
   used_same =
@@ -43,7 +36,7 @@ module _ (image other : Image) (a : IsFrontAccepted image) (same : SameUsed (use
       record {
         superblock =
             subst (λ (bytes : List ℕ). IsCleanSuper bytes (length other)) (sym super_same)
-            (subst (λ (n : ℕ). IsCleanSuper (block_at image 16) n) (sym size) a.clean.superblock);
+            (subst (λ (n : ℕ). IsCleanSuper (block_at image SUPER_BLOCK) n) (sym size) a.clean.superblock);
         journal = subst (λ (t : Super). pending_transactions t other ≡ []) (sym fields_same) none;
       }
 

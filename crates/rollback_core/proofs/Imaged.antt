@@ -1,39 +1,18 @@
 -- The map of the saved image, and the volume in it.
-use Rattle.std.proofs.Common.{◌≡◌, ℕ, ◌<◌, ◌≤◌, List, [], Bool, Some, None, Ok, length, min, sym, ◌∙◌, ap, subst, arith}
-use Rattle.reiser_bitmap.specs.outside.Format.{format_in}
-use Rattle.reiser_bitmap.specs.outside.History.{Image}
-use Rattle.convert_steps.specs.command_answers.declared.answer.Answer.TheVariants as answer
-use Rattle.reiser_bitmap.specs.refusals.declared.answer.VolAnswer.{VolAnswer}
+use Rattle.rollback_core.proofs.Imports.{◌≡◌, ℕ, ◌<◌, ◌≤◌, List, [], Bool, Some, None, Ok, length, min, sym, ◌∙◌, ap, subst, arith, format_in, Image, VolAnswer, image_refusals, saved_image, IsBtrfsOpened, opening_refusals, log_tree, way_refusals, ImageMap, Super, MapRange, Btrfs, IsAccepted, superblock, used_of, used_length, length_by, image_there, map_blocks, map_places, IsOld, TellsMoved, blocks_by_map, image_blocks, CanGoBack, old_used, IsReservedFree, HasImage, HasPlaces, HasVolume, LeadsToImage, RefusesRollback, IsMapOn, by_image}
 use Rattle.reiser_bitmap.specs.refusals.declared.answer.VolAnswer.TheVariants.{Refused, Fault, Memory}
-use Rattle.btr_reader.specs.Image.{image_refusals, saved_image}
-use Rattle.btr_reader.specs.Opening.{IsOpened, opening_refusals}
-use Rattle.btr_reader.specs.Parts.{HasBtrfsRows, way_refusals}
 use Rattle.btr_reader.specs.Pieces.{map_place}
 use Rattle.btr_reader.specs.Reading.{ReadsImage}
-use Rattle.btr_reader.specs.declared.image_map.ImageMap.{ImageMap}
-use Rattle.btr_super.specs.declared.superblock.Super.{Super}
-use Rattle.btr_reader.specs.btr_reader_walk.declared.map.MapRange.{MapRange}
-use Rattle.reiser_bitmap.specs.vol_block.declared.format.Format.TheVariants.{Btrfs}
 use Rattle.reiser_volume.specs.Answers.{RefusesVolume}
-use Rattle.reiser_volume.specs.Volume.{IsAccepted, superblock, used_of}
-use Rattle.reiser_volume.proofs.Holding.{used_length}
-use Rattle.volume_state.proofs.Images.{length_by}
-use Rattle.volume_state.proofs.Mapped.{image_there, map_blocks, map_places}
-use Rattle.volume_state.specs.Moved.{IsOld, TellsMoved}
-use Rattle.volume_state.specs.Saved.{blocks_by_map, image_blocks}
-use Rattle.volume_state.specs.Untouched.{IsUntouched, old_used}
-use Rattle.volume_state.specs.Using.{IsReservedFree}
-use Rattle.rollback_core.specs.RollbackAnswers.{HasImage, HasPlaces, HasVolume, IsReadable, RefusesRollback}
-use Rattle.rollback_core.specs.Opened.{IsMapOn}
-use Rattle.rollback_core.specs.Prepared.{by_image}
+use Rattle.convert_steps.specs.command_answers.declared.answer.Answer.TheVariants as answer
 use Rattle.rollback_core.proofs.Reading.{way_readable}
 
 -- ---- the map
 
 -- the map that was read of an opened volume is that of its saved image
-pub map_on : (disk : Image) (s : Super) (ranges : List MapRange) (opened : IsOpened disk s ranges) (m : ImageMap) → ReadsImage ranges (saved_image disk s ranges) (image_refusals disk s ranges) (Ok (Some m)) → IsReadable disk → IsMapOn disk m
-map_on disk s ranges opened m reads readable = record {
-  image = record { readable = readable; there = image_there disk s ranges opened m reads };
+pub map_on : (disk : Image) (s : Super) (ranges : List MapRange) (opened : IsBtrfsOpened disk s ranges) (m : ImageMap) → ReadsImage ranges (saved_image disk s ranges) (image_refusals disk s ranges) (Ok (Some m)) → LeadsToImage disk → IsMapOn disk m
+map_on disk s ranges opened m reads leads = record {
+  image = record { leads = leads; there = image_there disk s ranges opened m reads };
   places = map_places disk s ranges opened m reads;
   blocks = map_blocks disk s ranges opened m reads;
 }
@@ -71,18 +50,18 @@ module _ (disk : Image) (m : ImageMap) (used : List Bool) (on : IsMapOn disk m) 
   moved b tells = (has, record { old = subst (λ (u : List Bool). IsOld u b) is tells.old; elsewhere = λ same. tells.elsewhere (on.places b ∙ same) })
 
 -- ---- the reserved blocks
-pub untouched : (disk : Image) → HasPlaces disk → IsReservedFree disk (superblock (image_blocks disk)).blocks → IsUntouched disk
-untouched disk has free = record {
-  whole = has.volume.image.readable.whole;
+pub can_go_back : (disk : Image) → HasPlaces disk → IsReservedFree disk (superblock (image_blocks disk)).blocks → CanGoBack disk
+can_go_back disk has free = record {
+  way = has.volume.image.leads.way;
   there = has.volume.image.there;
   accepted = has.volume.accepted;
   in_place = has.in_place;
   reserved = free;
 }
 
--- all is read where nothing is wrong on the way to the image
-pub readable_with : (disk : Image) → format_in disk ≡ Btrfs → HasBtrfsRows disk → opening_refusals disk ≡ [] → way_refusals disk ≡ [] → IsReadable disk
-readable_with disk format rows opens way = record { format = format; whole = record { rows = rows; way = way_readable disk opens way } }
+-- the way is readable where nothing is wrong on it
+pub leads_with : (disk : Image) → format_in disk ≡ Btrfs → log_tree disk ≡ None → opening_refusals disk ≡ [] → way_refusals disk ≡ [] → LeadsToImage disk
+leads_with disk format log opens way = record { format = format; way = record { log = log; readable = way_readable disk opens way } }
 
 -- how many blocks the image has
 image_length : (disk : Image) (m : ImageMap) → IsMapOn disk m → length (image_blocks disk) ≡ min m.blocks (length disk)

@@ -1,21 +1,16 @@
 -- What a rollback leaves, by what was prepared and written.
-use Rattle.std.proofs.Common.{◌≡◌, ◌⊎◌, inl, inr, ⊎_elim, subst}
-use Rattle.reiser_bitmap.specs.outside.History.{History, Image, IsSettled, LeftSince, clock, reads}
-use Rattle.rollback_core.specs.Prepared.{IsPrepared}
-use Rattle.rollback_core.specs.RolledBack.{IsLeft}
-use Rattle.rollback_core.specs.Writing.{AreApart, IsTurned, IsUnturned}
-use Rattle.rollback_core.specs.declared.way.WayBack.{WayBack}
+use Rattle.rollback_core.proofs.Imports.{◌≡◌, ◌⊎◌, inl, inr, ⊎_elim, subst, History, Image, IsSettled, LeftSince, clock, reads, IsWayBack, IsLeftByRollback, AreWritesApart, IsTurned, IsUnturned, WayBack}
 use Rattle.rollback_core.proofs.Back.{back, standing}
 
 -- either of the two states is one that may be left
-pub left_of : (disk : Image) (way : WayBack) → IsPrepared disk way → AreApart way → (other : Image) → IsUnturned way disk other ⊎ IsTurned way disk other → IsLeft disk other
+pub left_of : (disk : Image) (way : WayBack) → IsWayBack disk way → AreWritesApart way → (other : Image) → IsUnturned way disk other ⊎ IsTurned way disk other → IsLeftByRollback disk other
 left_of disk way p apart other is =
-    ⊎_elim (λ unturned. inr (p.untouched, inl (standing disk way p apart other unturned))) (λ turned. inr (p.untouched, inr (back disk way p other turned))) is
+    ⊎_elim (λ unturned. inr (p.can, inl (standing disk way p apart other unturned))) (λ turned. inr (p.can, inr (back disk way p other turned))) is
 
 -- what a crash leaves while the old volume is written, which began with the disk as it was
-pub writing_crash : (h₀ h₁ h₂ : History) (way : WayBack) → h₁ ≡ h₀ → IsPrepared (reads h₀) way → AreApart way → IsSettled h₀
+pub writing_crash : (h₀ h₁ h₂ : History) (way : WayBack) → h₁ ≡ h₀ → IsWayBack (reads h₀) way → AreWritesApart way → IsSettled h₀
     → (IsSettled h₁ → (other : Image) → LeftSince (clock h₁) h₂ other → IsUnturned way (reads h₁) other ⊎ IsTurned way (reads h₁) other)
-    → (other : Image) → LeftSince (clock h₀) h₂ other → IsLeft (reads h₀) other
+    → (other : Image) → LeftSince (clock h₀) h₂ other → IsLeftByRollback (reads h₀) other
 writing_crash h₀ h₁ h₂ way same p apart settled each other left =
     let here = subst (λ (h : History). IsSettled h → (x : Image) → LeftSince (clock h) h₂ x → IsUnturned way (reads h) x ⊎ IsTurned way (reads h) x) same each in
     left_of (reads h₀) way p apart other (here settled other left)

@@ -2,6 +2,7 @@ pub mod Apart
 pub mod Back
 pub mod Fronts
 pub mod Imaged
+pub mod Imports
 pub mod Leaving
 pub mod Marked
 pub mod Mended
@@ -14,6 +15,7 @@ pub mod Recovering
 pub mod RecoveryFormats
 pub mod RecoveryKeeping
 pub mod Refusing
+pub mod Rewriting
 pub mod RollbackFormats
 pub mod RollbackKeeping
 pub mod Standing

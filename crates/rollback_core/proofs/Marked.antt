@@ -1,21 +1,12 @@
 -- The used blocks of a set, one after the other.
-use Rattle.std.proofs.Common.{◌≡◌, ℕ, ◌+◌, ◌-◌, ◌<◌, ◌≤◌, Bool, true, false, not, ◌&&◌, List, [], ◌∷◌, ◌++◌, length, get_or, map, Contains, All, refl, sym, ◌∙◌, ap, subst, arith, true≢false}
+use Rattle.rollback_core.proofs.Imports.{◌≡◌, ℕ, ◌+◌, ◌-◌, ◌<◌, ◌≤◌, Bool, true, false, not, ◌&&◌, List, [], ◌∷◌, ◌++◌, length, get_or, map, Contains, All, refl, sym, ◌∙◌, ap, subst, arith, true≢false, range_with_len, and_parts, append-nil, get_or-map, get_or_default, length-map, has, used_blocks, used_had, filter_more_yes, filter_range_none, range_cut, from_filter, in_map, GoApart, Saved}
 use Rattle.std.specs.Prelude.{filter}
-use Rattle.std.specs.List.{range_with_len}
 use Rattle.std.specs.List.Sorted.{IsStrictlyIncreasing}
-use Rattle.std.proofs.lemmas.Bool.{and_parts}
-use Rattle.std.proofs.lemmas.List.{append-nil, get_or-map, get_or_default, length-map}
 use Rattle.std.proofs.lemmas.List.Elements.{filter-append}
 use Rattle.std.proofs.lemmas.List.Kept.{AllPairs-from_increasing, IsStrictlyIncreasing-filter}
 use Rattle.std.proofs.lemmas.List.FromFn.{length-range_with_len, get_or-range_with_len}
-use Rattle.reiser_bitmap.specs.Bits.{has, used_blocks}
 use Rattle.reiser_bitmap.specs.Next.{next_used}
 use Rattle.reiser_bitmap.proofs.Ends.{IsEnd, end_facts}
-use Rattle.reiser_bitmap.proofs.MoreLaws.{used_had}
-use Rattle.reiser_bitmap.proofs.Ranges.{filter_more_yes, filter_range_none, range_cut}
-use Rattle.reiser_volume.proofs.fs_paths.Lists.{from_filter, in_map}
-use Rattle.rollback_core.specs.Writing.{GoApart}
-use Rattle.rollback_core.specs.declared.way.Saved.{Saved}
 
 -- those before a block
 abbrev pub used_below : List Bool → ℕ → List ℕ

@@ -1,19 +1,6 @@
 -- What is to stand in the blocks of copies, and how many of them are to change.
-use Rattle.std.proofs.Common.{◌≡◌, ◌≢◌, ◌∙◌, ℕ, Bool, true, false, cond, not, ◌&&◌, nat_lt, List, [], ◌∷◌, length, Some, None, codes, refl, sym, ap, true≢false}
-use Rattle.std.specs.Prelude.{◌+◌, bytes_eq, filter}
-use Rattle.std.proofs.lemmas.Slice.Eq.{bytes_eq-Decides}
-use Rattle.reiser_bitmap.specs.outside.History.{Image, block_at}
-use Rattle.btr_super.specs.Super.{mirror_bytes}
-use Rattle.reiser_bitmap.specs.Bits.{has}
-use Rattle.reiser_volume.specs.reiser_super.Superblock.{super_of}
-use Rattle.reiser_volume.specs.Volume.{superblock, used_of}
-use Rattle.reiser_bitmap.specs.vol_block.Format.{has_bytes_at}
-use Rattle.reiser_bitmap.specs.vol_block.Volume.{zeros}
-use Rattle.reiser_bitmap.specs.vol_block.declared.block.Block.{Block}
-use Rattle.reiser_bitmap.specs.vol_block.declared.format.Format.{Format}
-use Rattle.reiser_bitmap.specs.vol_block.declared.format.Format.TheVariants.{Reiser, Btrfs, Neither}
-use Rattle.rollback_core.specs.Mending.{Gives, blocks_of, copied, mended_by, wiped}
-use Rattle.rollback_core.specs.Recovered.{copy_blocks}
+use Rattle.rollback_core.proofs.Imports.{◌≡◌, ◌≢◌, ◌∙◌, ℕ, ◌+◌, Bool, true, false, cond, not, ◌&&◌, nat_lt, List, [], ◌∷◌, length, Some, None, codes, refl, sym, ap, true≢false, bytes_eq, bytes_eq-Decides, FIRST_MIRROR, SECOND_MIRROR, SUPER_BLOCK, SUPER_MAGIC_OFFSET, Image, block_at, mirror_bytes, has, superblock_fields, superblock, used_of, has_bytes_at, zeros, Block, Format, Reiser, Btrfs, Neither, Gives, blocks_of, copied, mended_by, wiped, copy_blocks}
+use Rattle.std.specs.Prelude.{◌+◌, filter}
 
 -- ---- one of two lists
 same_both : (t : Bool) (z : List ℕ) → cond t z z ≡ z
@@ -34,7 +21,7 @@ taken_again false z bytes = refl
 -- ---- mending again
 -- the block is to become zeros
 abbrev is_stale : ℕ → List Bool → ℕ → List ℕ → Bool
-is_stale blocks used b bytes = nat_lt b blocks && (not (has used b) && has_bytes_at bytes 64 (codes "_BHRfS_M"))
+is_stale blocks used b bytes = nat_lt (b + 1) blocks && (not (has used b) && has_bytes_at bytes SUPER_MAGIC_OFFSET (codes "_BHRfS_M"))
 
 wipe_again : (blocks : ℕ) (used : List Bool) (b : ℕ) (bytes : List ℕ) → wiped blocks used b (wiped blocks used b bytes) ≡ wiped blocks used b bytes
 unfolding wiped
@@ -42,17 +29,17 @@ wipe_again blocks used b bytes = chosen_again (is_stale blocks used b) zeros byt
 
 copy_again : (blocks : ℕ) (superblock : List ℕ) (b : ℕ) (bytes : List ℕ) → copied blocks superblock b (copied blocks superblock b bytes) ≡ copied blocks superblock b bytes
 unfolding copied
-copy_again blocks superblock b bytes = taken_again (nat_lt b blocks) (mirror_bytes b superblock) bytes
+copy_again blocks superblock b bytes = taken_again (nat_lt (b + 1) blocks) (mirror_bytes b superblock) bytes
 
 pub mend_again : (f : Format) (image : Image) (b : ℕ) (bytes : List ℕ) → mended_by f image b (mended_by f image b bytes) ≡ mended_by f image b bytes
 mend_again Reiser image b bytes = wipe_again (superblock image).blocks (used_of image) b bytes
-mend_again Btrfs image b bytes = copy_again (blocks_of (block_at image 16)) (block_at image 16) b bytes
+mend_again Btrfs image b bytes = copy_again (blocks_of (block_at image SUPER_BLOCK)) (block_at image SUPER_BLOCK) b bytes
 mend_again Neither image b bytes = refl
 
 -- a disk with the same superblock, and of ReiserFS with the same used blocks, is mended alike
-pub mend_same : (f : Format) (image other : Image) → block_at other 16 ≡ block_at image 16 → (f ≡ Reiser → used_of other ≡ used_of image) → (b : ℕ) (bytes : List ℕ) → mended_by f other b bytes ≡ mended_by f image b bytes
+pub mend_same : (f : Format) (image other : Image) → block_at other SUPER_BLOCK ≡ block_at image SUPER_BLOCK → (f ≡ Reiser → used_of other ≡ used_of image) → (b : ℕ) (bytes : List ℕ) → mended_by f other b bytes ≡ mended_by f image b bytes
 mend_same Reiser image other same used b bytes =
-    ap (λ (sb : List ℕ). wiped (super_of sb).blocks (used_of other) b bytes) same ∙ ap (λ (set : List Bool). wiped (superblock image).blocks set b bytes) (used refl)
+    ap (λ (sb : List ℕ). wiped (superblock_fields sb).blocks (used_of other) b bytes) same ∙ ap (λ (set : List Bool). wiped (superblock image).blocks set b bytes) (used refl)
 mend_same Btrfs image other same used b bytes = ap (λ (sb : List ℕ). copied (blocks_of sb) sb b bytes) same
 mend_same Neither image other same used b bytes = refl
 
@@ -64,16 +51,16 @@ used_chosen true false magic z bytes is = absurd cc
 
 pub used_stays : (blocks : ℕ) (used : List Bool) (b : ℕ) (bytes : List ℕ) → has used b ≡ true → wiped blocks used b bytes ≡ bytes
 unfolding wiped
-used_stays blocks used b bytes is = used_chosen (nat_lt b blocks) (has used b) (has_bytes_at bytes 64 (codes "_BHRfS_M")) zeros bytes is
+used_stays blocks used b bytes is = used_chosen (nat_lt (b + 1) blocks) (has used b) (has_bytes_at bytes SUPER_MAGIC_OFFSET (codes "_BHRfS_M")) zeros bytes is
 
 -- so does one that the volume has not, and one without the magic
 beyond_chosen : (low had magic : Bool) (z bytes : List ℕ) → low ≡ false → cond (low && (not had && magic)) z bytes ≡ bytes
 beyond_chosen false had magic z bytes is = refl
 beyond_chosen true had magic z bytes is = absurd cc
 
-pub beyond_stays : (blocks : ℕ) (used : List Bool) (b : ℕ) (bytes : List ℕ) → nat_lt b blocks ≡ false → wiped blocks used b bytes ≡ bytes
+pub beyond_stays : (blocks : ℕ) (used : List Bool) (b : ℕ) (bytes : List ℕ) → nat_lt (b + 1) blocks ≡ false → wiped blocks used b bytes ≡ bytes
 unfolding wiped
-beyond_stays blocks used b bytes is = beyond_chosen (nat_lt b blocks) (has used b) (has_bytes_at bytes 64 (codes "_BHRfS_M")) zeros bytes is
+beyond_stays blocks used b bytes is = beyond_chosen (nat_lt (b + 1) blocks) (has used b) (has_bytes_at bytes SUPER_MAGIC_OFFSET (codes "_BHRfS_M")) zeros bytes is
 
 other_chosen : (low had magic : Bool) (z bytes : List ℕ) → magic ≡ false → cond (low && (not had && magic)) z bytes ≡ bytes
 other_chosen true true false z bytes is = refl
@@ -81,9 +68,9 @@ other_chosen true false false z bytes is = refl
 other_chosen false had magic z bytes is = refl
 other_chosen true had true z bytes is = absurd cc
 
-pub other_stays : (blocks : ℕ) (used : List Bool) (b : ℕ) (bytes : List ℕ) → has_bytes_at bytes 64 (codes "_BHRfS_M") ≡ false → wiped blocks used b bytes ≡ bytes
+pub other_stays : (blocks : ℕ) (used : List Bool) (b : ℕ) (bytes : List ℕ) → has_bytes_at bytes SUPER_MAGIC_OFFSET (codes "_BHRfS_M") ≡ false → wiped blocks used b bytes ≡ bytes
 unfolding wiped
-other_stays blocks used b bytes is = other_chosen (nat_lt b blocks) (has used b) (has_bytes_at bytes 64 (codes "_BHRfS_M")) zeros bytes is
+other_stays blocks used b bytes is = other_chosen (nat_lt (b + 1) blocks) (has used b) (has_bytes_at bytes SUPER_MAGIC_OFFSET (codes "_BHRfS_M")) zeros bytes is
 
 -- and one that is to become zeros isn't zeros
 stale_chosen : (low had magic : Bool) (z bytes : List ℕ) → low ≡ true → had ≡ false → magic ≡ true → cond (low && (not had && magic)) z bytes ≡ z
@@ -92,29 +79,29 @@ stale_chosen false had magic z bytes below free is = absurd cc
 stale_chosen true true magic z bytes below free is = absurd cc
 stale_chosen true false false z bytes below free is = absurd cc
 
-pub stale_wiped : (blocks : ℕ) (used : List Bool) (b : ℕ) (bytes : List ℕ) → nat_lt b blocks ≡ true → has used b ≡ false → has_bytes_at bytes 64 (codes "_BHRfS_M") ≡ true → wiped blocks used b bytes ≡ zeros
+pub stale_wiped : (blocks : ℕ) (used : List Bool) (b : ℕ) (bytes : List ℕ) → nat_lt (b + 1) blocks ≡ true → has used b ≡ false → has_bytes_at bytes SUPER_MAGIC_OFFSET (codes "_BHRfS_M") ≡ true → wiped blocks used b bytes ≡ zeros
 unfolding wiped
-stale_wiped blocks used b bytes low free is = stale_chosen (nat_lt b blocks) (has used b) (has_bytes_at bytes 64 (codes "_BHRfS_M")) zeros bytes low free is
+stale_wiped blocks used b bytes low free is = stale_chosen (nat_lt (b + 1) blocks) (has used b) (has_bytes_at bytes SUPER_MAGIC_OFFSET (codes "_BHRfS_M")) zeros bytes low free is
 
-pub not_zeros : (bytes : List ℕ) → has_bytes_at bytes 64 (codes "_BHRfS_M") ≡ true → zeros ≢ bytes
-not_zeros bytes is same = true≢false (sym is ∙ ap (λ (z : List ℕ). has_bytes_at z 64 (codes "_BHRfS_M")) (sym same))
+pub not_zeros : (bytes : List ℕ) → has_bytes_at bytes SUPER_MAGIC_OFFSET (codes "_BHRfS_M") ≡ true → zeros ≢ bytes
+not_zeros bytes is same = true≢false (sym is ∙ ap (λ (z : List ℕ). has_bytes_at z SUPER_MAGIC_OFFSET (codes "_BHRfS_M")) (sym same))
 
 -- the copy stands where the volume has the block
 low_chosen : (t : Bool) (z bytes : List ℕ) → t ≡ true → cond t z bytes ≡ z
 low_chosen true z bytes is = refl
 low_chosen false z bytes is = absurd cc
 
-pub copy_wanted : (blocks : ℕ) (superblock : List ℕ) (b : ℕ) (bytes : List ℕ) → nat_lt b blocks ≡ true → copied blocks superblock b bytes ≡ mirror_bytes b superblock
+pub copy_wanted : (blocks : ℕ) (superblock : List ℕ) (b : ℕ) (bytes : List ℕ) → nat_lt (b + 1) blocks ≡ true → copied blocks superblock b bytes ≡ mirror_bytes b superblock
 unfolding copied
-copy_wanted blocks superblock b bytes low = low_chosen (nat_lt b blocks) (mirror_bytes b superblock) bytes low
+copy_wanted blocks superblock b bytes low = low_chosen (nat_lt (b + 1) blocks) (mirror_bytes b superblock) bytes low
 
 high_chosen : (t : Bool) (z bytes : List ℕ) → t ≡ false → cond t z bytes ≡ bytes
 high_chosen true z bytes is = absurd cc
 high_chosen false z bytes is = refl
 
-pub copy_beyond : (blocks : ℕ) (superblock : List ℕ) (b : ℕ) (bytes : List ℕ) → nat_lt b blocks ≡ false → copied blocks superblock b bytes ≡ bytes
+pub copy_beyond : (blocks : ℕ) (superblock : List ℕ) (b : ℕ) (bytes : List ℕ) → nat_lt (b + 1) blocks ≡ false → copied blocks superblock b bytes ≡ bytes
 unfolding copied
-copy_beyond blocks superblock b bytes high = high_chosen (nat_lt b blocks) (mirror_bytes b superblock) bytes high
+copy_beyond blocks superblock b bytes high = high_chosen (nat_lt (b + 1) blocks) (mirror_bytes b superblock) bytes high
 
 -- ---- what differs
 not_true : (t : Bool) → (t ≡ true → ⊥) → t ≡ false
@@ -124,32 +111,32 @@ not_true false never = refl
 pub same_bytes : (xs ys : List ℕ) → xs ≡ ys → not (bytes_eq xs ys) ≡ false
 same_bytes xs ys is = ap not ((bytes_eq-Decides xs ys).1 is)
 
-two_tests : (s t : Bool) → length {A = ℕ} (cond s (16384 ∷ cond t (67108864 ∷ []) []) (cond t (67108864 ∷ []) [])) ≡ cond s 1 0 + cond t 1 0
+two_tests : (s t : Bool) → length {A = ℕ} (cond s (FIRST_MIRROR ∷ cond t (SECOND_MIRROR ∷ []) []) (cond t (SECOND_MIRROR ∷ []) [])) ≡ cond s 1 0 + cond t 1 0
 two_tests true true = refl
 two_tests true false = refl
 two_tests false true = refl
 two_tests false false = refl
 
 -- how many of the two blocks of copies pass a test
-pub two_of : (P : ℕ → Bool) (s t : Bool) → P 16384 ≡ s → P 67108864 ≡ t → length (filter P copy_blocks) ≡ cond s 1 0 + cond t 1 0
+pub two_of : (P : ℕ → Bool) (s t : Bool) → P FIRST_MIRROR ≡ s → P SECOND_MIRROR ≡ t → length (filter P copy_blocks) ≡ cond s 1 0 + cond t 1 0
 two_of P s t first second =
-    ap (λ (u : Bool). length {A = ℕ} (cond u (16384 ∷ cond (P 67108864) (67108864 ∷ []) []) (cond (P 67108864) (67108864 ∷ []) []))) first
-    ∙ (ap (λ (u : Bool). length {A = ℕ} (cond s (16384 ∷ cond u (67108864 ∷ []) []) (cond u (67108864 ∷ []) []))) second ∙ two_tests s t)
+    ap (λ (u : Bool). length {A = ℕ} (cond u (FIRST_MIRROR ∷ cond (P SECOND_MIRROR) (SECOND_MIRROR ∷ []) []) (cond (P SECOND_MIRROR) (SECOND_MIRROR ∷ []) []))) first
+    ∙ (ap (λ (u : Bool). length {A = ℕ} (cond s (FIRST_MIRROR ∷ cond u (SECOND_MIRROR ∷ []) []) (cond u (SECOND_MIRROR ∷ []) []))) second ∙ two_tests s t)
 
 -- no Btrfs superblock is left in a block without use
 clean_chosen : (low had : Bool) (bytes : List ℕ) → low ≡ true → had ≡ false
-    → has_bytes_at (cond (low && (not had && has_bytes_at bytes 64 (codes "_BHRfS_M"))) zeros bytes) 64 (codes "_BHRfS_M") ≡ false
+    → has_bytes_at (cond (low && (not had && has_bytes_at bytes SUPER_MAGIC_OFFSET (codes "_BHRfS_M"))) zeros bytes) SUPER_MAGIC_OFFSET (codes "_BHRfS_M") ≡ false
 clean_chosen true false bytes below free =
-    elim (has_bytes_at bytes 64 (codes "_BHRfS_M")) as (λ t. has_bytes_at bytes 64 (codes "_BHRfS_M") ≡ t → has_bytes_at (cond t zeros bytes) 64 (codes "_BHRfS_M") ≡ false) [
+    elim (has_bytes_at bytes SUPER_MAGIC_OFFSET (codes "_BHRfS_M")) as (λ t. has_bytes_at bytes SUPER_MAGIC_OFFSET (codes "_BHRfS_M") ≡ t → has_bytes_at (cond t zeros bytes) SUPER_MAGIC_OFFSET (codes "_BHRfS_M") ≡ false) [
       | true ↦ λ is. refl
       | false ↦ λ is. is
     ] refl
 clean_chosen true true bytes below free = absurd cc
 clean_chosen false had bytes below free = absurd cc
 
-pub wiped_clean : (blocks : ℕ) (used : List Bool) (b : ℕ) (bytes : List ℕ) → nat_lt b blocks ≡ true → has used b ≡ false → has_bytes_at (wiped blocks used b bytes) 64 (codes "_BHRfS_M") ≡ false
+pub wiped_clean : (blocks : ℕ) (used : List Bool) (b : ℕ) (bytes : List ℕ) → nat_lt (b + 1) blocks ≡ true → has used b ≡ false → has_bytes_at (wiped blocks used b bytes) SUPER_MAGIC_OFFSET (codes "_BHRfS_M") ≡ false
 unfolding wiped
-wiped_clean blocks used b bytes low free = clean_chosen (nat_lt b blocks) (has used b) bytes low free
+wiped_clean blocks used b bytes low free = clean_chosen (nat_lt (b + 1) blocks) (has used b) bytes low free
 
 -- a block is written where something else is to stand than does
 pub gives_same : (bytes wanted : List ℕ) → wanted ≡ bytes → Gives bytes wanted None

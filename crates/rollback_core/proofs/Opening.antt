@@ -1,18 +1,9 @@
 -- A disk that can be opened stays one, with the same rows.
-use Rattle.std.proofs.Common.{◌≡◌, ◌∙◌, inl, List, [], ◌∷◌, Result, Err, refl, sym, ap, subst, arith}
+use Rattle.rollback_core.proofs.Imports.{◌≡◌, ◌∙◌, inl, List, [], ◌∷◌, Result, Err, refl, sym, ap, subst, arith, format_in, Image, BtrRefusal, opening_refusals, refusals_after, super_on, IsReadable, SavedImage, Superblock, Super, Format, Reiser, Btrfs, Neither, RecoveryOpens, IsLeftByRecover, IsRecoverable}
+use Rattle.btr_reader.specs.Parts.{Tree}
 use Rattle.std.specs.Prelude.{Contains}
-use Rattle.reiser_bitmap.specs.outside.Format.{format_in}
-use Rattle.reiser_bitmap.specs.outside.History.{Image}
-use Rattle.reiser_bitmap.specs.refusals.declared.refusal.BtrRefusal.{BtrRefusal}
-use Rattle.btr_reader.specs.Opening.{opening_refusals, refusals_after, super_on}
-use Rattle.btr_reader.specs.Parts.{IsReadable, SavedImage, Superblock, Tree}
-use Rattle.btr_super.specs.declared.superblock.Super.{Super}
 use Rattle.reiser_volume.specs.fs_rows.Rows.{WholeRow}
-use Rattle.reiser_bitmap.specs.vol_block.declared.format.Format.{Format}
-use Rattle.reiser_bitmap.specs.vol_block.declared.format.Format.TheVariants.{Reiser, Btrfs, Neither}
-use Rattle.rollback_core.specs.RecoveryLaws.{RecoveryOpens}
 use Rattle.rollback_core.specs.Opens.{OpensAs}
-use Rattle.rollback_core.specs.Recovered.{IsLeft, IsRecoverable}
 use Rattle.rollback_core.proofs.RecoveryFormats.{has_format}
 use Rattle.rollback_core.proofs.RecoveryKeeping.{keeps}
 
@@ -24,7 +15,7 @@ opening_refused image r is = ap (λ (read : Result Super BtrRefusal). refusals_a
 superblock_readable : (image : Image) → IsReadable image SavedImage → IsReadable image Superblock
 superblock_readable image way r is = way r (inl (subst (λ (rs : List BtrRefusal). Contains rs r) (sym (opening_refused image r is)) (0, omega arith, refl)))
 
-stays_open : (f : Format) (image other : Image) (rows : List WholeRow) → OpensAs f image rows → IsLeft image other → OpensAs f other rows
+stays_open : (f : Format) (image other : Image) (rows : List WholeRow) → OpensAs f image rows → IsLeftByRecover image other → OpensAs f other rows
 stays_open Reiser image other rows opens left =
     let volume = (keeps.left image other left).volume (has_format.accepted image opens.accepted).0 opens.accepted in
     record { accepted = volume.accepted; rows_are = (volume.rows rows).0 opens.rows_are }

@@ -1,23 +1,14 @@
 -- What a crash leaves in each phase of writing the old volume back.
-use Rattle.std.proofs.Common.{◌≡◌, ◌≢◌, ◌⊎◌, inl, inr, ⊎_elim, ℕ, ◌<◌, Bool, true, List, [], length, set, get_or, Result, Ok, Err, OnOk, sym, ◌∙◌, ap, subst, arith, get_or-set_same, get_or-set_other}
-use Rattle.std.proofs.lemmas.List.{length-set}
-use Rattle.reiser_bitmap.specs.vol_block.Volume.{zeros}
-use Rattle.reiser_bitmap.specs.outside.History.{Image, History, block_at, reads, clock, IsSettled, IsBlock, LeftSince, WritesBlock, WritesOnly}
-use Rattle.reiser_bitmap.proofs.outside.Crash.{left_each, writes_length, reads_only}
-use Rattle.reiser_bitmap.proofs.outside.Phases.{left_outside, left_then, only_not, reads_outside, set_stands, write_reads}
-use Rattle.reiser_bitmap.proofs.outside.Placing.{has_place}
-use Rattle.rollback_core.specs.declared.way.Saved.{Saved}
-use Rattle.rollback_core.specs.declared.way.WayBack.{WayBack}
-use Rattle.rollback_core.specs.Writing.{AreApart, AreWiped, AreWrittenBack, IsPart, IsPlace, IsTurned, IsUnturned, IsWiped, IsWiping}
+use Rattle.rollback_core.proofs.Imports.{◌≡◌, ◌≢◌, ◌⊎◌, inl, inr, ⊎_elim, ℕ, ◌<◌, Bool, true, List, [], length, set, get_or, Result, Ok, Err, OnOk, sym, ◌∙◌, ap, subst, arith, get_or-set_same, get_or-set_other, length-set, FIRST_MIRROR, SECOND_MIRROR, SUPER_BLOCK, zeros, Image, History, block_at, reads, clock, IsSettled, IsBlock, LeftSince, WritesBlock, WritesOnly, left_each, writes_length, reads_only, left_outside, left_then, only_not, reads_outside, set_stands, write_reads, has_place, Saved, WayBack, AreWritesApart, AreWiped, AreWrittenBack, IsWayBackPart, IsSavedPlace, IsTurned, IsUnturned, IsWiped, IsWiping}
 
 abbrev WritesSaved : List Saved → History → History → Type 0
-WritesSaved saved = WritesOnly (λ b _. IsPlace saved b)
+WritesSaved saved = WritesOnly (λ b _. IsSavedPlace saved b)
 
 -- block 16 is none of those that become zeros
 not_wiped : (way : WayBack) → ¬ IsWiped way 16
 not_wiped way wiped = ⊎_elim (λ first. omega (arith, first.0)) (λ second. omega (arith, second.0)) wiped
 
-module _ (way : WayBack) (apart : AreApart way) (old : Image) where
+module _ (way : WayBack) (apart : AreWritesApart way) (old : Image) where
   abbrev saved : List Saved
   saved = way.reserved.items
 
@@ -37,12 +28,12 @@ module _ (way : WayBack) (apart : AreApart way) (old : Image) where
 
   -- block 16 over the saved blocks is turned
   over_saved : (mid image : Image) → IsUnturned way old mid → AreWrittenBack saved mid → length image ≡ length mid
-      → block_at image 16 ≡ way.superblock.bytes → ((b : ℕ) → b ≢ 16 → block_at image b ≡ block_at mid b) → IsTurned way old image
+      → block_at image SUPER_BLOCK ≡ way.superblock.bytes → ((b : ℕ) → b ≢ 16 → block_at image b ≡ block_at mid b) → IsTurned way old image
   over_saved mid image before stand size is same = record {
     size = size ∙ before.size;
     superblock = is;
     written = λ k d below.
-        same (get_or saved k d).at (λ eq. apart.superblock (subst (IsPlace saved) eq (has_place (λ (x : Saved). x.at) (λ (x : Saved). x.block.bytes) saved k d below))) ∙ stand k d below;
+        same (get_or saved k d).at (λ eq. apart.superblock (subst (IsSavedPlace saved) eq (has_place (λ (x : Saved). x.at) (λ (x : Saved). x.block.bytes) saved k d below))) ∙ stand k d below;
     others = λ b not_superblock outside. inl (same b not_superblock ∙ before.others b outside);
   }
 
@@ -59,23 +50,23 @@ module _ (way : WayBack) (apart : AreApart way) (old : Image) where
 
 pub reads_unturned : (way : WayBack) (h₀ h₁ : History) → WritesSaved way.reserved.items h₀ h₁ → IsUnturned way (reads h₀) (reads h₁)
 reads_unturned way h₀ h₁ only = record {
-  size = writes_length (λ b _. IsPlace way.reserved.items b) h₀ h₁ only;
-  others = reads_outside (IsPlace way.reserved.items) h₀ h₁ only;
+  size = writes_length (λ b _. IsSavedPlace way.reserved.items b) h₀ h₁ only;
+  others = reads_outside (IsSavedPlace way.reserved.items) h₀ h₁ only;
 }
 
 -- while the saved blocks wait
 pub saved_crash : (way : WayBack) (h₀ h₁ : History) → IsSettled h₀ → WritesSaved way.reserved.items h₀ h₁ → (image : Image) → LeftSince (clock h₀) h₁ image → IsUnturned way (reads h₀) image
 saved_crash way h₀ h₁ settled only image left =
-    let outside = left_outside (IsPlace way.reserved.items) h₀ h₁ only settled image left in
+    let outside = left_outside (IsSavedPlace way.reserved.items) h₀ h₁ only settled image left in
     record { size = outside.0; others = outside.1 }
 
 -- while block 16 waits, over the saved blocks
-pub superblock_crash : (way : WayBack) (h₀ h₁ h₂ : History) → AreApart way → IsSettled h₀ → WritesSaved way.reserved.items h₀ h₁
+pub superblock_crash : (way : WayBack) (h₀ h₁ h₂ : History) → AreWritesApart way → IsSettled h₀ → WritesSaved way.reserved.items h₀ h₁
     → IsSettled h₁ → AreWrittenBack way.reserved.items (reads h₁) → WritesOnly (IsBlock 16 way.superblock.bytes) h₁ h₂
     → (image : Image) → LeftSince (clock h₀) h₂ image → IsUnturned way (reads h₀) image ⊎ IsTurned way (reads h₀) image
 superblock_crash way h₀ h₁ h₂ apart settled₀ only₁ settled₁ stand only₂ image left =
     ⊎_elim (λ early. inl (saved_crash way h₀ h₁ settled₀ only₁ image early)) late
-    (left_then (λ b _. IsPlace way.reserved.items b) (IsBlock 16 way.superblock.bytes) h₀ h₁ h₂ only₁ only₂ image left)
+    (left_then (λ b _. IsSavedPlace way.reserved.items b) (IsBlock 16 way.superblock.bytes) h₀ h₁ h₂ only₁ only₂ image left)
   where
     before : IsUnturned way (reads h₀) (reads h₁)
     before = reads_unturned way h₀ h₁ only₁
@@ -93,23 +84,23 @@ superblock_crash way h₀ h₁ h₂ apart settled₀ only₁ settled₁ stand on
         (each.1 16)
 
 -- block 16 stands over the saved blocks
-pub superblock_stands : (way : WayBack) (h₀ h₁ h₂ : History) → AreApart way → WritesSaved way.reserved.items h₀ h₁
+pub superblock_stands : (way : WayBack) (h₀ h₁ h₂ : History) → AreWritesApart way → WritesSaved way.reserved.items h₀ h₁
     → AreWrittenBack way.reserved.items (reads h₁) → 16 < length (reads h₁) → reads h₂ ≡ set (reads h₁) 16 way.superblock.bytes → IsTurned way (reads h₀) (reads h₂)
 superblock_stands way h₀ h₁ h₂ apart only₁ stand long is =
     over_saved way apart (reads h₀) (reads h₁) (reads h₂) (reads_unturned way h₀ h₁ only₁) stand
     (ap (λ (image : Image). length image) is ∙ length-set (reads h₁) 16 way.superblock.bytes)
-    (ap (λ (image : Image). block_at image 16) is ∙ get_or-set_same (reads h₁) 16 way.superblock.bytes [] long)
+    (ap (λ (image : Image). block_at image SUPER_BLOCK) is ∙ get_or-set_same (reads h₁) 16 way.superblock.bytes [] long)
     (λ b not. ap (λ (image : Image). block_at image b) is ∙ get_or-set_other (reads h₁) 16 b way.superblock.bytes [] not)
 
 -- what each phase writes is part of what is written
 module _ (way : WayBack) (b : ℕ) (bytes : List ℕ) where
-  pub saved_part : (other : List Saved) → other ≡ way.reserved.items → IsPlace other b → IsPart way b bytes
-  saved_part other same is = inl (subst (λ (s : List Saved). IsPlace s b) same is)
+  pub saved_part : (other : List Saved) → other ≡ way.reserved.items → IsSavedPlace other b → IsWayBackPart way b bytes
+  saved_part other same is = inl (subst (λ (s : List Saved). IsSavedPlace s b) same is)
 
-  pub superblock_part : IsBlock 16 way.superblock.bytes b bytes → IsPart way b bytes
+  pub superblock_part : IsBlock 16 way.superblock.bytes b bytes → IsWayBackPart way b bytes
   superblock_part is = inr (inl is)
 
-  pub wiping_part : IsWiping way b bytes → IsPart way b bytes
+  pub wiping_part : IsWiping way b bytes → IsWayBackPart way b bytes
   wiping_part is = inr (inr is)
 
 -- ---- zeros
@@ -119,24 +110,24 @@ abbrev pub WipesOne : Bool → ℕ → ℕ → List ℕ → Type 0
 WipesOne wiped place b bytes = (wiped ≡ true) × IsBlock place zeros b bytes
 
 module _ (way : WayBack) where
-  pub first_wiping : (b : ℕ) (bytes : List ℕ) → WipesOne way.first 16384 b bytes → IsWiping way b bytes
+  pub first_wiping : (b : ℕ) (bytes : List ℕ) → WipesOne way.first FIRST_MIRROR b bytes → IsWiping way b bytes
   first_wiping b bytes is = (inl (is.1.0, is.0), is.1.1)
 
-  pub second_wiping : (b : ℕ) (bytes : List ℕ) → WipesOne way.second 67108864 b bytes → IsWiping way b bytes
+  pub second_wiping : (b : ℕ) (bytes : List ℕ) → WipesOne way.second SECOND_MIRROR b bytes → IsWiping way b bytes
   second_wiping b bytes is = (inr (is.1.0, is.0), is.1.1)
 
   -- both are zeros
-  pub both_wiped : (h₁ h₂ : History) → (way.first ≡ true → block_at (reads h₁) 16384 ≡ zeros) → (way.second ≡ true → block_at (reads h₂) 67108864 ≡ zeros)
-      → WritesOnly (WipesOne way.second 67108864) h₁ h₂ → AreWiped way (reads h₂)
+  pub both_wiped : (h₁ h₂ : History) → (way.first ≡ true → block_at (reads h₁) FIRST_MIRROR ≡ zeros) → (way.second ≡ true → block_at (reads h₂) SECOND_MIRROR ≡ zeros)
+      → WritesOnly (WipesOne way.second SECOND_MIRROR) h₁ h₂ → AreWiped way (reads h₂)
   both_wiped h₁ h₂ one two only b wiped = ⊎_elim first second wiped
     where
-      first : (b ≡ 16384) × (way.first ≡ true) → block_at (reads h₂) b ≡ zeros
+      first : (b ≡ FIRST_MIRROR) × (way.first ≡ true) → block_at (reads h₂) b ≡ zeros
       first is =
-          let kept : block_at (reads h₂) 16384 ≡ block_at (reads h₁) 16384 =
-          ⊎_elim (λ same. same) (λ other. absurd (omega (arith, other.1.0))) (reads_only (WipesOne way.second 67108864) h₁ h₂ only 16384) in
+          let kept : block_at (reads h₂) FIRST_MIRROR ≡ block_at (reads h₁) FIRST_MIRROR =
+          ⊎_elim (λ same. same) (λ other. absurd (omega (arith, other.1.0))) (reads_only (WipesOne way.second SECOND_MIRROR) h₁ h₂ only FIRST_MIRROR) in
           subst (λ (n : ℕ). block_at (reads h₂) n ≡ zeros) (sym is.0) (kept ∙ one is.1)
 
-      second : (b ≡ 67108864) × (way.second ≡ true) → block_at (reads h₂) b ≡ zeros
+      second : (b ≡ SECOND_MIRROR) × (way.second ≡ true) → block_at (reads h₂) b ≡ zeros
       second is = subst (λ (n : ℕ). block_at (reads h₂) n ≡ zeros) (sym is.0) (two is.1)
 
 module _ (wiped : Bool) (place : ℕ) (bytes : List ℕ) (h₀ h₁ : History) {T E : Type 0} (result : Result T E) (zero_bytes : bytes ≡ zeros) where

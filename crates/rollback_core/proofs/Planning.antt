@@ -1,38 +1,27 @@
 -- What is read of the old volume is what is to be written.
-use Rattle.std.proofs.Common.{◌≡◌, ℕ, ◌==◌, nat_lt, Bool, not, ◌&&◌, List, length, codes, filter, ◌∙◌, ap, subst}
-use Rattle.reiser_bitmap.specs.outside.History.{Image, block_at}
-use Rattle.reiser_bitmap.specs.vol_block.Format.{has_bytes_at}
-use Rattle.reiser_bitmap.specs.vol_block.Volume.{is_reserved}
-use Rattle.btr_reader.specs.declared.image_map.ImageMap.{ImageMap}
-use Rattle.reiser_bitmap.specs.Bits.{has, used_blocks}
-use Rattle.volume_state.specs.Saved.{image_blocks}
-use Rattle.volume_state.specs.Untouched.{IsUntouched, old_used}
-use Rattle.rollback_core.specs.declared.way.WayBack.{WayBack}
-use Rattle.rollback_core.specs.Opened.{IsMapOn}
-use Rattle.rollback_core.specs.Prepared.{AreSaved, IsPrepared}
-use Rattle.rollback_core.specs.RolledBack.{summary}
+use Rattle.rollback_core.proofs.Imports.{◌≡◌, ℕ, ◌+◌, ◌==◌, nat_lt, Bool, not, ◌&&◌, List, length, codes, filter, ◌∙◌, ap, subst, FIRST_MIRROR, SECOND_MIRROR, SUPER_BLOCK, SUPER_MAGIC_OFFSET, Image, block_at, has_bytes_at, is_reserved, ImageMap, has, used_blocks, image_blocks, WayBack, IsMapOn, AreSaved, IsWayBack, rollback_summary, CanGoBack, old_used}
 
 -- whether a block is to become zeros, by the set of used blocks
 abbrev pub wiped_in : Image → List Bool → ℕ → Bool
-wiped_in disk used b = nat_lt b (length used) && (not (has used b) && has_bytes_at (block_at disk b) 64 (codes "_BHRfS_M"))
+wiped_in disk used b = nat_lt (b + 1) (length used) && (not (has used b) && has_bytes_at (block_at disk b) SUPER_MAGIC_OFFSET (codes "_BHRfS_M"))
 
 -- the reserved ones of the used blocks
 abbrev pub reserved_used : List Bool → List ℕ
 reserved_used used = filter (λ b. is_reserved b (length used)) (used_blocks used)
 
-pub prepared : (disk : Image) (m : ImageMap) (used : List Bool) (way : WayBack) → IsMapOn disk m → IsUntouched disk → used ≡ old_used disk
-    → AreSaved (image_blocks disk) (filter (λ b. not (b == 16)) (reserved_used used)) way.reserved.items → way.superblock.bytes ≡ block_at (image_blocks disk) 16
-    → way.first ≡ wiped_in disk used 16384 → way.second ≡ wiped_in disk used 67108864
-    → way.summary.blocks ≡ length (used_blocks used) → way.summary.restored ≡ length (reserved_used used) → IsPrepared disk way
+pub prepared : (disk : Image) (m : ImageMap) (used : List Bool) (way : WayBack) → IsMapOn disk m → CanGoBack disk → used ≡ old_used disk
+    → AreSaved (image_blocks disk) (filter (λ b. not (b == 16)) (reserved_used used)) way.reserved.items → way.superblock.bytes ≡ block_at (image_blocks disk) SUPER_BLOCK
+    → way.first ≡ wiped_in disk used FIRST_MIRROR → way.second ≡ wiped_in disk used SECOND_MIRROR
+    → way.summary.blocks ≡ length (used_blocks used) → way.summary.restored ≡ length (reserved_used used) → IsWayBack disk way
 prepared disk m used way on u is saved superblock first second blocks restored = record {
-  format = on.image.readable.format;
-  untouched = u;
+  format = on.image.leads.format;
+  can = u;
   reserved = subst (λ (set : List Bool). AreSaved (image_blocks disk) (filter (λ b. not (b == 16)) (reserved_used set)) way.reserved.items) is saved;
   superblock = superblock;
-  first = first ∙ ap (λ (set : List Bool). wiped_in disk set 16384) is;
-  second = second ∙ ap (λ (set : List Bool). wiped_in disk set 67108864) is;
+  first = first ∙ ap (λ (set : List Bool). wiped_in disk set FIRST_MIRROR) is;
+  second = second ∙ ap (λ (set : List Bool). wiped_in disk set SECOND_MIRROR) is;
   summary_is = same (blocks ∙ ap (λ (set : List Bool). length (used_blocks set)) is) (restored ∙ ap (λ (set : List Bool). length (reserved_used set)) is);
 }
   where
-    same : way.summary.blocks ≡ length (used_blocks (old_used disk)) → way.summary.restored ≡ length (reserved_used (old_used disk)) → way.summary ≡ summary disk
+    same : way.summary.blocks ≡ length (used_blocks (old_used disk)) → way.summary.restored ≡ length (reserved_used (old_used disk)) → way.summary ≡ rollback_summary disk
     same one two = ap (λ (n : ℕ). record { blocks = n; restored = way.summary.restored }) one ∙ ap (λ (n : ℕ). record { blocks = length (used_blocks (old_used disk)); restored = n }) two

@@ -1,39 +1,25 @@
 -- What is planned is what is to be written.
-use Rattle.std.proofs.Common.{◌≡◌, ◌∙◌, ℕ, ◌/◌, Bool, List, length, sym, ap, subst, Ok}
-use Rattle.reiser_bitmap.specs.outside.Format.{format_in}
-use Rattle.reiser_bitmap.specs.outside.History.{Image, block_at}
-use Rattle.reiser_bitmap.specs.refusals.declared.answer.VolAnswer.{VolAnswer}
-use Rattle.reiser_bitmap.specs.refusals.declared.answer.VolAnswer.TheVariants as vol
-use Rattle.btr_super.specs.Rules.{super_of}
-use Rattle.btr_super.specs.declared.superblock.Super.{Super}
-use Rattle.convert_steps.specs.command_answers.Answers.{of_volume}
+use Rattle.rollback_core.proofs.Imports.{◌≡◌, ◌∙◌, ℕ, ◌/◌, Bool, List, length, sym, ap, subst, Ok, FIRST_MIRROR, SECOND_MIRROR, SUPER_BLOCK, format_in, Image, block_at, VolAnswer, super_of, Super, of_volume, IsFrontAccepted, superblock, used_of, Format, Reiser, Btrfs, IsRefusedAs, RefusesRecover, Gives, blocks_of, copied, mended, mended_by, wiped, IsPlanned, IsInOrder, Mending}
 use Rattle.reiser_volume.specs.reiser_super.declared.superblock.Super.{Super as ReiserSuper}
 use Rattle.reiser_volume.specs.Front.{RefusesFront}
-use Rattle.reiser_volume.specs.Volume.{IsFrontAccepted, superblock, used_of}
-use Rattle.reiser_bitmap.specs.vol_block.declared.format.Format.{Format}
-use Rattle.reiser_bitmap.specs.vol_block.declared.format.Format.TheVariants.{Reiser, Btrfs}
-use Rattle.rollback_core.specs.RecoveryAnswers.{IsRefusedAs, RefusesRecover}
-use Rattle.rollback_core.specs.Mending.{Gives, blocks_of, copied, mended, mended_by, wiped}
-use Rattle.rollback_core.specs.Planned.{IsPlanned}
-use Rattle.rollback_core.specs.Recovered.{IsInOrder}
-use Rattle.rollback_core.specs.declared.mending.Mending.{Mending}
+use Rattle.reiser_bitmap.specs.refusals.declared.answer.VolAnswer.TheVariants as vol
 use Rattle.rollback_core.proofs.Supers.{super_is}
 
 module _ (image : Image) (m : Mending) where
-  module _ (superblock : List ℕ) (s : Super) (is : superblock ≡ block_at image 16) (read : super_of (block_at image 16) 16 (length image) ≡ Ok s) (format : Btrfs ≡ format_in image) where
+  module _ (superblock : List ℕ) (s : Super) (is : superblock ≡ block_at image SUPER_BLOCK) (read : super_of (block_at image SUPER_BLOCK) SUPER_BLOCK (length image) ≡ Ok s) (format : Btrfs ≡ format_in image) where
     copied_is : (b : ℕ) → copied (s.total_bytes / 4096) superblock b (block_at image b) ≡ mended image b
     copied_is b =
-        ap (λ (t : Super). copied (t.total_bytes / 4096) superblock b (block_at image b)) (sym (super_is (block_at image 16) (length image) s read))
-        ∙ (ap (λ (bytes : List ℕ). copied (blocks_of (block_at image 16)) bytes b (block_at image b)) is ∙ ap (λ (f : Format). mended_by f image b (block_at image b)) format)
+        ap (λ (t : Super). copied (t.total_bytes / 4096) superblock b (block_at image b)) (sym (super_is (block_at image SUPER_BLOCK) (length image) s read))
+        ∙ (ap (λ (bytes : List ℕ). copied (blocks_of (block_at image SUPER_BLOCK)) bytes b (block_at image b)) is ∙ ap (λ (f : Format). mended_by f image b (block_at image b)) format)
 
     pub btrfs_planned : m.format ≡ Btrfs
-        → Gives (block_at image 16384) (copied (s.total_bytes / 4096) superblock 16384 (block_at image 16384)) m.first
-        → Gives (block_at image 67108864) (copied (s.total_bytes / 4096) superblock 67108864 (block_at image 67108864)) m.second → IsPlanned image m
+        → Gives (block_at image FIRST_MIRROR) (copied (s.total_bytes / 4096) superblock FIRST_MIRROR (block_at image FIRST_MIRROR)) m.first
+        → Gives (block_at image SECOND_MIRROR) (copied (s.total_bytes / 4096) superblock SECOND_MIRROR (block_at image SECOND_MIRROR)) m.second → IsPlanned image m
     btrfs_planned kind first second = record {
       can = subst (λ (f : Format). IsInOrder f image) format (s, read);
       format = kind ∙ format;
-      first = subst (λ (wanted : List ℕ). Gives (block_at image 16384) wanted m.first) (copied_is 16384) first;
-      second = subst (λ (wanted : List ℕ). Gives (block_at image 67108864) wanted m.second) (copied_is 67108864) second;
+      first = subst (λ (wanted : List ℕ). Gives (block_at image FIRST_MIRROR) wanted m.first) (copied_is FIRST_MIRROR) first;
+      second = subst (λ (wanted : List ℕ). Gives (block_at image SECOND_MIRROR) wanted m.second) (copied_is SECOND_MIRROR) second;
     }
 
   module _ (sup : ReiserSuper) (used : List Bool) (accepted : IsFrontAccepted image) (fields : sup ≡ superblock image) (bits : used ≡ used_of image) (format : Reiser ≡ format_in image) where
@@ -43,13 +29,13 @@ module _ (image : Image) (m : Mending) where
         ∙ (ap (λ (set : List Bool). wiped (superblock image).blocks set b (block_at image b)) bits ∙ ap (λ (f : Format). mended_by f image b (block_at image b)) format)
 
     pub reiser_planned : m.format ≡ Reiser
-        → Gives (block_at image 16384) (wiped sup.blocks used 16384 (block_at image 16384)) m.first
-        → Gives (block_at image 67108864) (wiped sup.blocks used 67108864 (block_at image 67108864)) m.second → IsPlanned image m
+        → Gives (block_at image FIRST_MIRROR) (wiped sup.blocks used FIRST_MIRROR (block_at image FIRST_MIRROR)) m.first
+        → Gives (block_at image SECOND_MIRROR) (wiped sup.blocks used SECOND_MIRROR (block_at image SECOND_MIRROR)) m.second → IsPlanned image m
     reiser_planned kind first second = record {
       can = subst (λ (f : Format). IsInOrder f image) format accepted;
       format = kind ∙ format;
-      first = subst (λ (wanted : List ℕ). Gives (block_at image 16384) wanted m.first) (wiped_is 16384) first;
-      second = subst (λ (wanted : List ℕ). Gives (block_at image 67108864) wanted m.second) (wiped_is 67108864) second;
+      first = subst (λ (wanted : List ℕ). Gives (block_at image FIRST_MIRROR) wanted m.first) (wiped_is FIRST_MIRROR) first;
+      second = subst (λ (wanted : List ℕ). Gives (block_at image SECOND_MIRROR) wanted m.second) (wiped_is SECOND_MIRROR) second;
     }
 
 -- what is refused of superblock, journal and bitmap

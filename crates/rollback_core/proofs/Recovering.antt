@@ -1,11 +1,5 @@
 -- A recovery changes reserved blocks alone, and so no block in use.
-use Rattle.std.proofs.Common.{◌≡◌, ◌↔◌, ⊎_elim, ℕ, false, true≢false, subst}
-use Rattle.reiser_bitmap.specs.outside.History.{Image}
-use Rattle.convert_steps.specs.Switch.{IsMirror}
-use Rattle.btr_reader.specs.Apart.{IsSameOutside, is_spare}
-use Rattle.rollback_core.specs.RecoveryLaws.{IsSameBut, RecoveryKeeps}
-use Rattle.volume_state.specs.Using.{IsInUse, IsReservedFree}
-use Rattle.rollback_core.specs.SavedLaws.{RecoveryKeepsUse}
+use Rattle.rollback_core.proofs.Imports.{◌≡◌, ◌↔◌, ⊎_elim, ℕ, false, true≢false, subst, Image, IsMirror, IsSameOutside, is_spare, IsSameBut, RecoveryKeeps, IsInUse, IsReservedFree, RecoveryKeepsUse}
 use Rattle.rollback_core.proofs.Apart.{spare_16, spare_unused}
 use Rattle.rollback_core.proofs.Trees.{AreTreesApart, of_use}
 use Rattle.rollback_core.proofs.Using.{used_same}

@@ -1,25 +1,5 @@
 -- The format of a disk whose volume is in order.
-use Rattle.std.proofs.Common.{◌≡◌, ◌∙◌, ℕ, zero, suc, ◌+◌, ◌*◌, ◌<◌, Bool, true, false, cond, nat_lt, nat_le, List, [], ◌∷◌, length, get_or, drop, codes, Result, Ok, Err, refl, sym, subst, arith}
-use Rattle.std.specs.Prelude.{nat_eq}
-use Rattle.std.specs.List.{starts_with}
-use Rattle.std.proofs.lemmas.Bool.{and_parts, eqb-true}
-use Rattle.std.proofs.lemmas.Bool.Decides.{nat_tests}
-use Rattle.std.proofs.lemmas.List.{get_or-drop}
-use Rattle.reiser_bitmap.specs.outside.Format.{format_in}
-use Rattle.reiser_bitmap.specs.outside.History.{Image, block_at}
-use Rattle.reiser_bitmap.specs.refusals.declared.refusal.BtrRefusal.{BtrRefusal}
-use Rattle.btr_reader.specs.Opening.{super_on}
-use Rattle.btr_reader.specs.Parts.{IsReadable, Superblock}
-use Rattle.btr_super.specs.Rules.{super_of}
-use Rattle.btr_super.specs.declared.superblock.Super.{Super}
-use Rattle.reiser_volume.specs.Volume.{IsFrontAccepted}
-use Rattle.reiser_volume.proofs.Refusals.{accepted_front}
-use Rattle.reiser_bitmap.specs.vol_block.Format.{has_bytes_at, has_reiser_magic}
-use Rattle.reiser_bitmap.specs.vol_block.Volume.{field}
-use Rattle.reiser_bitmap.specs.vol_block.declared.format.Format.{Format}
-use Rattle.reiser_bitmap.specs.vol_block.declared.format.Format.TheVariants.{Reiser, Btrfs, Neither}
-use Rattle.rollback_core.specs.RecoveryLaws.{InOrderHasFormat}
-use Rattle.rollback_core.specs.Recovered.{IsInOrder, IsRecoverable}
+use Rattle.rollback_core.proofs.Imports.{◌≡◌, ◌∙◌, ℕ, zero, suc, ◌+◌, ◌*◌, ◌<◌, Bool, true, false, cond, nat_lt, nat_le, List, [], ◌∷◌, length, get_or, drop, codes, Result, Ok, Err, refl, sym, subst, arith, nat_eq, starts_with, and_parts, eqb-true, nat_tests, get_or-drop, SUPER_BLOCK, SUPER_MAGIC_OFFSET, format_in, Image, block_at, BtrRefusal, super_on, IsReadable, Superblock, super_of, Super, IsFrontAccepted, accepted_front, has_bytes_at, has_reiser_magic, field, Format, Reiser, Btrfs, Neither, InOrderHasFormat, IsInOrder, IsRecoverable}
 use Rattle.rollback_core.proofs.Supers.{super_magic}
 
 -- ---- the two magics
@@ -30,7 +10,7 @@ starts_get (x ∷ xs) (y ∷ ys) zero less is = sym (eqb-true y x (and_parts (na
 starts_get (x ∷ xs) (y ∷ ys) (suc i) less is = starts_get xs ys i (omega (arith, less)) (and_parts (nat_eq y x) (starts_with nat_eq xs ys) is).1
 
 -- where a Btrfs superblock has its magic, a ReiserFS superblock has a tree that is too high
-high : (bytes : List ℕ) → has_bytes_at bytes 64 (codes "_BHRfS_M") ≡ true → 7 < field 2 bytes 68
+high : (bytes : List ℕ) → has_bytes_at bytes SUPER_MAGIC_OFFSET (codes "_BHRfS_M") ≡ true → 7 < field 2 bytes 68
 high bytes is =
     let fifth : get_or (drop 64 bytes) 4 0 ≡ 0x66 = starts_get (drop 64 bytes) (codes "_BHRfS_M") 4 (omega arith) is in
     let low : get_or (drop 68 bytes) 0 0 ≡ 0x66 = get_or-drop 68 bytes 0 0 ∙ (sym (get_or-drop 64 bytes 4 0) ∙ fifth) in
@@ -58,15 +38,15 @@ long_enough n long = grind (arith, nat_tests, long)
 
 reiser_format : (image : Image) → IsFrontAccepted image → format_in image ≡ Reiser
 reiser_format image a =
-    let other : has_bytes_at (block_at image 16) 64 (codes "_BHRfS_M") ≡ false =
-    not_true (has_bytes_at (block_at image 16) 64 (codes "_BHRfS_M")) (λ is. omega (arith, high (block_at image 16) is, a.clean.superblock.bounds.height_high)) in
-    chosen_reiser (nat_le (length image) 16) (has_bytes_at (block_at image 16) 64 (codes "_BHRfS_M")) (has_reiser_magic (block_at image 16)) (long_enough (length image) a.clean.superblock.there) other a.clean.superblock.magic
+    let other : has_bytes_at (block_at image SUPER_BLOCK) SUPER_MAGIC_OFFSET (codes "_BHRfS_M") ≡ false =
+    not_true (has_bytes_at (block_at image SUPER_BLOCK) SUPER_MAGIC_OFFSET (codes "_BHRfS_M")) (λ is. omega (arith, high (block_at image SUPER_BLOCK) is, a.clean.superblock.bounds.height_high)) in
+    chosen_reiser (nat_le (length image) 16) (has_bytes_at (block_at image SUPER_BLOCK) SUPER_MAGIC_OFFSET (codes "_BHRfS_M")) (has_reiser_magic (block_at image SUPER_BLOCK)) (long_enough (length image) a.clean.superblock.there) other a.clean.superblock.magic
 
-btrfs_format : (image : Image) (s : Super) → super_of (block_at image 16) 16 (length image) ≡ Ok s → format_in image ≡ Btrfs
+btrfs_format : (image : Image) (s : Super) → super_of (block_at image SUPER_BLOCK) SUPER_BLOCK (length image) ≡ Ok s → format_in image ≡ Btrfs
 btrfs_format image s read =
-    let parts = and_parts (nat_lt 16 (length image)) (has_bytes_at (block_at image 16) 64 (codes "_BHRfS_M")) (super_magic (block_at image 16) (length image) s read) in
+    let parts = and_parts (nat_lt 16 (length image)) (has_bytes_at (block_at image SUPER_BLOCK) SUPER_MAGIC_OFFSET (codes "_BHRfS_M")) (super_magic (block_at image SUPER_BLOCK) (length image) s read) in
     let long : nat_le (length image) 16 ≡ false = grind (arith, nat_tests, parts.0) in
-    chosen_btrfs (nat_le (length image) 16) (has_bytes_at (block_at image 16) 64 (codes "_BHRfS_M")) (cond (has_reiser_magic (block_at image 16)) Reiser Neither) long parts.1
+    chosen_btrfs (nat_le (length image) 16) (has_bytes_at (block_at image SUPER_BLOCK) SUPER_MAGIC_OFFSET (codes "_BHRfS_M")) (cond (has_reiser_magic (block_at image SUPER_BLOCK)) Reiser Neither) long parts.1
 
 by_front : (image : Image) → IsFrontAccepted image → (format_in image ≡ Reiser) × IsRecoverable image
 by_front image a = (reiser_format image a, subst (λ (f : Format). IsInOrder f image) (sym (reiser_format image a)) a)

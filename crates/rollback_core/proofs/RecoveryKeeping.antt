@@ -1,33 +1,9 @@
 -- What a recovery keeps.
-use Rattle.std.proofs.Common.{◌≡◌, ◌≢◌, ◌∙◌, ◌⊎◌, inl, inr, ⊎_elim, ℕ, zero, suc, Bool, not, ◌/◌, ◌<◌, ◌≤◌, true, false, true≢false, cond, nat_lt, nat_le, List, length, codes, refl, sym, ap, subst, arith}
-use Rattle.std.specs.Prelude.{Contains, Ok, Err, Result, bytes_eq}
-use Rattle.std.proofs.lemmas.Bool.{cases_lt}
-use Rattle.std.proofs.lemmas.Bool.Decides.{nat_tests}
-use Rattle.std.proofs.lemmas.Slice.Eq.{bytes_eq-Decides}
-use Rattle.reiser_bitmap.specs.outside.Format.{format_in}
-use Rattle.reiser_bitmap.specs.outside.History.{Image, block_at}
-use Rattle.convert_steps.specs.command_answers.declared.answer.Answer.TheVariants as answer
-use Rattle.reiser_bitmap.specs.refusals.declared.refusal.BtrRefusal.{BtrRefusal}
+use Rattle.rollback_core.proofs.Imports.{◌≡◌, ◌≢◌, ◌∙◌, ◌⊎◌, inl, inr, ⊎_elim, ℕ, zero, suc, Bool, not, ◌+◌, ◌/◌, ◌<◌, ◌≤◌, true, false, true≢false, cond, nat_lt, nat_le, List, length, codes, refl, sym, ap, subst, arith, bytes_eq, cases_lt, nat_tests, bytes_eq-Decides, FIRST_MIRROR, SECOND_MIRROR, SUPER_BLOCK, SUPER_MAGIC_OFFSET, format_in, Image, block_at, BtrRefusal, super_of, mirror_bytes, Super, IsMirror, own_super, IsSameOutside, is_spare, is_spare_in, SameUsed, contains_filter, filter_contains, IsFrontAccepted, superblock, used_of, front_not_refused, same_volume, format, has_bytes_at, Format, Reiser, Btrfs, Neither, IsRefusedAs, IsSameBut, RecoversWhatIsInOrder, RecoveryCounts, RecoveryKeeps, RecoveryMends, RecoveryStays, blocks_of, is_torn, mended, mended_by, IsInOrder, IsLeftByRecover, IsPartly, IsRecoverable, IsRecovered, copy_blocks}
+use Rattle.std.specs.Prelude.{Contains, Ok, Err, Result}
 use Rattle.reiser_bitmap.specs.refusals.declared.refusal.VolumeRefusal.{VolumeRefusal}
-use Rattle.btr_super.specs.Rules.{super_of}
-use Rattle.btr_super.specs.Super.{mirror_bytes}
-use Rattle.btr_super.specs.declared.superblock.Super.{Super}
-use Rattle.convert_steps.specs.Switch.{IsMirror}
-use Rattle.btr_reader.specs.Parts.{own_super}
-use Rattle.btr_reader.specs.Apart.{IsSameOutside, is_spare, is_spare_in}
 use Rattle.btr_reader.proofs.Decided.{reserved_blocks_are_spare}
-use Rattle.reiser_volume.specs.reiser_volume_contents.Laws.{SameUsed}
-use Rattle.reiser_bitmap.proofs.Ranges.{contains_filter, filter_contains}
-use Rattle.reiser_volume.specs.Volume.{IsFrontAccepted, superblock, used_of}
-use Rattle.reiser_volume.proofs.Refusals.{front_not_refused}
-use Rattle.reiser_volume.proofs.Unchanged.{same_volume}
-use Rattle.reiser_bitmap.specs.vol_block.Format.{format, has_bytes_at}
-use Rattle.reiser_bitmap.specs.vol_block.declared.format.Format.{Format}
-use Rattle.reiser_bitmap.specs.vol_block.declared.format.Format.TheVariants.{Reiser, Btrfs, Neither}
-use Rattle.rollback_core.specs.RecoveryAnswers.{IsRefusedAs}
-use Rattle.rollback_core.specs.RecoveryLaws.{IsSameBut, RecoversWhatIsInOrder, RecoveryCounts, RecoveryKeeps, RecoveryMends, RecoveryStays}
-use Rattle.rollback_core.specs.Mending.{blocks_of, is_torn, mended, mended_by}
-use Rattle.rollback_core.specs.Recovered.{IsInOrder, IsLeft, IsPartly, IsRecoverable, IsRecovered, copy_blocks}
+use Rattle.convert_steps.specs.command_answers.declared.answer.Answer.TheVariants as answer
 use Rattle.rollback_core.proofs.Fronts.{front_same, used_same}
 use Rattle.rollback_core.proofs.Mended.{copy_beyond, copy_wanted, mend_again, mend_same, same_bytes, two_of, used_stays, wiped_clean}
 
@@ -42,11 +18,11 @@ equal_or a b =
 
 mirror_or : (b : ℕ) → IsMirror b ⊎ (IsMirror b → ⊥)
 mirror_or b =
-    ⊎_elim (λ one. inl (inl one)) (λ not_one. ⊎_elim (λ two. inl (inr two)) (λ not_two. inr (λ mirror. ⊎_elim not_one not_two mirror)) (equal_or b 67108864)) (equal_or b 16384)
+    ⊎_elim (λ one. inl (inl one)) (λ not_one. ⊎_elim (λ two. inl (inr two)) (λ not_two. inr (λ mirror. ⊎_elim not_one not_two mirror)) (equal_or b SECOND_MIRROR)) (equal_or b FIRST_MIRROR)
 
-format_same : (image other : Image) → length other ≡ length image → block_at other 16 ≡ block_at image 16 → format_in other ≡ format_in image
+format_same : (image other : Image) → length other ≡ length image → block_at other SUPER_BLOCK ≡ block_at image SUPER_BLOCK → format_in other ≡ format_in image
 format_same image other size same =
-    ap (λ (n : ℕ). cond (nat_le n 16) Neither (format (block_at other 16))) size ∙ ap (λ (bytes : List ℕ). cond (nat_le (length image) 16) Neither (format bytes)) same
+    ap (λ (n : ℕ). cond (nat_le n 16) Neither (format (block_at other SUPER_BLOCK))) size ∙ ap (λ (bytes : List ℕ). cond (nat_le (length image) 16) Neither (format bytes)) same
 
 -- a disk that was recovered differs in blocks of copies alone
 partly_of : (image other : Image) → IsRecovered image other → IsPartly image other
@@ -59,7 +35,7 @@ module _ (image other : Image) (can : IsRecoverable image) (is : IsPartly image 
   outside : (b : ℕ) → ¬ IsMirror b → block_at other b ≡ block_at image b
   outside b elsewhere = ⊎_elim (λ same. same) (λ both. absurd (elsewhere both.0)) (is.each b)
 
-  super_same : block_at other 16 ≡ block_at image 16
+  super_same : block_at other SUPER_BLOCK ≡ block_at image SUPER_BLOCK
   super_same = outside 16 mirror_16
 
   format_kept : format_in other ≡ format_in image
@@ -77,7 +53,7 @@ module _ (image other : Image) (can : IsRecoverable image) (is : IsPartly image 
   in_order : (f : Format) → format_in image ≡ f → IsInOrder f image → IsInOrder f other
   in_order Reiser format order = front_same image other order (used_kept format) is.size
   in_order Btrfs format order =
-      (order.0, ap (λ (bytes : List ℕ). super_of bytes 16 (length other)) super_same ∙ (ap (λ (n : ℕ). super_of (block_at image 16) 16 n) is.size ∙ order.1))
+      (order.0, ap (λ (bytes : List ℕ). super_of bytes SUPER_BLOCK (length other)) super_same ∙ (ap (λ (n : ℕ). super_of (block_at image SUPER_BLOCK) SUPER_BLOCK n) is.size ∙ order.1))
   in_order Neither format order = absurd order
 
   can_again : IsRecoverable other
@@ -123,7 +99,7 @@ not_reserved blocks b free mirror =
 left_outside : (image other : Image) → IsSameBut image other → IsSameOutside (is_spare_in image) image other
 left_outside image other is = record { size = is.size; others = λ b free. is.others b (not_reserved ((own_super image).total_bytes / 4096) b free) }
 
-left_same : (image other : Image) → IsLeft image other → IsSameBut image other
+left_same : (image other : Image) → IsLeftByRecover image other → IsSameBut image other
 left_same image other is = ⊎_elim (λ same. subst (IsSameBut image) (sym same) (same_as_itself image)) (λ both. same_but image other both.0 both.1) is
 
 pub keeps : RecoveryKeeps
@@ -146,8 +122,8 @@ stays = record {
     others = λ b outside. refl;
   };
   idle = λ image other is.
-      let first = same_bytes (mended other 16384) (block_at other 16384) (settled_copies image other is 16384 (inl refl)) in
-      let second = same_bytes (mended other 67108864) (block_at other 67108864) (settled_copies image other is 67108864 (inr refl)) in
+      let first = same_bytes (mended other FIRST_MIRROR) (block_at other FIRST_MIRROR) (settled_copies image other is FIRST_MIRROR (inl refl)) in
+      let second = same_bytes (mended other SECOND_MIRROR) (block_at other SECOND_MIRROR) (settled_copies image other is SECOND_MIRROR (inr refl)) in
       two_of (is_torn other) false false first second;
   again = λ image left other is made. ⊎_elim (λ same. subst (λ (i : Image). IsRecovered i other) same made)
       (λ both. record {
@@ -160,27 +136,27 @@ stays = record {
 }
 
 -- ---- what stands
-copied_there : (image : Image) (b : ℕ) → format_in image ≡ Btrfs → b < blocks_of (block_at image 16) → mended image b ≡ mirror_bytes b (block_at image 16)
+copied_there : (image : Image) (b : ℕ) → format_in image ≡ Btrfs → b + 1 < blocks_of (block_at image SUPER_BLOCK) → mended image b ≡ mirror_bytes b (block_at image SUPER_BLOCK)
 copied_there image b btrfs low =
-    let yes : nat_lt b (blocks_of (block_at image 16)) ≡ true = grind (arith, nat_tests, low) in
-    ap (λ (f : Format). mended_by f image b (block_at image b)) btrfs ∙ copy_wanted (blocks_of (block_at image 16)) (block_at image 16) b (block_at image b) yes
+    let yes : nat_lt (b + 1) (blocks_of (block_at image SUPER_BLOCK)) ≡ true = grind (arith, nat_tests, low) in
+    ap (λ (f : Format). mended_by f image b (block_at image b)) btrfs ∙ copy_wanted (blocks_of (block_at image SUPER_BLOCK)) (block_at image SUPER_BLOCK) b (block_at image b) yes
 
-kept_beyond : (image : Image) (b : ℕ) → format_in image ≡ Btrfs → blocks_of (block_at image 16) ≤ b → mended image b ≡ block_at image b
+kept_beyond : (image : Image) (b : ℕ) → format_in image ≡ Btrfs → blocks_of (block_at image SUPER_BLOCK) ≤ b + 1 → mended image b ≡ block_at image b
 kept_beyond image b btrfs high =
-    let no : nat_lt b (blocks_of (block_at image 16)) ≡ false = grind (arith, nat_tests, high) in
-    ap (λ (f : Format). mended_by f image b (block_at image b)) btrfs ∙ copy_beyond (blocks_of (block_at image 16)) (block_at image 16) b (block_at image b) no
+    let no : nat_lt (b + 1) (blocks_of (block_at image SUPER_BLOCK)) ≡ false = grind (arith, nat_tests, high) in
+    ap (λ (f : Format). mended_by f image b (block_at image b)) btrfs ∙ copy_beyond (blocks_of (block_at image SUPER_BLOCK)) (block_at image SUPER_BLOCK) b (block_at image b) no
 
 pub mends : RecoveryMends
 mends = record {
   copies = λ image other is btrfs b mirror low. is.copies b mirror ∙ copied_there image b btrfs low;
   wiped = λ image other is reiser b mirror low free.
-      let yes : nat_lt b (superblock image).blocks ≡ true = grind (arith, nat_tests, low) in
+      let yes : nat_lt (b + 1) (superblock image).blocks ≡ true = grind (arith, nat_tests, low) in
       let here : block_at other b ≡ mended_by Reiser image b (block_at image b) = is.copies b mirror ∙ ap (λ (f : Format). mended_by f image b (block_at image b)) reiser in
-      ap (λ (bytes : List ℕ). has_bytes_at bytes 64 (codes "_BHRfS_M")) here ∙ wiped_clean (superblock image).blocks (used_of image) b (block_at image b) yes free;
+      ap (λ (bytes : List ℕ). has_bytes_at bytes SUPER_MAGIC_OFFSET (codes "_BHRfS_M")) here ∙ wiped_clean (superblock image).blocks (used_of image) b (block_at image b) yes free;
   whole = λ image can btrfs copies. record {
     can = can;
     size = refl;
-    copies = λ b mirror. ⊎_elim (λ low. copies b mirror low ∙ sym (copied_there image b btrfs low)) (λ high. sym (kept_beyond image b btrfs high)) (cases_lt b (blocks_of (block_at image 16)));
+    copies = λ b mirror. ⊎_elim (λ low. copies b mirror low ∙ sym (copied_there image b btrfs low)) (λ high. sym (kept_beyond image b btrfs high)) (cases_lt (b + 1) (blocks_of (block_at image SUPER_BLOCK)));
     others = λ b outside. refl;
   };
 }
@@ -228,7 +204,7 @@ ok s = Ok s
 abbrev err : BtrRefusal → Result Super BtrRefusal
 err r = Err r
 
-no_super_refusal : (image : Image) (r : BtrRefusal) → IsInOrder Btrfs image → super_of (block_at image 16) 16 (length image) ≡ Err r → ⊥
+no_super_refusal : (image : Image) (r : BtrRefusal) → IsInOrder Btrfs image → super_of (block_at image SUPER_BLOCK) SUPER_BLOCK (length image) ≡ Err r → ⊥
 no_super_refusal image r order refused =
     let both : ok order.0 ≡ err r = sym order.1 ∙ refused in
     absurd cc
@@ -247,5 +223,7 @@ in_order_recovers image answer.ImageMissing can refused = absurd refused
 in_order_recovers image (answer.ImageMoved block) can refused = absurd refused
 in_order_recovers image (answer.ImageDamaged r) can refused = absurd refused
 in_order_recovers image (answer.ReservedUsed block) can refused = absurd refused
+in_order_recovers image (answer.NotSound part address) can refused = absurd refused
+in_order_recovers image (answer.ImageShared tree) can refused = absurd refused
 in_order_recovers image answer.Fault can refused = inl refl
 in_order_recovers image answer.Memory can refused = inr (refl, has_bitmap image (format_in image) can refused)

@@ -1,18 +1,8 @@
 -- The format of a disk, by block 16 and the disk's length.
-use Rattle.std.proofs.Common.{◌≡◌, ◌<◌, ◌≤◌, Bool, true, false, cond, List, [], ◌∷◌, length, Result, Err, Contains, inl, refl, sym, ◌∙◌, ap, subst, arith}
+use Rattle.rollback_core.proofs.Imports.{◌≡◌, ◌<◌, ◌≤◌, Bool, true, false, cond, List, [], ◌∷◌, length, Result, Err, Contains, inl, refl, sym, ◌∙◌, ap, subst, arith, nat_tests, SUPER_BLOCK, format_in, Image, block_at, BtrRefusal, format, Format, opening_refusals, refusals_after, super_on, IsReadable, SavedImage, Superblock, Super, HasReadableWay}
 use Rattle.std.specs.Prelude.{nat_le}
-use Rattle.std.proofs.lemmas.Bool.Decides.{nat_tests}
-use Rattle.reiser_bitmap.specs.outside.Format.{format_in}
-use Rattle.reiser_bitmap.specs.outside.History.{Image, block_at}
-use Rattle.reiser_bitmap.specs.refusals.declared.refusal.BtrRefusal.{BtrRefusal}
-use Rattle.reiser_bitmap.specs.vol_block.Format.{format}
-use Rattle.reiser_bitmap.specs.vol_block.declared.format.Format.{Format}
 use Rattle.reiser_bitmap.specs.vol_block.declared.format.Format.TheVariants as formats
-use Rattle.btr_reader.specs.Opening.{opening_refusals, refusals_after, super_on}
-use Rattle.btr_reader.specs.Parts.{IsReadable, SavedImage, Superblock}
-use Rattle.btr_super.specs.declared.superblock.Super.{Super}
 use Rattle.rollback_core.proofs.RecoveryFormats.{has_format}
-use Rattle.volume_state.specs.Untouched.{IsReadWhole}
 
 chosen_long : (short : Bool) (f : Format) → short ≡ false → cond short formats.Neither f ≡ f
 chosen_long false f long = refl
@@ -23,16 +13,16 @@ chosen_short true f is = refl
 chosen_short false f is = absurd cc
 
 -- a disk that has block 16 has the format of that block
-pub format_long : (disk : Image) (f : Format) → 16 < length disk → format (block_at disk 16) ≡ f → format_in disk ≡ f
+pub format_long : (disk : Image) (f : Format) → 16 < length disk → format (block_at disk SUPER_BLOCK) ≡ f → format_in disk ≡ f
 format_long disk f long is =
     let enough : nat_le (length disk) 16 ≡ false = grind (arith, nat_tests, long) in
-    chosen_long (nat_le (length disk) 16) (format (block_at disk 16)) enough ∙ is
+    chosen_long (nat_le (length disk) 16) (format (block_at disk SUPER_BLOCK)) enough ∙ is
 
 -- and a shorter one has none
 pub format_short : (disk : Image) → length disk ≤ 16 → format_in disk ≡ formats.Neither
 format_short disk short =
     let is : nat_le (length disk) 16 ≡ true = grind (arith, nat_tests, short) in
-    chosen_short (nat_le (length disk) 16) (format (block_at disk 16)) is
+    chosen_short (nat_le (length disk) 16) (format (block_at disk SUPER_BLOCK)) is
 
 opening_refused : (disk : Image) (r : BtrRefusal) → super_on disk ≡ Err r → opening_refusals disk ≡ r ∷ []
 unfolding opening_refusals
@@ -42,6 +32,6 @@ opening_refused disk r is = ap (λ (read : Result Super BtrRefusal). refusals_af
 super_readable : (disk : Image) → IsReadable disk SavedImage → IsReadable disk Superblock
 super_readable disk way r is = way r (inl (subst (λ (rs : List BtrRefusal). Contains rs r) (sym (opening_refused disk r is)) (0, omega arith, refl)))
 
--- a volume of which all is read is one of Btrfs
-pub format_read : (disk : Image) → IsReadWhole disk → format_in disk ≡ formats.Btrfs
-format_read disk whole = (has_format.btrfs disk (super_readable disk whole.way)).0
+-- a volume with a way to an image is one of Btrfs
+pub format_read : (disk : Image) → HasReadableWay disk → format_in disk ≡ formats.Btrfs
+format_read disk way = (has_format.btrfs disk (super_readable disk way.readable)).0

@@ -1,22 +1,7 @@
 -- What a rollback and its crashes keep.
-use Rattle.std.proofs.Common.{◌≡◌, ◌≢◌, inl, inr, ⊎_elim, ℕ, ◌≤◌, eqb, nat_lt, Bool, true, false, not, ◌&&◌, List, length, codes, refl, sym, ◌∙◌, ap, subst, arith, true≢false}
-use Rattle.std.proofs.lemmas.Bool.{and_parts}
-use Rattle.std.proofs.lemmas.Bool.Decides.{nat_tests}
-use Rattle.reiser_bitmap.specs.outside.History.{Image, block_at}
+use Rattle.rollback_core.proofs.Imports.{◌≡◌, ◌≢◌, inl, inr, ⊎_elim, ℕ, ◌≤◌, ◌+◌, eqb, nat_lt, Bool, true, false, not, ◌&&◌, List, length, codes, refl, sym, ◌∙◌, ap, subst, arith, true≢false, and_parts, nat_tests, SUPER_MAGIC_OFFSET, Image, block_at, image_blocks, image_short, IsSameOutside, has, superblock, used_of, used_length, same_volume, has_bytes_at, is_reserved, RollbackGoesOn, RollbackKeeps, IsBack, IsRolledBack, StillStands, is_wiped, CanGoBack, old_used}
 use Rattle.volume_state.specs.Laws.{is_spare}
-use Rattle.volume_state.specs.Saved.{image_blocks}
-use Rattle.volume_state.specs.Untouched.{IsUntouched, old_used}
-use Rattle.volume_state.proofs.Images.{image_short}
 use Rattle.volume_state.proofs.Staying.{spare_blocks_decide_nothing}
-use Rattle.btr_reader.specs.Apart.{IsSameOutside}
-use Rattle.reiser_bitmap.specs.Bits.{has}
-use Rattle.reiser_volume.specs.Volume.{superblock, used_of}
-use Rattle.reiser_volume.proofs.Holding.{used_length}
-use Rattle.reiser_volume.proofs.Unchanged.{same_volume}
-use Rattle.reiser_bitmap.specs.vol_block.Format.{has_bytes_at}
-use Rattle.reiser_bitmap.specs.vol_block.Volume.{is_reserved}
-use Rattle.rollback_core.specs.RollbackLaws.{RollbackGoesOn, RollbackKeeps}
-use Rattle.rollback_core.specs.RolledBack.{IsBack, IsRolledBack, IsStanding, is_wiped}
 use Rattle.rollback_core.proofs.Back.{equal_or}
 
 -- a reserved block other than 16 is a spare one
@@ -24,7 +9,7 @@ spare_so : (t : Bool) (b : ℕ) → t ≡ true → b ≢ 16 → (t && not (eqb b
 spare_so true b is other = grind (arith, nat_tests, other)
 spare_so false b is other = absurd (true≢false (sym is))
 
-outside_spare : (disk other : Image) → IsStanding disk other → IsSameOutside (is_spare disk) disk other
+outside_spare : (disk other : Image) → StillStands disk other → IsSameOutside (is_spare disk) disk other
 outside_spare disk other is = record { size = is.size; others = λ b free. ⊎_elim (λ first. at_superblock b first) (λ rest. elsewhere b free rest) (equal_or b) }
   where
     at_superblock : (b : ℕ) → b ≡ 16 → block_at other b ≡ block_at disk b
@@ -43,11 +28,11 @@ rollback_keeps = record {
       same_volume (image_blocks disk) other u.accepted is.used (room disk other u is);
 }
   where
-    room : (disk other : Image) → IsUntouched disk → IsBack disk other → (superblock (image_blocks disk)).blocks ≤ length other
+    room : (disk other : Image) → CanGoBack disk → IsBack disk other → (superblock (image_blocks disk)).blocks ≤ length other
     room disk other u is = omega (arith, u.accepted.clean.superblock.fits, is.size, image_short disk)
 
 -- ---- another rollback
-module _ (disk left other : Image) (u : IsUntouched disk) (is : IsStanding disk left) (done : IsRolledBack left other) where
+module _ (disk left other : Image) (u : CanGoBack disk) (is : StillStands disk left) (done : IsRolledBack left other) where
   image_same : image_blocks left ≡ image_blocks disk
   image_same = (spare_blocks_decide_nothing disk left u (outside_spare disk left is)).image
 
@@ -59,13 +44,13 @@ module _ (disk left other : Image) (u : IsUntouched disk) (is : IsStanding disk 
   left_same b free = is.others b (λ restored. true≢false (sym restored.used ∙ free))
 
   abbrev wiped_by : List Bool → List ℕ → ℕ → Bool
-  wiped_by used bytes b = nat_lt b (length used) && (not (has used b) && has_bytes_at bytes 64 (codes "_BHRfS_M"))
+  wiped_by used bytes b = nat_lt (b + 1) (length used) && (not (has used b) && has_bytes_at bytes SUPER_MAGIC_OFFSET (codes "_BHRfS_M"))
 
   wiped_same : (b : ℕ) → has (old_used disk) b ≡ false → is_wiped left b ≡ is_wiped disk b
   wiped_same b free = ap (λ (used : List Bool). wiped_by used (block_at left b) b) used_same ∙ ap (λ (bytes : List ℕ). wiped_by (old_used disk) bytes b) (left_same b free)
 
   unused : (b : ℕ) → is_wiped disk b ≡ true → has (old_used disk) b ≡ false
-  unused b wiped = by (has (old_used disk) b) _ (and_parts (nat_lt b (length (old_used disk))) _ wiped).1
+  unused b wiped = by (has (old_used disk) b) _ (and_parts (nat_lt (b + 1) (length (old_used disk))) _ wiped).1
     where
       by : (h t : Bool) → (not h && t) ≡ true → h ≡ false
       by false t so = refl
@@ -73,7 +58,7 @@ module _ (disk left other : Image) (u : IsUntouched disk) (is : IsStanding disk 
 
   again : IsRolledBack disk other
   again = record {
-    untouched = u;
+    can = u;
     back = record {
       size = done.back.size ∙ is.size;
       used = λ b marked. done.back.used b (subst (λ (used : List Bool). has used b ≡ true) (sym used_same) marked) ∙ ap (λ (i : Image). block_at i b) image_same;

@@ -1,18 +1,6 @@
 -- What is written, and what a crash leaves of it.
-use Rattle.std.proofs.Common.{◌≡◌, ◌∙◌, inl, inr, ⊎_elim, ℕ, true, ◌+◌, ◌<◌, List, length, Option, Some, None, Result, OnOk, refl, sym, ap, subst, arith}
-use Rattle.std.specs.Prelude.{IsSomeAnd, filter, is_some}
-use Rattle.reiser_bitmap.specs.outside.Format.{format_in}
-use Rattle.reiser_bitmap.specs.outside.History.{History, Image, IsSettled, LeftSince, WritesBlock, WritesOnly, block_at, clock, reads}
-use Rattle.reiser_bitmap.proofs.outside.Crash.{left_each, reads_only, write_only, writes_length, writes_then, writes_weaker}
-use Rattle.reiser_bitmap.proofs.outside.Phases.{set_stands, write_reads}
-use Rattle.convert_steps.specs.Switch.{IsMirror}
-use Rattle.reiser_bitmap.specs.vol_block.declared.block.Block.{Block}
-use Rattle.reiser_bitmap.specs.vol_block.declared.format.Format.{Format}
-use Rattle.rollback_core.specs.Mending.{given, is_torn, mended}
-use Rattle.rollback_core.specs.Planned.{IsGiven, IsGivenAt, IsPlanned, Stands, number_of}
-use Rattle.rollback_core.specs.Recovered.{IsMend, IsPartly, IsRecovered, copy_blocks, summary}
-use Rattle.rollback_core.specs.declared.mending.Mending.{Mending}
-use Rattle.rollback_core.specs.declared.recovery.RecoverSummary.{RecoverSummary}
+use Rattle.rollback_core.proofs.Imports.{◌≡◌, ◌∙◌, ◌⊎◌, inl, inr, ⊎_elim, ℕ, true, ◌+◌, ◌<◌, List, length, Option, Some, None, Result, OnOk, refl, sym, ap, subst, arith, IsSomeAnd, is_some, FIRST_MIRROR, SECOND_MIRROR, format_in, History, Image, IsSettled, LeftSince, WritesBlock, WritesOnly, block_at, clock, reads, left_each, reads_only, write_only, writes_length, writes_then, writes_weaker, set_stands, write_reads, IsMirror, Block, Format, given, is_torn, mended, IsGiven, IsGivenAt, IsGivenOrRewrite, IsPlanned, MendingStands, writes_of, IsMend, IsPartly, IsRecovered, copy_blocks, recover_summary, Mending, RecoverSummary}
+use Rattle.std.specs.Prelude.{filter}
 use Rattle.rollback_core.proofs.Mended.{two_of}
 
 some_given : (found : Option Block) (bytes old wanted : List ℕ) → IsSomeAnd found (λ block. bytes ≡ block.bytes) → given found old ≡ wanted → bytes ≡ wanted
@@ -31,12 +19,12 @@ module _ (image : Image) (m : Mending) (planned : IsPlanned image m) where
   given_mended : (b : ℕ) (bytes : List ℕ) → IsGiven m b bytes → IsMirror b × (bytes ≡ mended image b)
   given_mended b bytes is =
       ⊎_elim
-      (λ one. (inl one.0, some_given m.first bytes (block_at image 16384) (mended image 16384) one.1 planned.first.bytes_are ∙ ap (mended image) (sym one.0)))
-      (λ two. (inr two.0, some_given m.second bytes (block_at image 67108864) (mended image 67108864) two.1 planned.second.bytes_are ∙ ap (mended image) (sym two.0)))
+      (λ one. (inl one.0, some_given m.first bytes (block_at image FIRST_MIRROR) (mended image FIRST_MIRROR) one.1 planned.first.bytes_are ∙ ap (mended image) (sym one.0)))
+      (λ two. (inr two.0, some_given m.second bytes (block_at image SECOND_MIRROR) (mended image SECOND_MIRROR) two.1 planned.second.bytes_are ∙ ap (mended image) (sym two.0)))
       is
 
   -- and it is written only where something else stands
-  given_mend : (b : ℕ) (bytes : List ℕ) → IsGiven m b bytes → IsMend image b bytes
+  pub given_mend : (b : ℕ) (bytes : List ℕ) → IsGiven m b bytes → IsMend image b bytes
   given_mend b bytes is = record {
     mirror = (given_mended b bytes is).0;
     torn = ⊎_elim
@@ -45,37 +33,40 @@ module _ (image : Image) (m : Mending) (planned : IsPlanned image m) where
     bytes_are = (given_mended b bytes is).1;
   }
 
-  pub mends_only : (h₀ h₁ : History) → WritesOnly (IsGiven m) h₀ h₁ → WritesOnly (IsMend image) h₀ h₁
-  mends_only = writes_weaker (IsGiven m) (IsMend image) given_mend
+  -- block 16 stays where it is written as it stands
+  kept_or_given : (other : Image) (b : ℕ) → (block_at other b ≡ block_at image b) ⊎ IsGivenOrRewrite image m b (block_at other b)
+      → (block_at other b ≡ block_at image b) ⊎ IsGiven m b (block_at other b)
+  kept_or_given other b is = ⊎_elim (λ same. inl same) (λ written. ⊎_elim (λ again. inl (again.1 ∙ ap (block_at image) (sym again.0))) (λ given. inr given) written) is
 
-  module _ (h₀ h₁ : History) (start : reads h₀ ≡ image) (only : WritesOnly (IsGiven m) h₀ h₁) where
+  module _ (h₀ h₁ : History) (start : reads h₀ ≡ image) (only : WritesOnly (IsGivenOrRewrite image m) h₀ h₁) where
     pub crash_partly : IsSettled h₀ → (other : Image) → LeftSince (clock h₀) h₁ other → IsPartly image other
     crash_partly settled other left =
-        let each = left_each (IsGiven m) h₀ h₁ settled only other left in
+        let each = left_each (IsGivenOrRewrite image m) h₀ h₁ settled only other left in
         record {
           size = each.0 ∙ ap (λ (i : Image). length i) start;
-          each = λ b. ⊎_elim (λ same. inl (same ∙ ap (λ (i : Image). block_at i b) start)) (λ is. inr (given_mended b (block_at other b) is)) (each.1 b);
+          each = λ b. ⊎_elim (λ same. inl same) (λ is. inr (given_mended b (block_at other b) is))
+              (kept_or_given other b (⊎_elim (λ same. inl (same ∙ ap (λ (i : Image). block_at i b) start)) (λ is. inr is) (each.1 b)));
         }
 
-    pub recovers : Stands m (reads h₀) (reads h₁) → IsRecovered image (reads h₁)
+    pub recovers : MendingStands m (reads h₀) (reads h₁) → IsRecovered image (reads h₁)
     recovers stands = record {
       can = planned.can;
-      size = writes_length (IsGiven m) h₀ h₁ only ∙ ap (λ (i : Image). length i) start;
+      size = writes_length (IsGivenOrRewrite image m) h₀ h₁ only ∙ ap (λ (i : Image). length i) start;
       copies = λ b mirror. ⊎_elim
           (λ one. subst (λ (n : ℕ). block_at (reads h₁) n ≡ mended image n) (sym one)
-          (stands.first ∙ (ap (λ (i : Image). given m.first (block_at i 16384)) start ∙ planned.first.bytes_are)))
+          (stands.first ∙ (ap (λ (i : Image). given m.first (block_at i FIRST_MIRROR)) start ∙ planned.first.bytes_are)))
           (λ two. subst (λ (n : ℕ). block_at (reads h₁) n ≡ mended image n) (sym two)
-          (stands.second ∙ (ap (λ (i : Image). given m.second (block_at i 67108864)) start ∙ planned.second.bytes_are)))
+          (stands.second ∙ (ap (λ (i : Image). given m.second (block_at i SECOND_MIRROR)) start ∙ planned.second.bytes_are)))
           mirror;
-      others = λ b outside. ⊎_elim (λ same. same ∙ ap (λ (i : Image). block_at i b) start) (λ is. absurd (outside (given_mended b (block_at (reads h₁) b) is).0))
-          (reads_only (IsGiven m) h₀ h₁ only b);
+      others = λ b outside. ⊎_elim (λ same. same) (λ is. absurd (outside (given_mended b (block_at (reads h₁) b) is).0))
+          (kept_or_given (reads h₁) b (⊎_elim (λ same. inl (same ∙ ap (λ (i : Image). block_at i b) start)) (λ is. inr is) (reads_only (IsGivenOrRewrite image m) h₀ h₁ only b)));
     }
 
   -- the blocks that are written are those that are to change
-  pub counts : number_of m.first + number_of m.second ≡ length (filter (is_torn image) copy_blocks)
+  pub counts : writes_of m.first + writes_of m.second ≡ length (filter (is_torn image) copy_blocks)
   counts = sym (two_of (is_torn image) (is_some m.first) (is_some m.second) (sym planned.first.needed) (sym planned.second.needed))
 
-  pub summary_is : (n : ℕ) → n ≡ number_of m.first + number_of m.second → told_of m.format n ≡ summary image
+  pub summary_is : (n : ℕ) → n ≡ writes_of m.first + writes_of m.second → told_of m.format n ≡ recover_summary image
   summary_is n is = ap (λ (f : Format). told_of f n) planned.format ∙ ap (λ (k : ℕ). told_of (format_in image) k) (is ∙ counts)
 
 -- ---- one block, if there is one to be written
@@ -88,21 +79,21 @@ module _ (place : ℕ) (block : Block) (h₀ h₁ : History) {T E : Type 0} (res
 
 -- ---- both
 module _ (m : Mending) where
-  pub first_part : (h₀ h₁ : History) → WritesOnly (IsGivenAt 16384 m.first) h₀ h₁ → WritesOnly (IsGiven m) h₀ h₁
-  first_part = writes_weaker (IsGivenAt 16384 m.first) (IsGiven m) (λ b bytes is. inl is)
+  pub first_part : (h₀ h₁ : History) → WritesOnly (IsGivenAt FIRST_MIRROR m.first) h₀ h₁ → WritesOnly (IsGiven m) h₀ h₁
+  first_part = writes_weaker (IsGivenAt FIRST_MIRROR m.first) (IsGiven m) (λ b bytes is. inl is)
 
-  pub second_part : (h₀ h₁ : History) → WritesOnly (IsGivenAt 67108864 m.second) h₀ h₁ → WritesOnly (IsGiven m) h₀ h₁
-  second_part = writes_weaker (IsGivenAt 67108864 m.second) (IsGiven m) (λ b bytes is. inr is)
+  pub second_part : (h₀ h₁ : History) → WritesOnly (IsGivenAt SECOND_MIRROR m.second) h₀ h₁ → WritesOnly (IsGiven m) h₀ h₁
+  second_part = writes_weaker (IsGivenAt SECOND_MIRROR m.second) (IsGiven m) (λ b bytes is. inr is)
 
-  pub both_parts : (h₀ h₁ h₂ : History) → WritesOnly (IsGivenAt 16384 m.first) h₀ h₁ → WritesOnly (IsGivenAt 67108864 m.second) h₁ h₂ → WritesOnly (IsGiven m) h₀ h₂
+  pub both_parts : (h₀ h₁ h₂ : History) → WritesOnly (IsGivenAt FIRST_MIRROR m.first) h₀ h₁ → WritesOnly (IsGivenAt SECOND_MIRROR m.second) h₁ h₂ → WritesOnly (IsGiven m) h₀ h₂
   both_parts h₀ h₁ h₂ one two = writes_then (IsGiven m) h₀ h₁ h₂ (first_part h₀ h₁ one) (second_part h₁ h₂ two)
 
   -- each stands, since the other is written elsewhere
-  pub both_stand : (h₀ h₁ h₂ : History) → WritesOnly (IsGivenAt 16384 m.first) h₀ h₁ → WritesOnly (IsGivenAt 67108864 m.second) h₁ h₂
-      → block_at (reads h₁) 16384 ≡ given m.first (block_at (reads h₀) 16384) → block_at (reads h₂) 67108864 ≡ given m.second (block_at (reads h₁) 67108864) → Stands m (reads h₀) (reads h₂)
+  pub both_stand : (h₀ h₁ h₂ : History) → WritesOnly (IsGivenAt FIRST_MIRROR m.first) h₀ h₁ → WritesOnly (IsGivenAt SECOND_MIRROR m.second) h₁ h₂
+      → block_at (reads h₁) FIRST_MIRROR ≡ given m.first (block_at (reads h₀) FIRST_MIRROR) → block_at (reads h₂) SECOND_MIRROR ≡ given m.second (block_at (reads h₁) SECOND_MIRROR) → MendingStands m (reads h₀) (reads h₂)
   both_stand h₀ h₁ h₂ one two first second = record {
-    first = elsewhere 67108864 m.second h₁ h₂ two 16384 (λ eq. omega (arith, eq)) ∙ first;
-    second = second ∙ ap (given m.second) (elsewhere 16384 m.first h₀ h₁ one 67108864 (λ eq. omega (arith, eq)));
+    first = elsewhere SECOND_MIRROR m.second h₁ h₂ two FIRST_MIRROR (λ eq. omega (arith, eq)) ∙ first;
+    second = second ∙ ap (given m.second) (elsewhere FIRST_MIRROR m.first h₀ h₁ one SECOND_MIRROR (λ eq. omega (arith, eq)));
   }
     where
       elsewhere : (place : ℕ) (found : Option Block) (a b : History) → WritesOnly (IsGivenAt place found) a b → (n : ℕ) → ¬ (n ≡ place) → block_at (reads b) n ≡ block_at (reads a) n

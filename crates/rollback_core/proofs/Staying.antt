@@ -1,21 +1,6 @@
 -- Where no part of a volume differs, the volume before can be had back from both disks or from neither.
-use Rattle.std.proofs.Common.{◌≡◌, ℕ, ◌<◌, min, [], List, length, Option, Some, None, refl, sym, ◌∙◌, ap, subst, arith}
-use Rattle.std.proofs.lemmas.List.{ext_get_or}
-use Rattle.reiser_bitmap.specs.outside.History.{Image, block_at}
-use Rattle.btr_reader.specs.Image.{ImageFile}
-use Rattle.btr_reader.specs.Parts.{SavedImage, own_map}
-use Rattle.btr_reader.specs.Parts as part
-use Rattle.btr_reader.specs.btr_reader_walk.declared.map.MapRange.{MapRange}
-use Rattle.volume_state.proofs.Images.{block_by, length_by}
-use Rattle.btr_reader.specs.Apart.{differs}
+use Rattle.rollback_core.proofs.Imports.{◌≡◌, ℕ, ◌<◌, min, [], List, length, Option, Some, None, refl, sym, ◌∙◌, ap, subst, arith, ext_get_or, Image, block_at, ImageFile, SavedImage, own_map, MapRange, block_by, length_by, differs, IsAccepted, superblock, used_of, IsOld, block_or_hole, blocks_by, file_blocks, image_blocks, place_by_file, saved_file, saved_place, CanGoBack, IsInUse, IsReserved, PartsDecideSaved, SamePartsGoBack, UnusedBlocksDecideNothing, UnusedBlocksLieApart}
 use Rattle.btr_reader.specs.MetadataLaws.{IsSameBtrfs, MetadataDecides}
-use Rattle.reiser_volume.specs.Volume.{IsAccepted, superblock, used_of}
-use Rattle.volume_state.specs.Moved.{IsOld}
-use Rattle.volume_state.specs.Saved.{block_or_hole, blocks_by, file_blocks, image_blocks, place_by_file, saved_file, saved_place}
-use Rattle.volume_state.specs.Untouched.{IsUntouched}
-use Rattle.volume_state.specs.Using.{IsInUse}
-use Rattle.reiser_bitmap.specs.vol_block.Volume.{IsReserved}
-use Rattle.rollback_core.specs.SavedLaws.{PartsDecideSaved, SamePartsStayUntouched, UnusedBlocksDecideNothing, UnusedBlocksLieApart}
 use Rattle.rollback_core.proofs.Trees.{of_volume}
 use Rattle.rollback_core.proofs.Using.{alike, back, same_outside, used_same}
 
@@ -53,12 +38,9 @@ module _ (disk other : Image) (size : length other ≡ length disk) (volume : Is
           ∙ sym (block_by (saved_place disk) n disk b inside)))
 
   -- ---- all of it
-  stays : ((b : ℕ) → IsInUse other b → IsInUse disk b) → IsUntouched disk → IsUntouched other
+  stays : ((b : ℕ) → IsInUse other b → IsInUse disk b) → CanGoBack disk → CanGoBack other
   stays before u = record {
-    whole = record {
-      rows = record { log = volume.log ∙ u.whole.rows.log; tree = λ r refused. u.whole.rows.tree r ((volume.refusals part.Tree r).1 refused) };
-      way = λ r refused. u.whole.way r ((volume.refusals SavedImage r).1 refused);
-    };
+    way = record { log = volume.log ∙ u.way.log; readable = λ r refused. u.way.readable r ((volume.refusals SavedImage r).1 refused) };
     there = λ missing. u.there (sym volume.saved ∙ missing);
     accepted = subst IsAccepted (sym image_same) u.accepted;
     in_place = λ b old. place_same b ∙ u.in_place b (subst (λ (i : Image). IsOld (used_of i) b) image_same old);
@@ -75,14 +57,14 @@ parts_decide_saved decide = λ test disk other apart same.
       same = there.same;
       image = image_same disk other same.size there.same;
       in_use = used;
-      untouched = (stays disk other same.size there.same (λ b. (used b).1), stays other disk turned.size here.same (λ b. (used b).0));
+      can = (stays disk other same.size there.same (λ b. (used b).1), stays other disk turned.size here.same (λ b. (used b).0));
     }
 
-pub same_parts_stay_untouched : PartsDecideSaved → SamePartsStayUntouched
-same_parts_stay_untouched decide = λ disk other u size apart.
-    let is = decide (differs disk other) disk other apart (same_outside disk other size) in
-    record { same = is.same; image = is.image; untouched = is.untouched.0 u }
+pub same_parts_go_back : PartsDecideSaved → SamePartsGoBack
+same_parts_go_back decide = λ disk other size apart. decide (differs disk other) disk other apart (same_outside disk other size)
 
-pub unused_blocks_decide_nothing : UnusedBlocksLieApart → SamePartsStayUntouched → UnusedBlocksDecideNothing
+pub unused_blocks_decide_nothing : UnusedBlocksLieApart → SamePartsGoBack → UnusedBlocksDecideNothing
 unused_blocks_decide_nothing lie stay = λ disk other u same.
-    stay disk other u same.size (lie.apart (differs disk other) disk u.whole.way (alike disk other 16 same.superblock) (λ b used. alike disk other b (same.used b used)))
+    let apart = lie.apart (differs disk other) disk u.way.readable (alike disk other 16 same.superblock) (λ b used. alike disk other b (same.used b used)) in
+    let is = stay disk other same.size apart in
+    record { blocks = same; same = is.same; image = is.image; can = is.can.0 u }

@@ -1,16 +1,8 @@
 -- What is known of a Btrfs superblock that is read.
-use Rattle.std.proofs.Common.{◌≡◌, ℕ, ◌*◌, ◌/◌, ◌≤◌, eqb, nat_le, Bool, true, false, List, [], ◌∷◌, Result, Ok, refl, subst, arith}
-use Rattle.std.specs.Prelude.{is_some}
-use Rattle.std.proofs.lemmas.Bool.{and_parts}
-use Rattle.std.proofs.lemmas.Bool.Decides.{nat_tests}
-use Rattle.reiser_bitmap.specs.refusals.declared.refusal.BtrRefusal.{BtrRefusal}
-use Rattle.reiser_bitmap.specs.refusals.declared.refusal.BtrRefusal.TheVariants.{BadBtrfs, Unsupported}
+use Rattle.rollback_core.proofs.Imports.{◌≡◌, ℕ, ◌*◌, ◌/◌, ◌≤◌, eqb, nat_le, Bool, true, false, List, [], ◌∷◌, Result, Ok, refl, subst, arith, is_some, and_parts, nat_tests, SUPER_BLOCK, SUPER_INFO_OFFSET, BtrRefusal, BadBtrfs, Unsupported, Super, super_in, bad_field, is_super, has_fields, field_rules, feature_rules, failing, unless_refused, super_refusals, super_of}
 use Rattle.reiser_bitmap.specs.refusals.declared.rule.BtrRule.TheVariants.{SuperCsum}
 use Rattle.reiser_bitmap.specs.refusals.declared.rule.Feature.TheVariants.{ChecksumType}
-use Rattle.btr_super.specs.declared.superblock.Super.{Super}
 use Rattle.btr_super.specs.Sums.{known_kind, csum_type_of, has_sum}
-use Rattle.btr_super.specs.Super.{super_in}
-use Rattle.btr_super.specs.Rules.{bad_field, is_super, has_fields, field_rules, feature_rules, failing, unless_refused, super_refusals, super_of}
 
 rule_holds : (t : Bool) (r : BtrRefusal) (rules : List (Bool × BtrRefusal)) → failing ((t, r) ∷ rules) ≡ [] → (t ≡ true) × (failing rules ≡ [])
 rule_holds true r rules h = (refl, h)
@@ -30,7 +22,7 @@ le_of : (a b : ℕ) → nat_le a b ≡ true → a ≤ b
 le_of a b h = grind (arith, nat_tests, h)
 
 -- its volume is no longer than the device
-fields_fit : (s : Super) (device : ℕ) → has_fields s 16 device ≡ true → s.total_bytes ≤ 4096 * device
+fields_fit : (s : Super) (device : ℕ) → has_fields s SUPER_BLOCK device ≡ true → s.total_bytes ≤ 4096 * device
 fields_fit s device h =
     let own = and_parts (eqb s.bytenr (4096 * 16)) _ h in
     let root = and_parts (nat_le s.root_level 7) _ own.1 in
@@ -41,28 +33,28 @@ fields_fit s device h =
     le_of s.total_bytes (4096 * device) total.0
 
 abbrev sum_rules : List ℕ → ℕ → List (Bool × BtrRefusal)
-sum_rules block device = (has_sum (known_kind (csum_type_of block)) block, BadBtrfs 65536 SuperCsum) ∷ field_rules (super_in block) 16 device
+sum_rules block device = (has_sum (known_kind (csum_type_of block)) block, BadBtrfs SUPER_INFO_OFFSET SuperCsum) ∷ field_rules (super_in block) SUPER_BLOCK device
 
 abbrev kind_rules : List ℕ → ℕ → List (Bool × BtrRefusal)
 kind_rules block device = (is_some (known_kind (csum_type_of block)), Unsupported ChecksumType (csum_type_of block)) ∷ sum_rules block device
 
 -- a superblock that is read is that of the block
-pub super_is : (block : List ℕ) (device : ℕ) (s : Super) → super_of block 16 device ≡ Ok s → super_in block ≡ s
+pub super_is : (block : List ℕ) (device : ℕ) (s : Super) → super_of block SUPER_BLOCK device ≡ Ok s → super_in block ≡ s
 unfolding super_of
-super_is block device s h = (none_refused (super_refusals block 16 device) (super_in block) s h).1
+super_is block device s h = (none_refused (super_refusals block SUPER_BLOCK device) (super_in block) s h).1
 
-pub super_fits : (block : List ℕ) (device : ℕ) (s : Super) → super_of block 16 device ≡ Ok s → s.total_bytes / 4096 ≤ device
+pub super_fits : (block : List ℕ) (device : ℕ) (s : Super) → super_of block SUPER_BLOCK device ≡ Ok s → s.total_bytes / 4096 ≤ device
 unfolding super_of
 super_fits block device s h =
-    let read = none_refused (super_refusals block 16 device) (super_in block) s h in
-    let magic = rule_holds (is_super block 16 device) bad_field (kind_rules block device) read.0 in
+    let read = none_refused (super_refusals block SUPER_BLOCK device) (super_in block) s h in
+    let magic = rule_holds (is_super block SUPER_BLOCK device) bad_field (kind_rules block device) read.0 in
     let kind = rule_holds (is_some (known_kind (csum_type_of block))) (Unsupported ChecksumType (csum_type_of block)) (sum_rules block device) magic.1 in
-    let sum = rule_holds (has_sum (known_kind (csum_type_of block)) block) (BadBtrfs 65536 SuperCsum) (field_rules (super_in block) 16 device) kind.1 in
-    let fields = rule_holds (has_fields (super_in block) 16 device) bad_field (feature_rules (super_in block)) sum.1 in
+    let sum = rule_holds (has_sum (known_kind (csum_type_of block)) block) (BadBtrfs SUPER_INFO_OFFSET SuperCsum) (field_rules (super_in block) SUPER_BLOCK device) kind.1 in
+    let fields = rule_holds (has_fields (super_in block) SUPER_BLOCK device) bad_field (feature_rules (super_in block)) sum.1 in
     let fits : s.total_bytes ≤ 4096 * device = subst (λ (t : Super). t.total_bytes ≤ 4096 * device) read.1 (fields_fit (super_in block) device fields.0) in
     omega (arith, fits)
 
 -- the device has block 16, which has the magic of Btrfs
-pub super_magic : (block : List ℕ) (device : ℕ) (s : Super) → super_of block 16 device ≡ Ok s → is_super block 16 device ≡ true
+pub super_magic : (block : List ℕ) (device : ℕ) (s : Super) → super_of block SUPER_BLOCK device ≡ Ok s → is_super block SUPER_BLOCK device ≡ true
 unfolding super_of
-super_magic block device s h = (rule_holds (is_super block 16 device) bad_field (kind_rules block device) (none_refused (super_refusals block 16 device) (super_in block) s h).0).0
+super_magic block device s h = (rule_holds (is_super block SUPER_BLOCK device) bad_field (kind_rules block device) (none_refused (super_refusals block SUPER_BLOCK device) (super_in block) s h).0).0

@@ -1,24 +1,13 @@
 -- Trees whose nodes lie in none of some blocks.
-use Rattle.std.proofs.Common.{◌≡◌, ⊎_elim, inl, ℕ, Bool, false, List, [], ◌++◌, Contains, Option, Some, None, refl, subst, arith}
-use Rattle.reiser_bitmap.specs.outside.History.{Image}
-use Rattle.btr_reader.specs.Opening.{chunk_tree, root_tree, tree_of}
-use Rattle.btr_reader.specs.Parts.{own_map, own_super}
-use Rattle.btr_super.specs.declared.superblock.Super.{Super}
-use Rattle.btr_reader.specs.btr_reader_walk.declared.map.MapRange.{MapRange}
-use Rattle.btr_reader.specs.btr_reader_walk.declared.tree.Pointer.{Pointer}
-use Rattle.btr_reader.specs.btr_reader_walk.declared.tree.Tree.{Tree}
-use Rattle.btr_reader.specs.Apart.{AreNodesApart, IsVolumeApart, boot_map, root_of, saved_tree}
-use Rattle.reiser_bitmap.proofs.Ranges.{contains_cases}
-use Rattle.volume_state.specs.Using.{IsInUse, chunk_node, file_part, file_trees, named_by, numbered, root_node, tree_if}
-use Rattle.volume_state.proofs.Apart.{file_tree_among, nodes_apart, saved_tree_among}
+use Rattle.rollback_core.proofs.Imports.{◌≡◌, ⊎_elim, inl, ℕ, Bool, false, List, [], ◌++◌, Contains, Option, Some, None, refl, subst, arith, FS_TREE, Image, chunk_tree, root_tree, tree_of, own_map, own_super, Super, MapRange, NodePointer, Tree, AreNodesApart, IsVolumeApart, boot_map, root_of, saved_tree, contains_cases, IsInUse, chunk_node, file_part, file_trees, named_by, numbered, root_node, tree_if, file_tree_among, nodes_apart, saved_tree_among}
 
 -- In none of the blocks lies the superblock, or a node of the chunk tree, the root tree, the file tree or the saved image's tree.
 pub record AreTreesApart (test : ℕ → Bool) (disk : Image) : Type 0 where
   pub superblock : test 16 ≡ false
   pub chunks : AreNodesApart test disk (boot_map (own_super disk)) (chunk_tree (own_super disk))
   pub roots : AreNodesApart test disk (own_map disk) (root_tree (own_super disk))
-  pub files : (p : Pointer) → root_of disk 5 ≡ Some p → AreNodesApart test disk (own_map disk) (tree_of (own_super disk) 5 p)
-  pub saved : (p : Pointer) (number : ℕ) (q : Pointer) → root_of disk 5 ≡ Some p → saved_tree disk p ≡ Some number → root_of disk number ≡ Some q → AreNodesApart test disk (own_map disk) (tree_of (own_super disk) number q)
+  pub files : (p : NodePointer) → root_of disk FS_TREE ≡ Some p → AreNodesApart test disk (own_map disk) (tree_of (own_super disk) FS_TREE p)
+  pub saved : (p : NodePointer) (number : ℕ) (q : NodePointer) → root_of disk FS_TREE ≡ Some p → saved_tree disk p ≡ Some number → root_of disk number ≡ Some q → AreNodesApart test disk (own_map disk) (tree_of (own_super disk) number q)
 
 pub of_volume : (test : ℕ → Bool) (disk : Image) → IsVolumeApart test disk → AreTreesApart test disk
 of_volume test disk apart = record { superblock = apart.superblock; chunks = apart.chunks; roots = apart.roots; files = apart.files; saved = apart.saved }
@@ -35,24 +24,24 @@ module _ (disk : Image) where
   ranges = own_map disk
 
   -- what holds of the file tree, and of the saved image's tree, holds of each of the two
-  module _ (P : Tree → Type 0) (file : (p : Pointer) → root_of disk 5 ≡ Some p → P (tree_of s 5 p))
-      (saved : (p : Pointer) (number : ℕ) (q : Pointer) → root_of disk 5 ≡ Some p → saved_tree disk p ≡ Some number → root_of disk number ≡ Some q → P (tree_of s number q)) (t : Tree) where
-    by_root : (p : Pointer) (number : ℕ) (o : Option Pointer) → root_of disk 5 ≡ Some p → saved_tree disk p ≡ Some number → root_of disk number ≡ o → Contains (tree_if s number o) t → P t
+  module _ (P : Tree → Type 0) (file : (p : NodePointer) → root_of disk FS_TREE ≡ Some p → P (tree_of s FS_TREE p))
+      (saved : (p : NodePointer) (number : ℕ) (q : NodePointer) → root_of disk FS_TREE ≡ Some p → saved_tree disk p ≡ Some number → root_of disk number ≡ Some q → P (tree_of s number q)) (t : Tree) where
+    by_root : (p : NodePointer) (number : ℕ) (o : Option NodePointer) → root_of disk FS_TREE ≡ Some p → saved_tree disk p ≡ Some number → root_of disk number ≡ o → Contains (tree_if s number o) t → P t
     by_root p number None root named at among = absurd (nothing_in t among)
     by_root p number (Some q) root named at among =
         ⊎_elim (λ (same : tree_of s number q ≡ t). subst P same (saved p number q root named at)) (λ none. absurd (nothing_in t none)) (contains_cases t (tree_of s number q) [] among)
 
-    by_number : (p : Pointer) (o : Option ℕ) → root_of disk 5 ≡ Some p → saved_tree disk p ≡ o → Contains (numbered disk s ranges o) t → P t
+    by_number : (p : NodePointer) (o : Option ℕ) → root_of disk FS_TREE ≡ Some p → saved_tree disk p ≡ o → Contains (numbered disk s ranges o) t → P t
     by_number p None root named among = absurd (nothing_in t among)
     by_number p (Some number) root named among = by_root p number (root_of disk number) root named refl among
 
-    by_file : (o : Option Pointer) → root_of disk 5 ≡ o → Contains (tree_if s 5 o ++ named_by disk s ranges o) t → P t
+    by_file : (o : Option NodePointer) → root_of disk FS_TREE ≡ o → Contains (tree_if s FS_TREE o ++ named_by disk s ranges o) t → P t
     by_file None root among = absurd (nothing_in t among)
     by_file (Some p) root among =
-        ⊎_elim (λ (same : tree_of s 5 p ≡ t). subst P same (file p root)) (λ later. by_number p (saved_tree disk p) root refl later) (contains_cases t (tree_of s 5 p) (named_by disk s ranges (Some p)) among)
+        ⊎_elim (λ (same : tree_of s FS_TREE p ≡ t). subst P same (file p root)) (λ later. by_number p (saved_tree disk p) root refl later) (contains_cases t (tree_of s FS_TREE p) (named_by disk s ranges (Some p)) among)
 
     of_either : Contains (file_trees disk s ranges) t → P t
-    of_either among = by_file (root_of disk 5) refl among
+    of_either among = by_file (root_of disk FS_TREE) refl among
 
   module _ (test : ℕ → Bool) where
     pub file_tree_apart : AreTreesApart test disk → (t : Tree) → Contains (file_trees disk s ranges) t → AreNodesApart test disk ranges t
@@ -67,6 +56,6 @@ module _ (disk : Image) where
         superblock = superblock;
         chunks = nodes_apart test (boot_map s) disk (chunk_tree s) (λ b holds. unused b (chunk_node holds));
         roots = nodes_apart test ranges disk (root_tree s) (λ b holds. unused b (root_node holds));
-        files = λ p root. in_files (tree_of s 5 p) (file_tree_among disk p root);
+        files = λ p root. in_files (tree_of s FS_TREE p) (file_tree_among disk p root);
         saved = λ p number q root named at. in_files (tree_of s number q) (saved_tree_among disk p number q root named at);
       }

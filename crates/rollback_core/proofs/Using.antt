@@ -1,25 +1,9 @@
 -- Which blocks are in use depends on the superblock and the nodes of trees alone.
-use Rattle.std.proofs.Common.{◌≡◌, ◌↔◌, ⊎_elim, inl, inr, ℕ, Bool, true, false, not, List, ◌++◌, length, Contains, Option, Some, None, refl, sym, ◌∙◌, ap, subst}
-use Rattle.std.specs.Prelude.{bytes_eq}
-use Rattle.std.specs.Option.{option_and_then}
-use Rattle.std.proofs.lemmas.Slice.Eq.{bytes_eq-Decides}
-use Rattle.reiser_bitmap.specs.outside.History.{Image, block_at}
+use Rattle.rollback_core.proofs.Imports.{◌≡◌, ◌↔◌, ⊎_elim, inl, inr, ℕ, Bool, true, false, not, List, ◌++◌, length, Contains, Option, Some, None, refl, sym, ◌∙◌, ap, subst, bytes_eq, option_and_then, bytes_eq-Decides, FS_TREE, Image, block_at, items_at, pointer_in, saved_location, tree_number, boot_chunks, boot_list, chunk_map, chunk_tree, root_tree, tree_of, own_map, own_super, super_in, Super, TreeEvent, TreeItem, nodes_in, MapRange, NodePointer, Tree, AreNodesApart, IsSameOutside, boot_map, differs, root_of, saved_tree, HoldsExtent, HoldsNode, HoldsNodeOf, HoldsPartOf, IsInUse, chunk_node, file_part, file_pointer, file_trees, named_by, numbered, root_node, tree_if, UsedBlocksDecideUse}
 use Rattle.btr_reader.specs.Chunks.{with_items}
-use Rattle.btr_reader.specs.Image.{items_at, pointer_in, saved_entry, tree_number}
-use Rattle.btr_reader.specs.Opening.{boot_chunks, boot_list, chunk_map, chunk_tree, root_tree, tree_of}
-use Rattle.btr_reader.specs.Parts.{own_map, own_super}
 use Rattle.btr_reader.specs.Roots.{root_item}
 use Rattle.btr_reader.specs.Rows.{roots_on}
-use Rattle.btr_super.specs.Super.{super_in}
-use Rattle.btr_super.specs.declared.superblock.Super.{Super}
-use Rattle.btr_reader.specs.btr_reader_walk.Events.{Event, TreeItem, nodes_in}
-use Rattle.btr_reader.specs.btr_reader_walk.declared.map.MapRange.{MapRange}
-use Rattle.btr_reader.specs.btr_reader_walk.declared.tree.Pointer.{Pointer}
-use Rattle.btr_reader.specs.btr_reader_walk.declared.tree.Tree.{Tree}
-use Rattle.btr_reader.specs.Apart.{AreNodesApart, IsSameOutside, boot_map, differs, root_of, saved_tree}
 use Rattle.btr_reader.proofs.Nodes.{apart_same, found_same, met_same}
-use Rattle.volume_state.specs.Using.{HoldsExtent, HoldsNode, HoldsNodeOf, HoldsPartOf, IsInUse, chunk_node, file_part, file_pointer, file_trees, named_by, numbered, root_node, tree_if}
-use Rattle.rollback_core.specs.SavedLaws.{UsedBlocksDecideUse}
 use Rattle.rollback_core.proofs.Trees.{AreTreesApart, file_tree_apart, of_use}
 
 pub back : (test : ℕ → Bool) (disk other : Image) → IsSameOutside test disk other → IsSameOutside test other disk
@@ -55,33 +39,33 @@ module _ (test : ℕ → Bool) (disk other : Image) (apart : AreTreesApart test 
       both (λ t m. pointer_in (root_item number (roots_on other t m))) ∙ ap (λ (items : List TreeItem). pointer_in (root_item number items)) roots_same
 
   -- ---- the two trees
-  abbrev named : Image → Pointer → Option ℕ
-  named x p = option_and_then tree_number (saved_entry (items_at x s ranges 5 p))
+  abbrev named : Image → NodePointer → Option ℕ
+  named x p = option_and_then tree_number (saved_location (items_at x s ranges FS_TREE p))
 
-  named_same : (p : Pointer) → root_of disk 5 ≡ Some p → named other p ≡ named disk p
+  named_same : (p : NodePointer) → root_of disk FS_TREE ≡ Some p → named other p ≡ named disk p
   named_same p root =
-      ap (λ (items : List TreeItem). option_and_then tree_number (saved_entry items)) (found_same test disk other same ranges (tree_of s 5 p) (apart.files p root))
+      ap (λ (items : List TreeItem). option_and_then tree_number (saved_location items)) (found_same test disk other same ranges (tree_of s FS_TREE p) (apart.files p root))
 
-  saved_same : (p : Pointer) → root_of disk 5 ≡ Some p → saved_tree other p ≡ saved_tree disk p
-  saved_same p root = both (λ t m. option_and_then tree_number (saved_entry (items_at other t m 5 p))) ∙ named_same p root
+  saved_same : (p : NodePointer) → root_of disk FS_TREE ≡ Some p → saved_tree other p ≡ saved_tree disk p
+  saved_same p root = both (λ t m. option_and_then tree_number (saved_location (items_at other t m FS_TREE p))) ∙ named_same p root
 
   numbered_same : (o : Option ℕ) → numbered other s ranges o ≡ numbered disk s ranges o
   numbered_same None = refl
   numbered_same (Some number) = ap (λ (items : List TreeItem). tree_if s number (pointer_in (root_item number items))) roots_same
 
-  below_same : (o : Option Pointer) → root_of disk 5 ≡ o → named_by other s ranges o ≡ named_by disk s ranges o
+  below_same : (o : Option NodePointer) → root_of disk FS_TREE ≡ o → named_by other s ranges o ≡ named_by disk s ranges o
   below_same None root = refl
   below_same (Some p) root = numbered_same (named other p) ∙ ap (λ (o : Option ℕ). numbered disk s ranges o) (named_same p root)
 
   trees_same : file_trees other (own_super other) (own_map other) ≡ file_trees disk s ranges
   trees_same =
       both (λ t m. file_trees other t m)
-      ∙ (ap (λ (items : List TreeItem). tree_if s 5 (pointer_in (root_item 5 items)) ++ named_by other s ranges (pointer_in (root_item 5 items))) roots_same
-      ∙ ap (λ (more : List Tree). tree_if s 5 (file_pointer disk s ranges) ++ more) (below_same (file_pointer disk s ranges) refl))
+      ∙ (ap (λ (items : List TreeItem). tree_if s FS_TREE (pointer_in (root_item FS_TREE items)) ++ named_by other s ranges (pointer_in (root_item FS_TREE items))) roots_same
+      ∙ ap (λ (more : List Tree). tree_if s FS_TREE (file_pointer disk s ranges) ++ more) (below_same (file_pointer disk s ranges) refl))
 
   -- ---- what is in use
   nodes_of : (m : List MapRange) (t : Tree) → AreNodesApart test disk m t → (b : ℕ) → HoldsNodeOf other m t b → HoldsNodeOf disk m t b
-  nodes_of m t nodes b holds = subst (λ (events : List Event). HoldsNode (nodes_in events) m t.form.nodesize b) (met_same test disk other same m t nodes) holds
+  nodes_of m t nodes b holds = subst (λ (events : List TreeEvent). HoldsNode (nodes_in events) m t.form.nodesize b) (met_same test disk other same m t nodes) holds
 
   pub used_before : (b : ℕ) → IsInUse other b → IsInUse disk b
   used_before b (chunk_node holds) =
@@ -99,7 +83,7 @@ module _ (test : ℕ → Bool) (disk other : Image) (apart : AreTreesApart test 
       file_part (record { tree = holding.tree; among = among; holds = holds })
 
   -- the trees of the other disk lie apart, too
-  nodes_again : (number : ℕ) (p : Pointer) → AreNodesApart test disk ranges (tree_of s number p) → AreNodesApart test other (own_map other) (tree_of (own_super other) number p)
+  nodes_again : (number : ℕ) (p : NodePointer) → AreNodesApart test disk ranges (tree_of s number p) → AreNodesApart test other (own_map other) (tree_of (own_super other) number p)
   nodes_again number p nodes = over (λ t m. AreNodesApart test other m (tree_of t number p)) (apart_same test disk other same ranges (tree_of s number p) nodes)
 
   again : AreTreesApart test other
@@ -107,9 +91,9 @@ module _ (test : ℕ → Bool) (disk other : Image) (apart : AreTreesApart test 
     superblock = apart.superblock;
     chunks = subst (λ (t : Super). AreNodesApart test other (boot_map t) (chunk_tree t)) (sym fields_same) (apart_same test disk other same (boot_map s) (chunk_tree s) apart.chunks);
     roots = over (λ t m. AreNodesApart test other m (root_tree t)) (apart_same test disk other same ranges (root_tree s) apart.roots);
-    files = λ p root. nodes_again 5 p (apart.files p (sym (root_same 5) ∙ root));
+    files = λ p root. nodes_again FS_TREE p (apart.files p (sym (root_same FS_TREE) ∙ root));
     saved = λ p number q root entry at.
-        let here = sym (root_same 5) ∙ root in
+        let here = sym (root_same FS_TREE) ∙ root in
         nodes_again number q (apart.saved p number q here (sym (saved_same p here) ∙ entry) (sym (root_same number) ∙ at));
   }
 

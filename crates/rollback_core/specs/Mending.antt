@@ -1,5 +1,6 @@
 -- What is to stand at the places of the copies of a Btrfs superblock, and what is written there.
-use Rattle.std.specs.Prelude.{◌≡◌, ℕ, ◌/◌, nat_lt, Bool, ◌&&◌, not, List, bytes_eq, codes, Option, Some, None, is_some, if◌then◌else◌}
+use Rattle.std.specs.Prelude.{◌≡◌, ℕ, ◌+◌, ◌/◌, nat_lt, Bool, ◌&&◌, not, List, bytes_eq, codes, Option, Some, None, is_some, if◌then◌else◌}
+use Rattle.btrfs_format.specs.declared.block.TheConstants.{SUPER_BLOCK, SUPER_MAGIC_OFFSET}
 use Rattle.reiser_bitmap.specs.outside.Format.{format_in}
 use Rattle.reiser_bitmap.specs.outside.History.{Image, block_at}
 use Rattle.btr_super.specs.Super.{mirror_bytes, super_in}
@@ -11,13 +12,15 @@ use Rattle.reiser_bitmap.specs.vol_block.declared.block.Block.{Block}
 use Rattle.reiser_bitmap.specs.vol_block.declared.format.Format.{Format}
 use Rattle.reiser_bitmap.specs.vol_block.declared.format.Format.TheVariants.{Reiser, Btrfs, Neither}
 
--- On a ReiserFS volume with these used blocks: zeros in place of a Btrfs superblock that lies in a block without use.
+-- On a ReiserFS volume with these used blocks: zeros in place of a Btrfs superblock that lies in a block without use, where a copy has
+-- its place.
 unfoldable pub wiped : ℕ → List Bool → ℕ → List ℕ → List ℕ
-wiped blocks used b bytes = if nat_lt b blocks && (not (has used b) && has_bytes_at bytes 64 (codes "_BHRfS_M")) then zeros else bytes
+wiped blocks used b bytes = if nat_lt (b + 1) blocks && (not (has used b) && has_bytes_at bytes SUPER_MAGIC_OFFSET (codes "_BHRfS_M")) then zeros else bytes
 
--- On a Btrfs volume of so many blocks: the copy of its superblock, with the address and the checksum of its place.
+-- On a Btrfs volume of so many blocks: the copy of its superblock, with the address and the checksum of its place, which
+-- never ends with the volume.
 unfoldable pub copied : ℕ → List ℕ → ℕ → List ℕ → List ℕ
-copied blocks superblock b bytes = if nat_lt b blocks then mirror_bytes b superblock else bytes
+copied blocks superblock b bytes = if nat_lt (b + 1) blocks then mirror_bytes b superblock else bytes
 
 -- the blocks of the volume that a Btrfs superblock is of
 abbrev pub blocks_of : List ℕ → ℕ
@@ -26,7 +29,7 @@ blocks_of superblock = (super_in superblock).total_bytes / 4096
 -- What is to stand in block b, that of a copy, where these bytes stand on a disk of this format.
 abbrev pub mended_by : Format → Image → ℕ → List ℕ → List ℕ
 mended_by Reiser image b bytes = wiped (superblock image).blocks (used_of image) b bytes
-mended_by Btrfs image b bytes = copied (blocks_of (block_at image 16)) (block_at image 16) b bytes
+mended_by Btrfs image b bytes = copied (blocks_of (block_at image SUPER_BLOCK)) (block_at image SUPER_BLOCK) b bytes
 mended_by Neither image b bytes = bytes
 
 abbrev pub mended : Image → ℕ → List ℕ

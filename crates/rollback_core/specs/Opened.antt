@@ -1,5 +1,6 @@
 -- What was opened on the way to the old volume.
 use Rattle.std.specs.Prelude.{◌≡◌, ◌≤◌, ◌<◌, ℕ, Bool, List, None, length, min}
+use Rattle.btrfs_format.specs.declared.block.TheConstants.{SUPER_BLOCK}
 use Rattle.reiser_bitmap.specs.outside.Format.{format_in}
 use Rattle.reiser_bitmap.specs.outside.History.{Image, block_at}
 use Rattle.reiser_bitmap.specs.vol_block.declared.block.Block.{Block}
@@ -10,14 +11,14 @@ use Rattle.btr_reader.specs.Volume.{IsVolumeOn}
 use Rattle.btr_reader.specs.declared.image_map.ImageMap.{ImageMap}
 use Rattle.btr_reader.specs.declared.volume.Btrfs.{Btrfs as Opened}
 use Rattle.volume_state.specs.Saved.{blocks_by_map, image_blocks, saved_place}
-use Rattle.volume_state.specs.Untouched.{old_used}
+use Rattle.volume_state.specs.GoingBack.{old_used}
 use Rattle.reiser_volume.specs.declared.volume.Volume.{Volume}
 use Rattle.rollback_core.specs.RollbackAnswers.{HasImage, HasVolume}
 
 -- the block is block 16 of a disk with a Btrfs volume
-pub record IsFoundOn (disk : Image) (block : Block) : Type 0 where
+pub record IsBtrfsOn (disk : Image) (block : Block) : Type 0 where
   pub format : format_in disk ≡ Btrfs
-  pub block_is : block.bytes ≡ block_at disk 16
+  pub block_is : block.bytes ≡ block_at disk SUPER_BLOCK
 
 -- the volume was opened on the disk, and has no log tree
 pub record IsOpenedOn (disk : Image) (volume : Opened) : Type 0 where

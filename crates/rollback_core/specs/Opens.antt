@@ -4,7 +4,7 @@ use Rattle.reiser_bitmap.specs.outside.Format.{format_in}
 use Rattle.reiser_bitmap.specs.outside.History.{Image}
 use Rattle.btr_reader.specs.Parts.{AreRowsOfBtrfs, HasBtrfsRows, IsReadable, SavedImage}
 use Rattle.reiser_volume.specs.fs_rows.Rows.{WholeRow}
-use Rattle.btr_reader.specs.Apart.{IsReservedFree}
+use Rattle.btr_reader.specs.Apart.{IsSpareFree}
 use Rattle.reiser_volume.specs.Volume.{AreRowsOf, IsAccepted}
 use Rattle.reiser_bitmap.specs.vol_block.declared.format.Format.{Format}
 use Rattle.reiser_bitmap.specs.vol_block.declared.format.Format.TheVariants.{Reiser, Btrfs, Neither}
@@ -20,7 +20,7 @@ pub record OpensAsBtrfs (image : Image) (rows : List WholeRow) : Type 0 where
   pub tree : HasBtrfsRows image
   pub rows_are : AreRowsOfBtrfs image rows
   pub way : IsReadable image SavedImage
-  pub reserved : IsReservedFree image
+  pub reserved : IsSpareFree image
 
 abbrev pub OpensAs : Format → Image → List WholeRow → Type 0
 OpensAs Reiser image rows = OpensAsReiser image rows

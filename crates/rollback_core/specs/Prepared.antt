@@ -1,5 +1,6 @@
 -- What was read and decided before the first write.
 use Rattle.std.specs.Prelude.{◌≡◌, ◌==◌, ℕ, not, All, List, filter, map}
+use Rattle.btrfs_format.specs.declared.block.TheConstants.{FIRST_MIRROR, SECOND_MIRROR, SUPER_BLOCK}
 use Rattle.reiser_bitmap.specs.outside.Format.{format_in}
 use Rattle.reiser_bitmap.specs.outside.History.{Image, block_at}
 use Rattle.convert_steps.specs.command_answers.declared.answer.Answer.{Answer}
@@ -8,8 +9,8 @@ use Rattle.reiser_bitmap.specs.refusals.declared.answer.VolAnswer.{VolAnswer}
 use Rattle.reiser_bitmap.specs.refusals.declared.answer.VolAnswer.TheVariants as reiser
 use Rattle.reiser_bitmap.specs.vol_block.declared.format.Format.TheVariants.{Btrfs}
 use Rattle.volume_state.specs.Saved.{image_blocks}
-use Rattle.volume_state.specs.Untouched.{IsUntouched}
-use Rattle.rollback_core.specs.RolledBack.{is_wiped, restored_blocks, summary}
+use Rattle.volume_state.specs.GoingBack.{CanGoBack}
+use Rattle.rollback_core.specs.RolledBack.{is_wiped, restored_blocks, rollback_summary}
 use Rattle.rollback_core.specs.declared.way.Saved.{Saved}
 use Rattle.rollback_core.specs.declared.way.WayBack.{WayBack}
 
@@ -20,14 +21,14 @@ pub record AreSaved (image : Image) (numbers : List ℕ) (saved : List Saved) : 
 
 -- Nothing stands in the way, and this is what is to be written: the restored blocks and block 16 from the saved image, and zeros to each
 -- block of a copy that is to be wiped.
-pub record IsPrepared (disk : Image) (way : WayBack) : Type 0 where
+pub record IsWayBack (disk : Image) (way : WayBack) : Type 0 where
   pub format : format_in disk ≡ Btrfs
-  pub untouched : IsUntouched disk
+  pub can : CanGoBack disk
   pub reserved : AreSaved (image_blocks disk) (filter (λ b. not (b == 16)) (restored_blocks disk)) way.reserved.items
-  pub superblock : way.superblock.bytes ≡ block_at (image_blocks disk) 16
-  pub first : way.first ≡ is_wiped disk 16384
-  pub second : way.second ≡ is_wiped disk 67108864
-  pub summary_is : way.summary ≡ summary disk
+  pub superblock : way.superblock.bytes ≡ block_at (image_blocks disk) SUPER_BLOCK
+  pub first : way.first ≡ is_wiped disk FIRST_MIRROR
+  pub second : way.second ≡ is_wiped disk SECOND_MIRROR
+  pub summary_is : way.summary ≡ rollback_summary disk
 
 -- the answer by that of the volume in the saved image
 abbrev pub by_image : VolAnswer → Answer

@@ -1,7 +1,9 @@
 -- What `recover` makes of a disk, and what a crash of it leaves.
 use Rattle.std.specs.Prelude.{◌≡◌, ◌⊎◌, ℕ, true, List, [], ◌∷◌, length, filter, Ok}
+use Rattle.first_sync.specs.Synced.{synced_now}
+use Rattle.btrfs_format.specs.declared.block.TheConstants.{FIRST_MIRROR, SECOND_MIRROR, SUPER_BLOCK}
 use Rattle.reiser_bitmap.specs.outside.Format.{format_in}
-use Rattle.reiser_bitmap.specs.outside.History.{Image, block_at}
+use Rattle.reiser_bitmap.specs.outside.History.{History, Image, IsBlock, WritesOnly, after, block_at, reads, wrote}
 use Rattle.btr_super.specs.Rules.{super_of}
 use Rattle.btr_super.specs.declared.superblock.Super.{Super}
 use Rattle.convert_steps.specs.Switch.{IsMirror}
@@ -14,7 +16,7 @@ use Rattle.rollback_core.specs.declared.recovery.RecoverSummary.{RecoverSummary}
 -- What is looked at keeps its rules: superblock, journal and bitmap of a ReiserFS volume, and of a Btrfs volume the superblock.
 abbrev pub IsInOrder : Format → Image → Type 0
 IsInOrder Reiser image = IsFrontAccepted image
-IsInOrder Btrfs image = (s : Super) × (super_of (block_at image 16) 16 (length image) ≡ Ok s)
+IsInOrder Btrfs image = (s : Super) × (super_of (block_at image SUPER_BLOCK) SUPER_BLOCK (length image) ≡ Ok s)
 IsInOrder Neither image = ⊥
 
 abbrev pub IsRecoverable : Image → Type 0
@@ -33,8 +35,8 @@ pub record IsPartly (image other : Image) : Type 0 where
   pub each : (b : ℕ) → (block_at other b ≡ block_at image b) ⊎ (IsMirror b × (block_at other b ≡ mended image b))
 
 -- what a crash at any moment may leave
-abbrev pub IsLeft : Image → Image → Type 0
-IsLeft image other = (other ≡ image) ⊎ (IsRecoverable image × IsPartly image other)
+abbrev pub IsLeftByRecover : Image → Image → Type 0
+IsLeftByRecover image other = (other ≡ image) ⊎ (IsRecoverable image × IsPartly image other)
 
 -- a write that mends the block of a copy, which holds something else
 pub record IsMend (image : Image) (b : ℕ) (bytes : List ℕ) : Type 0 where
@@ -42,14 +44,38 @@ pub record IsMend (image : Image) (b : ℕ) (bytes : List ℕ) : Type 0 where
   pub torn : is_torn image b ≡ true
   pub bytes_are : bytes ≡ mended image b
 
+-- ---- in which order
+
+-- a write of block 16 as it stands
+abbrev pub IsRewrite : Image → ℕ → List ℕ → Type 0
+IsRewrite image b bytes = IsBlock 16 (block_at image SUPER_BLOCK) b bytes
+
+-- all that is written: block 16 as it stands, and what mends the block of a copy
+abbrev pub IsRecoverWrite : Image → ℕ → List ℕ → Type 0
+IsRecoverWrite image b bytes = IsRewrite image b bytes ⊎ IsMend image b bytes
+
+-- the history behind a write of block 16 as it stands, and a sync, which both succeeded
+abbrev pub rewritten : History → History
+rewritten h = synced_now (after (wrote 16 (block_at (reads h) SUPER_BLOCK) true) h)
+
+-- Nothing is written but block 16 as it stands; or that was written and has reached the device, and then alone something with P was.
+abbrev pub RewritesFirst : (ℕ → List ℕ → Type 0) → History → History → Type 0
+RewritesFirst P old new = WritesOnly (IsRewrite (reads old)) old new ⊎ WritesOnly P (rewritten old) new
+
+-- So `recover`: nothing was called, or a sync first, and no copy is written before block 16 was, as it stood.
+abbrev pub RewritesBeforeCopies : History → History → Type 0
+RewritesBeforeCopies old new = (new ≡ old) ⊎ RewritesFirst (IsMend (reads old)) (synced_now old) new
+
+-- ---- what is told
+
 -- the blocks of the copies
 abbrev pub copy_blocks : List ℕ
-copy_blocks = 16384 ∷ 67108864 ∷ []
+copy_blocks = FIRST_MIRROR ∷ SECOND_MIRROR ∷ []
 
 -- those that are to change
 abbrev pub torn_blocks : Image → List ℕ
 torn_blocks image = filter (is_torn image) copy_blocks
 
 -- the format, and how many blocks are to change
-abbrev pub summary : Image → RecoverSummary
-summary image = record { format = format_in image; mirrors = length (torn_blocks image) }
+abbrev pub recover_summary : Image → RecoverSummary
+recover_summary image = record { format = format_in image; mirrors = length (torn_blocks image) }

@@ -1,5 +1,6 @@
 -- What `recover` may answer.
 use Rattle.std.specs.Prelude.{◌≡◌, ◌≢◌, length, Err}
+use Rattle.btrfs_format.specs.declared.block.TheConstants.{SUPER_BLOCK}
 use Rattle.reiser_bitmap.specs.outside.Format.{format_in}
 use Rattle.reiser_bitmap.specs.outside.History.{Image, block_at}
 use Rattle.convert_steps.specs.command_answers.declared.answer.Answer.{Answer}
@@ -21,13 +22,15 @@ IsRefusedAs Neither image r = r ≡ NotVolume
 -- The answer where a disk is not recovered: its volume keeps not all rules, or it has none. Of a Btrfs volume memory is never short.
 abbrev pub RefusesRecover : Image → Answer → Type 0
 RefusesRecover image (answer.Volume r) = IsRefusedAs (format_in image) image r
-RefusesRecover image (answer.Btr r) = (format_in image ≡ Btrfs) × (super_of (block_at image 16) 16 (length image) ≡ Err r)
+RefusesRecover image (answer.Btr r) = (format_in image ≡ Btrfs) × (super_of (block_at image SUPER_BLOCK) SUPER_BLOCK (length image) ≡ Err r)
 RefusesRecover image (answer.NoSpace needed free run_needed longest) = ⊥
 RefusesRecover image answer.WrongFormat = ⊥
 RefusesRecover image answer.ImageMissing = ⊥
 RefusesRecover image (answer.ImageMoved block) = ⊥
 RefusesRecover image (answer.ImageDamaged r) = ⊥
 RefusesRecover image (answer.ReservedUsed block) = ⊥
+RefusesRecover image (answer.NotSound part address) = ⊥
+RefusesRecover image (answer.ImageShared tree) = ⊥
 RefusesRecover image answer.Fault = Unit {0}
 RefusesRecover image answer.Memory = format_in image ≢ Btrfs
 
@@ -41,5 +44,7 @@ IsRecoverAnswer answer.ImageMissing = ⊥
 IsRecoverAnswer (answer.ImageMoved block) = ⊥
 IsRecoverAnswer (answer.ImageDamaged r) = ⊥
 IsRecoverAnswer (answer.ReservedUsed block) = ⊥
+IsRecoverAnswer (answer.NotSound part address) = ⊥
+IsRecoverAnswer (answer.ImageShared tree) = ⊥
 IsRecoverAnswer answer.Fault = Unit {0}
 IsRecoverAnswer answer.Memory = Unit {0}

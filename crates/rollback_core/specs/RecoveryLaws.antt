@@ -1,5 +1,6 @@
 -- What a recovery and its crashes keep.
-use Rattle.std.specs.Prelude.{◌≡◌, ◌≢◌, ◌⊎◌, ◌↔◌, ℕ, ◌<◌, false, List, length, codes, Contains}
+use Rattle.std.specs.Prelude.{◌≡◌, ◌≢◌, ◌⊎◌, ◌↔◌, ℕ, ◌+◌, ◌<◌, false, List, length, codes, Contains}
+use Rattle.btrfs_format.specs.declared.block.TheConstants.{SUPER_BLOCK, SUPER_MAGIC_OFFSET}
 use Rattle.reiser_bitmap.specs.outside.Format.{format_in}
 use Rattle.reiser_bitmap.specs.outside.History.{Image, block_at}
 use Rattle.convert_steps.specs.command_answers.declared.answer.Answer.{Answer}
@@ -7,7 +8,7 @@ use Rattle.convert_steps.specs.command_answers.declared.answer.Answer.TheVariant
 use Rattle.btr_reader.specs.Parts.{IsReadable, Superblock}
 use Rattle.convert_steps.specs.Switch.{HasCopies, IsMirror}
 use Rattle.reiser_volume.specs.fs_rows.Rows.{WholeRow}
-use Rattle.btr_reader.specs.Apart.{IsReservedFree}
+use Rattle.btr_reader.specs.Apart.{IsSpareFree}
 use Rattle.btr_reader.specs.MetadataLaws.{IsSameBtrfs}
 use Rattle.reiser_volume.specs.reiser_volume_contents.Laws.{SameUsed}
 use Rattle.reiser_bitmap.specs.Bits.{has}
@@ -19,14 +20,14 @@ use Rattle.reiser_bitmap.specs.vol_block.declared.format.Format.TheVariants.{Rei
 use Rattle.rollback_core.specs.RecoveryAnswers.{RefusesRecover}
 use Rattle.rollback_core.specs.Mending.{blocks_of}
 use Rattle.rollback_core.specs.Opens.{OpensAs}
-use Rattle.rollback_core.specs.Recovered.{IsLeft, IsRecoverable, IsRecovered, summary, torn_blocks}
+use Rattle.rollback_core.specs.Recovered.{IsLeftByRecover, IsRecoverable, IsRecovered, recover_summary, torn_blocks}
 
 -- A recovered disk stays as it is when it is recovered again: no block is to be written. And after a crash of a recovery another one
 -- makes of the disk what the first would have made.
 pub record RecoveryStays : Type 0 where
   pub stays : (image other : Image) → IsRecovered image other → IsRecovered other other
-  pub idle : (image other : Image) → IsRecovered image other → (summary other).mirrors ≡ 0
-  pub again : (image left other : Image) → IsLeft image left → IsRecovered left other → IsRecovered image other
+  pub idle : (image other : Image) → IsRecovered image other → (recover_summary other).mirrors ≡ 0
+  pub again : (image left other : Image) → IsLeftByRecover image left → IsRecovered left other → IsRecovered image other
 
 -- The other disk has the same format and is in order where the first is, and no block differs but those of copies.
 pub record IsSameBut (image other : Image) : Type 0 where
@@ -42,17 +43,17 @@ pub record IsSameBut (image other : Image) : Type 0 where
 -- So is each disk that a crash of a recovery leaves, and what a recovery makes is one of them. Where no part of a Btrfs volume lies in
 -- a reserved block, it is the same volume, with the same rows and the same saved image, and so again.
 pub record RecoveryKeeps : Type 0 where
-  pub recovered : (image other : Image) → IsRecovered image other → IsLeft image other
-  pub left : (image other : Image) → IsLeft image other → IsSameBut image other
-  pub btrfs : (image other : Image) → IsReservedFree image → IsLeft image other → IsSameBtrfs image other × IsReservedFree other
+  pub recovered : (image other : Image) → IsRecovered image other → IsLeftByRecover image other
+  pub left : (image other : Image) → IsLeftByRecover image other → IsSameBut image other
+  pub btrfs : (image other : Image) → IsSpareFree image → IsLeftByRecover image other → IsSameBtrfs image other × IsSpareFree other
 
 -- What stands in the blocks of copies: on a Btrfs volume the copies of its superblock, on a ReiserFS volume no Btrfs superblock in a
 -- block without use. A Btrfs volume whose copies stand is recovered as it is.
 pub record RecoveryMends : Type 0 where
-  pub copies : (image other : Image) → IsRecovered image other → format_in image ≡ Btrfs → HasCopies (block_at image 16) (blocks_of (block_at image 16)) other
+  pub copies : (image other : Image) → IsRecovered image other → format_in image ≡ Btrfs → HasCopies (block_at image SUPER_BLOCK) (blocks_of (block_at image SUPER_BLOCK)) other
   pub wiped : (image other : Image) → IsRecovered image other → format_in image ≡ Reiser
-      → (b : ℕ) → IsMirror b → b < (superblock image).blocks → has (used_of image) b ≡ false → has_bytes_at (block_at other b) 64 (codes "_BHRfS_M") ≡ false
-  pub whole : (image : Image) → IsRecoverable image → format_in image ≡ Btrfs → HasCopies (block_at image 16) (blocks_of (block_at image 16)) image → IsRecovered image image
+      → (b : ℕ) → IsMirror b → b + 1 < (superblock image).blocks → has (used_of image) b ≡ false → has_bytes_at (block_at other b) SUPER_MAGIC_OFFSET (codes "_BHRfS_M") ≡ false
+  pub whole : (image : Image) → IsRecoverable image → format_in image ≡ Btrfs → HasCopies (block_at image SUPER_BLOCK) (blocks_of (block_at image SUPER_BLOCK)) image → IsRecovered image image
 
 -- The blocks that are counted, no two of which are one, are those that differ.
 abbrev pub RecoveryCounts : Type 0
@@ -73,5 +74,5 @@ pub record InOrderHasFormat : Type 0 where
 -- A disk that can be opened can be recovered, as the format that it has. What a recovery makes of it, or a crash of one leaves, can be opened
 -- as the same format, with the same rows.
 pub record RecoveryOpens : Type 0 where
-  pub left : (f : Format) (image other : Image) (rows : List WholeRow) → OpensAs f image rows → IsLeft image other → OpensAs f other rows
+  pub left : (f : Format) (image other : Image) (rows : List WholeRow) → OpensAs f image rows → IsLeftByRecover image other → OpensAs f other rows
   pub recovers : (f : Format) (image : Image) (rows : List WholeRow) → OpensAs f image rows → (format_in image ≡ f) × IsRecoverable image

@@ -1,36 +1,27 @@
 -- What a rollback may answer.
-use Rattle.std.specs.Prelude.{◌≡◌, ℕ, Some, None}
+use Rattle.std.specs.Prelude.{◌≡◌}
 use Rattle.reiser_bitmap.specs.outside.Format.{format_in}
 use Rattle.reiser_bitmap.specs.outside.History.{Image}
 use Rattle.convert_steps.specs.command_answers.declared.answer.Answer.{Answer}
-use Rattle.convert_steps.specs.command_answers.declared.answer.Answer.TheVariants as answer
-use Rattle.reiser_bitmap.specs.refusals.declared.refusal.BtrRefusal.{BtrRefusal}
-use Rattle.reiser_bitmap.specs.refusals.declared.refusal.BtrRefusal.TheVariants.{LogPending}
 use Rattle.reiser_bitmap.specs.refusals.declared.refusal.VolumeRefusal.TheVariants.{NotVolume}
 use Rattle.reiser_bitmap.specs.vol_block.Volume.{IsReserved}
 use Rattle.reiser_bitmap.specs.vol_block.declared.format.Format.TheVariants.{Btrfs, Neither, Reiser}
-use Rattle.btr_reader.specs.Parts.{IsBtrfsRefusal, SavedImage, Tree, log_tree}
 use Rattle.volume_state.specs.Moved.{AreInPlace, IsMoved}
 use Rattle.volume_state.specs.Saved.{IsImageMissing, image_blocks, saved_place}
-use Rattle.volume_state.specs.Untouched.{IsReadWhole, old_used}
-use Rattle.volume_state.specs.Using.{IsInUse}
+use Rattle.volume_state.specs.Using.{IsInUse, IsWayRefusal}
 use Rattle.reiser_volume.specs.Volume.{IsAccepted, IsRefusal, superblock}
-
--- What is wrong with what is read of the volume. A log tree comes before all that is wrong but with the superblock.
-pub data IsReadRefusal (disk : Image) (r : BtrRefusal) : Type 0 where
-  has_log : (at : ℕ) → log_tree disk ≡ Some at → r ≡ LogPending at → IsReadRefusal disk r
-  bad_tree : log_tree disk ≡ None → IsBtrfsRefusal disk Tree r → IsReadRefusal disk r
-  bad_way : log_tree disk ≡ None → IsBtrfsRefusal disk SavedImage r → IsReadRefusal disk r
+use Rattle.volume_state.specs.GoingBack.{HasReadableWay, old_used}
+use Rattle.convert_steps.specs.command_answers.declared.answer.Answer.TheVariants as answer
 
 -- The order of the refusals: each is looked for where those before are not found.
--- all is read
-pub record IsReadable (disk : Image) : Type 0 where
+-- the way to the image is readable
+pub record LeadsToImage (disk : Image) : Type 0 where
   pub format : format_in disk ≡ Btrfs
-  pub whole : IsReadWhole disk
+  pub way : HasReadableWay disk
 
 -- the image is there
 pub record HasImage (disk : Image) : Type 0 where
-  pub readable : IsReadable disk
+  pub leads : LeadsToImage disk
   pub there : ¬ IsImageMissing disk
 
 -- and it is an accepted volume
@@ -46,13 +37,15 @@ pub record HasPlaces (disk : Image) : Type 0 where
 -- The answer where a disk is not rolled back.
 abbrev pub RefusesRollback : Image → Answer → Type 0
 RefusesRollback disk (answer.Volume r) = (format_in disk ≡ Neither) × (r ≡ NotVolume)
-RefusesRollback disk (answer.Btr r) = (format_in disk ≡ Btrfs) × IsReadRefusal disk r
+RefusesRollback disk (answer.Btr r) = (format_in disk ≡ Btrfs) × IsWayRefusal disk r
 RefusesRollback disk (answer.NoSpace needed free run_needed longest) = ⊥
 RefusesRollback disk answer.WrongFormat = format_in disk ≡ Reiser
-RefusesRollback disk answer.ImageMissing = IsReadable disk × IsImageMissing disk
+RefusesRollback disk answer.ImageMissing = LeadsToImage disk × IsImageMissing disk
 RefusesRollback disk (answer.ImageDamaged r) = HasImage disk × IsRefusal (image_blocks disk) r
 RefusesRollback disk (answer.ImageMoved b) = HasVolume disk × IsMoved (saved_place disk) (old_used disk) b
 RefusesRollback disk (answer.ReservedUsed b) = HasPlaces disk × IsReserved b (superblock (image_blocks disk)).blocks × IsInUse disk b
+RefusesRollback disk (answer.NotSound part address) = ⊥
+RefusesRollback disk (answer.ImageShared tree) = ⊥
 RefusesRollback disk answer.Fault = Unit {0}
 RefusesRollback disk answer.Memory = Unit {0}
 
@@ -66,5 +59,7 @@ IsRollbackAnswer answer.ImageMissing = Unit {0}
 IsRollbackAnswer (answer.ImageDamaged r) = Unit {0}
 IsRollbackAnswer (answer.ImageMoved b) = Unit {0}
 IsRollbackAnswer (answer.ReservedUsed b) = Unit {0}
+IsRollbackAnswer (answer.NotSound part address) = ⊥
+IsRollbackAnswer (answer.ImageShared tree) = ⊥
 IsRollbackAnswer answer.Fault = Unit {0}
 IsRollbackAnswer answer.Memory = Unit {0}

@@ -3,34 +3,34 @@ use Rattle.std.specs.Prelude.{◌≢◌}
 use Rattle.reiser_bitmap.specs.outside.History.{Image}
 use Rattle.convert_steps.specs.command_answers.declared.answer.Answer.{Answer}
 use Rattle.convert_steps.specs.command_answers.declared.answer.Answer.TheVariants as answer
-use Rattle.volume_state.specs.Laws.{IsSameUntouched}
+use Rattle.volume_state.specs.Laws.{CanGoBackToo}
 use Rattle.volume_state.specs.Saved.{image_blocks}
-use Rattle.volume_state.specs.Untouched.{IsUntouched}
+use Rattle.volume_state.specs.GoingBack.{CanGoBack}
 use Rattle.reiser_volume.specs.Laws.{IsSameVolume}
 use Rattle.rollback_core.specs.RollbackAnswers.{RefusesRollback}
-use Rattle.rollback_core.specs.Prepared.{IsPrepared}
-use Rattle.rollback_core.specs.RolledBack.{IsBack, IsRolledBack, IsStanding}
-use Rattle.rollback_core.specs.Writing.{AreApart, AreWiped, IsTurned, IsUnturned}
+use Rattle.rollback_core.specs.Prepared.{IsWayBack}
+use Rattle.rollback_core.specs.RolledBack.{IsBack, IsRolledBack, StillStands}
+use Rattle.rollback_core.specs.Writing.{AreWritesApart, AreWiped, IsTurned, IsUnturned}
 use Rattle.rollback_core.specs.declared.way.WayBack.{WayBack}
 
 -- What each of the two states means. The Btrfs volume that a crash leaves is the same, with its rows and its saved image, and can be rolled
 -- back. The old volume that a crash leaves, or that is rolled back to, is that in the saved image: it is accepted, with the same rows.
 pub record RollbackKeeps : Type 0 where
-  pub standing : (disk other : Image) → IsUntouched disk → IsStanding disk other → IsSameUntouched disk other
-  pub back : (disk other : Image) → IsUntouched disk → IsBack disk other → IsSameVolume (image_blocks disk) other
+  pub standing : (disk other : Image) → CanGoBack disk → StillStands disk other → CanGoBackToo disk other
+  pub back : (disk other : Image) → CanGoBack disk → IsBack disk other → IsSameVolume (image_blocks disk) other
 
 -- After a crash that left the Btrfs volume another rollback ends as the first one would have: it makes the same blocks of the same image.
 abbrev pub RollbackGoesOn : Type 0
-RollbackGoesOn = (disk left other : Image) → IsUntouched disk → IsStanding disk left → IsRolledBack left other → IsRolledBack disk other
+RollbackGoesOn = (disk left other : Image) → CanGoBack disk → StillStands disk left → IsRolledBack left other → IsRolledBack disk other
 
 -- A volume that can be rolled back is not refused: all that is answered is a failed call, or too little memory. One that is refused so can
 -- not be rolled back.
-abbrev pub RefusalsAreOfTouched : Type 0
-RefusalsAreOfTouched = (disk : Image) (e : Answer) → RefusesRollback disk e → e ≢ answer.Fault → e ≢ answer.Memory → ¬ IsUntouched disk
+abbrev pub RefusedCanNotGoBack : Type 0
+RefusedCanNotGoBack = (disk : Image) (e : Answer) → RefusesRollback disk e → e ≢ answer.Fault → e ≢ answer.Memory → ¬ CanGoBack disk
 
 -- What is prepared and written makes of a disk what is said of a rollback: before block 16 is written the Btrfs volume stands, from then on
 -- the old one.
 pub record WritingRollsBack : Type 0 where
-  pub standing : (disk : Image) (way : WayBack) (other : Image) → IsPrepared disk way → AreApart way → IsUnturned way disk other → IsStanding disk other
-  pub back : (disk : Image) (way : WayBack) (other : Image) → IsPrepared disk way → IsTurned way disk other → IsBack disk other
-  pub done : (disk : Image) (way : WayBack) (other : Image) → IsPrepared disk way → IsTurned way disk other → AreWiped way other → IsRolledBack disk other
+  pub standing : (disk : Image) (way : WayBack) (other : Image) → IsWayBack disk way → AreWritesApart way → IsUnturned way disk other → StillStands disk other
+  pub back : (disk : Image) (way : WayBack) (other : Image) → IsWayBack disk way → IsTurned way disk other → IsBack disk other
+  pub done : (disk : Image) (way : WayBack) (other : Image) → IsWayBack disk way → IsTurned way disk other → AreWiped way other → IsRolledBack disk other

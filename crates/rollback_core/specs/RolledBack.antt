@@ -1,14 +1,15 @@
 -- The disk before, while and after a converted volume is rolled back.
-use Rattle.std.specs.Prelude.{◌≡◌, ◌⊎◌, ℕ, nat_lt, Bool, true, false, ◌&&◌, not, List, codes, filter, length}
+use Rattle.std.specs.Prelude.{◌≡◌, ◌⊎◌, ℕ, ◌+◌, nat_lt, Bool, true, false, ◌&&◌, not, List, codes, filter, length}
+use Rattle.btrfs_format.specs.declared.block.TheConstants.{SUPER_BLOCK, SUPER_MAGIC_OFFSET}
 use Rattle.reiser_bitmap.specs.outside.History.{Image, block_at}
 use Rattle.reiser_bitmap.specs.vol_block.Format.{has_bytes_at}
 use Rattle.reiser_bitmap.specs.vol_block.Volume.{is_reserved, zeros}
 use Rattle.convert_steps.specs.Switch.{IsMirror}
 use Rattle.volume_state.specs.Saved.{image_blocks}
-use Rattle.volume_state.specs.Untouched.{IsUntouched, old_used}
 use Rattle.reiser_volume.specs.reiser_volume_contents.Laws.{SameUsed}
 use Rattle.reiser_bitmap.specs.Bits.{has, used_blocks}
 use Rattle.rollback_core.specs.declared.way.RollbackSummary.{RollbackSummary}
+use Rattle.volume_state.specs.GoingBack.{CanGoBack, old_used}
 
 -- ---- which blocks change
 
@@ -19,14 +20,14 @@ pub record IsRestored (disk : Image) (b : ℕ) : Type 0 where
 
 -- A block of a copy of the superblock that the old volume has without use, and which holds the magic of a Btrfs superblock.
 abbrev pub is_wiped : Image → ℕ → Bool
-is_wiped disk b = nat_lt b (length (old_used disk)) && (not (has (old_used disk) b) && has_bytes_at (block_at disk b) 64 (codes "_BHRfS_M"))
+is_wiped disk b = nat_lt (b + 1) (length (old_used disk)) && (not (has (old_used disk) b) && has_bytes_at (block_at disk b) SUPER_MAGIC_OFFSET (codes "_BHRfS_M"))
 
 -- ---- the Btrfs volume
 
 -- It still stands: nothing differs but restored blocks, none of which it uses, and its superblock is as it was.
-pub record IsStanding (disk other : Image) : Type 0 where
+pub record StillStands (disk other : Image) : Type 0 where
   pub size : length other ≡ length disk
-  pub superblock : block_at other 16 ≡ block_at disk 16
+  pub superblock : block_at other SUPER_BLOCK ≡ block_at disk SUPER_BLOCK
   pub others : (b : ℕ) → ¬ IsRestored disk b → block_at other b ≡ block_at disk b
 
 -- ---- the old volume
@@ -40,15 +41,15 @@ pub record IsBack (disk other : Image) : Type 0 where
 
 -- And no copy is left in a block without use.
 pub record IsRolledBack (disk other : Image) : Type 0 where
-  pub untouched : IsUntouched disk
+  pub can : CanGoBack disk
   pub back : IsBack disk other
   pub wiped : (b : ℕ) → IsMirror b → is_wiped disk b ≡ true → block_at other b ≡ zeros
 
 -- ---- what a crash may leave
 
 -- the disk as it was; or, of a volume that can be rolled back, the Btrfs volume or the old one
-abbrev pub IsLeft : Image → Image → Type 0
-IsLeft disk other = (other ≡ disk) ⊎ (IsUntouched disk × (IsStanding disk other ⊎ IsBack disk other))
+abbrev pub IsLeftByRollback : Image → Image → Type 0
+IsLeftByRollback disk other = (other ≡ disk) ⊎ (CanGoBack disk × (StillStands disk other ⊎ IsBack disk other))
 
 -- ---- what is told
 
@@ -57,5 +58,5 @@ abbrev pub restored_blocks : Image → List ℕ
 restored_blocks disk = filter (λ b. is_reserved b (length (old_used disk))) (used_blocks (old_used disk))
 
 -- how many blocks the old volume uses, and how many of them are reserved
-abbrev pub summary : Image → RollbackSummary
-summary disk = record { blocks = length (used_blocks (old_used disk)); restored = length (restored_blocks disk) }
+abbrev pub rollback_summary : Image → RollbackSummary
+rollback_summary disk = record { blocks = length (used_blocks (old_used disk)); restored = length (restored_blocks disk) }

@@ -1,20 +1,14 @@
 -- What decides the saved image of a Btrfs volume, the blocks in use, and whether the volume before can be had back.
 use Rattle.std.specs.Prelude.{◌≡◌, ◌↔◌, ℕ, ◌/◌, Bool, false, length}
-use Rattle.reiser_bitmap.specs.outside.History.{Image, block_at}
+use Rattle.reiser_bitmap.specs.outside.History.{Image}
 use Rattle.btr_reader.specs.Parts.{IsReadable, SavedImage, own_super}
-use Rattle.volume_state.specs.Laws.{IsSameUntouched}
-use Rattle.btr_reader.specs.Apart.{IsReservedFree as IsSpareFree, IsSameOutside, IsVolumeApart, differs}
+use Rattle.volume_state.specs.Laws.{CanGoBackToo, IsSameInUse}
+use Rattle.btr_reader.specs.Apart.{IsSpareFree, IsSameOutside, IsVolumeApart, differs}
 use Rattle.btr_reader.specs.MetadataLaws.{IsSameBtrfs}
-use Rattle.rollback_core.specs.Recovered.{IsLeft}
+use Rattle.rollback_core.specs.Recovered.{IsLeftByRecover}
 use Rattle.volume_state.specs.Saved.{image_blocks}
-use Rattle.volume_state.specs.Untouched.{IsUntouched}
+use Rattle.volume_state.specs.GoingBack.{CanGoBack}
 use Rattle.volume_state.specs.Using.{IsInUse, IsReservedFree}
-
--- The two disks are as long as each other, and have the same in block 16, which is that of the superblock, and in each block in use.
-pub record IsSameInUse (disk other : Image) : Type 0 where
-  pub size : length other ≡ length disk
-  pub superblock : block_at other 16 ≡ block_at disk 16
-  pub used : (b : ℕ) → IsInUse disk b → block_at other b ≡ block_at disk b
 
 -- The other disk holds the same Btrfs volume with the same saved image and the same blocks in use, and the volume before can be had back
 -- from both or from neither.
@@ -22,7 +16,7 @@ pub record IsSameSaved (disk other : Image) : Type 0 where
   pub same : IsSameBtrfs disk other
   pub image : image_blocks other ≡ image_blocks disk
   pub in_use : (b : ℕ) → IsInUse disk b ↔ IsInUse other b
-  pub untouched : IsUntouched disk ↔ IsUntouched other
+  pub can : CanGoBack disk ↔ CanGoBack other
 
 -- ---- the volume before
 
@@ -30,14 +24,13 @@ pub record IsSameSaved (disk other : Image) : Type 0 where
 abbrev pub PartsDecideSaved : Type 0
 PartsDecideSaved = (test : ℕ → Bool) (disk other : Image) → IsVolumeApart test disk → IsSameOutside test disk other → IsSameSaved disk other
 
--- In other words: the volume before can be had back from each disk that is as long, and on which no part of the volume lies in a block
--- that differs.
-abbrev pub SamePartsStayUntouched : Type 0
-SamePartsStayUntouched = (disk other : Image) → IsUntouched disk → length other ≡ length disk → IsVolumeApart (differs disk other) disk → IsSameUntouched disk other
+-- In other words: it is the same on each disk that is as long, and on which no part of the volume lies in a block that differs.
+abbrev pub SamePartsGoBack : Type 0
+SamePartsGoBack = (disk other : Image) → length other ≡ length disk → IsVolumeApart (differs disk other) disk → IsSameSaved disk other
 
--- So it can from each disk that has the same in block 16 and in each block in use.
+-- So the volume before can be had back from each disk that has the same in block 16 and in each block in use, if it can from one of them.
 abbrev pub UnusedBlocksDecideNothing : Type 0
-UnusedBlocksDecideNothing = (disk other : Image) → IsUntouched disk → IsSameInUse disk other → IsSameUntouched disk other
+UnusedBlocksDecideNothing = (disk other : Image) → CanGoBack disk → IsSameInUse disk other → CanGoBackToo disk other
 
 -- ---- blocks in use
 
@@ -54,5 +47,5 @@ pub record UnusedBlocksLieApart : Type 0 where
 -- Where none of the reserved blocks of a disk is in use, for a volume of any number of blocks, what a recovery makes of the disk, or a crash
 -- of one leaves, has the same blocks in use, and so none that is reserved.
 pub record RecoveryKeepsUse : Type 0 where
-  pub used : (disk other : Image) (blocks : ℕ) → IsReservedFree disk blocks → IsLeft disk other → (b : ℕ) → IsInUse disk b ↔ IsInUse other b
-  pub reserved : (disk other : Image) (blocks : ℕ) → IsReservedFree disk blocks → IsLeft disk other → IsReservedFree other blocks
+  pub used : (disk other : Image) (blocks : ℕ) → IsReservedFree disk blocks → IsLeftByRecover disk other → (b : ℕ) → IsInUse disk b ↔ IsInUse other b
+  pub reserved : (disk other : Image) (blocks : ℕ) → IsReservedFree disk blocks → IsLeftByRecover disk other → IsReservedFree other blocks

@@ -1,5 +1,6 @@
 -- What is written back, and what that leaves.
 use Rattle.std.specs.Prelude.{◌≡◌, ◌≢◌, ◌⊎◌, ℕ, ◌<◌, true, All, AllPairs, Any, List, length}
+use Rattle.btrfs_format.specs.declared.block.TheConstants.{FIRST_MIRROR, SECOND_MIRROR, SUPER_BLOCK}
 use Rattle.reiser_bitmap.specs.outside.History.{Image, IsBlock, block_at}
 use Rattle.reiser_bitmap.specs.vol_block.Volume.{zeros}
 use Rattle.rollback_core.specs.declared.way.Saved.{Saved}
@@ -8,20 +9,20 @@ use Rattle.rollback_core.specs.declared.way.WayBack.{WayBack}
 -- ---- what is written
 
 -- one of the saved blocks goes to block b
-abbrev pub IsPlace : List Saved → ℕ → Type 0
-IsPlace saved b = Any (λ s. b ≡ s.at) saved
+abbrev pub IsSavedPlace : List Saved → ℕ → Type 0
+IsSavedPlace saved b = Any (λ s. b ≡ s.at) saved
 
 -- block b is to become zeros
 abbrev pub IsWiped : WayBack → ℕ → Type 0
-IsWiped way b = ((b ≡ 16384) × (way.first ≡ true)) ⊎ ((b ≡ 67108864) × (way.second ≡ true))
+IsWiped way b = ((b ≡ FIRST_MIRROR) × (way.first ≡ true)) ⊎ ((b ≡ SECOND_MIRROR) × (way.second ≡ true))
 
 -- and zeros go there
 abbrev pub IsWiping : WayBack → ℕ → List ℕ → Type 0
 IsWiping way b bytes = IsWiped way b × (bytes ≡ zeros)
 
 -- all that is written
-abbrev pub IsPart : WayBack → ℕ → List ℕ → Type 0
-IsPart way b bytes = IsPlace way.reserved.items b ⊎ (IsBlock 16 way.superblock.bytes b bytes ⊎ IsWiping way b bytes)
+abbrev pub IsWayBackPart : WayBack → ℕ → List ℕ → Type 0
+IsWayBackPart way b bytes = IsSavedPlace way.reserved.items b ⊎ (IsBlock 16 way.superblock.bytes b bytes ⊎ IsWiping way b bytes)
 
 -- ---- what holds of it
 
@@ -29,25 +30,25 @@ IsPart way b bytes = IsPlace way.reserved.items b ⊎ (IsBlock 16 way.superblock
 pub record HasRoom (size : ℕ) (way : WayBack) : Type 0 where
   pub superblock : 16 < size
   pub reserved : All (λ s. s.at < size) way.reserved.items
-  pub first : way.first ≡ true → 16384 < size
-  pub second : way.second ≡ true → 67108864 < size
+  pub first : way.first ≡ true → FIRST_MIRROR < size
+  pub second : way.second ≡ true → SECOND_MIRROR < size
 
 -- no two blocks go to one place
 abbrev pub GoApart : List Saved → Type 0
 GoApart saved = AllPairs (λ p q. p.at ≢ q.at) saved
 
 -- No block is written twice.
-pub record AreApart (way : WayBack) : Type 0 where
+pub record AreWritesApart (way : WayBack) : Type 0 where
   pub reserved : GoApart way.reserved.items
-  pub superblock : ¬ IsPlace way.reserved.items 16
-  pub wiped : (b : ℕ) → IsWiped way b → ¬ IsPlace way.reserved.items b
+  pub superblock : ¬ IsSavedPlace way.reserved.items 16
+  pub wiped : (b : ℕ) → IsWiped way b → ¬ IsSavedPlace way.reserved.items b
 
 -- ---- what stands
 
 -- Before block 16 is written: nothing differs but the places of the saved blocks.
 pub record IsUnturned (way : WayBack) (old other : Image) : Type 0 where
   pub size : length other ≡ length old
-  pub others : (b : ℕ) → ¬ IsPlace way.reserved.items b → block_at other b ≡ block_at old b
+  pub others : (b : ℕ) → ¬ IsSavedPlace way.reserved.items b → block_at other b ≡ block_at old b
 
 -- each of the saved blocks stands in its place
 abbrev pub AreWrittenBack : List Saved → Image → Type 0
@@ -56,9 +57,9 @@ AreWrittenBack saved other = All (λ s. block_at other s.at ≡ s.block.bytes) s
 -- Block 16 and the saved blocks stand. The blocks that are to become zeros are as they were, or zeros.
 pub record IsTurned (way : WayBack) (old other : Image) : Type 0 where
   pub size : length other ≡ length old
-  pub superblock : block_at other 16 ≡ way.superblock.bytes
+  pub superblock : block_at other SUPER_BLOCK ≡ way.superblock.bytes
   pub written : AreWrittenBack way.reserved.items other
-  pub others : (b : ℕ) → b ≢ 16 → ¬ IsPlace way.reserved.items b → (block_at other b ≡ block_at old b) ⊎ IsWiping way b (block_at other b)
+  pub others : (b : ℕ) → b ≢ 16 → ¬ IsSavedPlace way.reserved.items b → (block_at other b ≡ block_at old b) ⊎ IsWiping way b (block_at other b)
 
 -- they are zeros
 abbrev pub AreWiped : WayBack → Image → Type 0

@@ -3,6 +3,7 @@ ghost use Rattle.std.specs.Prelude.{◌≡◌};
 ghost use Rattle.reiser_bitmap.specs.refusals.declared.refusal.VolumeRefusal.TheVariants.{Damaged};
 ghost use Rattle.rollback_core.specs.Prepared.{by_image};
 
+use btrfs_format::block::SUPER_BLOCK;
 use convert_steps::Answer;
 use reiser_bitmap::{Rule, VolAnswer, VolumeRefusal};
 
@@ -19,7 +20,7 @@ pub fn image_answer(answer: VolAnswer) -> Answer
 
 /// The answer where the old volume doesn't fit its image: a block reads otherwise than before.
 pub fn changed() -> Answer
-    ensures { result ≡ Answer.ImageDamaged (Damaged 16 Rule.Reread) }
+    ensures { result ≡ Answer.ImageDamaged (Damaged SUPER_BLOCK Rule.Reread) }
 {
     Answer::ImageDamaged(VolumeRefusal::Damaged {
         block: 16,

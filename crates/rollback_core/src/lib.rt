@@ -10,6 +10,8 @@
 //! [`recover`] looks at the format of a disk and puts right the places of the copies of a Btrfs superblock. On a Btrfs
 //! volume the copies become those of its superblock. On a ReiserFS volume a Btrfs superblock that lies in a block
 //! without use becomes zeros.
+//!
+//! Both begin with a sync, so that nothing which was written before waits while they write.
 #![tactic(auto)]
 
 mod answers;
@@ -26,20 +28,19 @@ mod way;
 mod wiping;
 mod writing;
 
-pub use convert_steps::SUPERBLOCK;
 pub use prepared::prepare;
 pub use recovery::{RecoverSummary, recover};
 pub use recovery_laws::{
     in_order_has_format, recovers_what_is_in_order, recovery_counts, recovery_keeps,
     recovery_mends, recovery_opens, recovery_stays,
 };
-pub use restore::{FIRST_COPY, SECOND_COPY, write_back};
+pub use restore::write_back;
 pub use rollback_laws::{
-    refusals_are_of_touched, rollback_goes_on, rollback_keeps, writing_rolls_back,
+    refused_can_not_go_back, rollback_goes_on, rollback_keeps, writing_rolls_back,
 };
 pub use rolling::rollback;
 pub use saved_laws::{
-    parts_decide_saved, recovery_keeps_use, same_parts_stay_untouched,
-    unused_blocks_decide_nothing, unused_blocks_lie_apart, used_blocks_decide_use,
+    parts_decide_saved, recovery_keeps_use, same_parts_go_back, unused_blocks_decide_nothing,
+    unused_blocks_lie_apart, used_blocks_decide_use,
 };
 pub use way::{RollbackSummary, Saved, WayBack};

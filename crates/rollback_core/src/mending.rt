@@ -8,11 +8,11 @@ ghost use Rattle.reiser_bitmap.specs.vol_block.declared.format.Format.TheVariant
 ghost use Rattle.rollback_core.specs.RecoveryAnswers.{IsRecoverAnswer, RefusesRecover};
 ghost use Rattle.convert_steps.specs.Found.{IsFoundOn};
 ghost use Rattle.rollback_core.specs.Mending.{Gives, copied, wiped};
-ghost use Rattle.rollback_core.specs.Planned.{HasRoom, IsPlanned};
+ghost use Rattle.rollback_core.specs.Planned.{HasMendingRoom, IsPlanned};
 
-use crate::restore::{FIRST_COPY, SECOND_COPY};
 use btr_super::{Super, mirror};
-use convert_steps::{Answer, Found, SUPERBLOCK, find_format};
+use btrfs_format::block::{FIRST_MIRROR, SECOND_MIRROR, SUPER_BLOCK};
+use convert_steps::{Answer, FormatFound, find_format};
 use reiser_bitmap::{Block, BlockNo, BlockSource, Fault, Format, VolumeRefusal, has_magic};
 use reiser_volume::Front;
 use std::alloc::Global;
@@ -32,7 +32,7 @@ pub struct Mending {
 pub fn plan<S: BlockSource>(alloc: Global, src: &mut S) -> Result<Mending, Answer>
     ensures kept { S.kept src.old src.new }
     ensures planned { OverTold S.tells (S.blocks src.old) (λ image. MatchResult result (IsPlanned image) (RefusesRecover image)) }
-    ensures room { IfOk result (HasRoom (S.size src.old)) }
+    ensures room { IfOk result (HasMendingRoom (S.size src.old)) }
     ensures cause { HasCauseOf Answer.Fault (S.faults src.old) (S.faults src.new) result }
     ensures answers { IfErr result IsRecoverAnswer }
 {
@@ -41,10 +41,14 @@ pub fn plan<S: BlockSource>(alloc: Global, src: &mut S) -> Result<Mending, Answe
 }
 
 /// What is to be written, by the format that was found.
-fn plan_as<S: BlockSource>(found: &Found, alloc: Global, src: &mut S) -> Result<Mending, Answer>
+fn plan_as<S: BlockSource>(
+    found: &FormatFound,
+    alloc: Global,
+    src: &mut S,
+) -> Result<Mending, Answer>
     ensures kept { S.kept src.old src.new }
     ensures planned { OverTold S.tells (S.blocks src.old) (λ image. IsFoundOn image found.now → MatchResult result (IsPlanned image) (RefusesRecover image)) }
-    ensures room { IfOk result (HasRoom (S.size src.old)) }
+    ensures room { IfOk result (HasMendingRoom (S.size src.old)) }
     ensures cause { HasCauseOf Answer.Fault (S.faults src.old) (S.faults src.new) result }
     ensures answers { IfErr result IsRecoverAnswer }
 {
@@ -59,7 +63,7 @@ fn plan_as<S: BlockSource>(found: &Found, alloc: Global, src: &mut S) -> Result<
 fn plan_reiser<S: BlockSource>(alloc: Global, src: &mut S) -> Result<Mending, Answer>
     ensures kept { S.kept src.old src.new }
     ensures planned { OverTold S.tells (S.blocks src.old) (λ image. formats.Reiser ≡ format_in image → MatchResult result (IsPlanned image) (RefusesRecover image)) }
-    ensures room { IfOk result (HasRoom (S.size src.old)) }
+    ensures room { IfOk result (HasMendingRoom (S.size src.old)) }
     ensures cause { HasCauseOf Answer.Fault (S.faults src.old) (S.faults src.new) result }
     ensures answers { IfErr result IsRecoverAnswer }
 {
@@ -70,12 +74,12 @@ fn plan_reiser<S: BlockSource>(alloc: Global, src: &mut S) -> Result<Mending, An
 /// What is to be written to a Btrfs volume with this superblock.
 fn plan_btrfs<S: BlockSource>(src: &mut S, superblock: &Block) -> Result<Mending, Answer>
     ensures kept { S.kept src.old src.new }
-    ensures planned { OverTold S.tells (S.blocks src.old) (λ image. formats.Btrfs ≡ format_in image → superblock.now.bytes ≡ block_at image 16 → MatchResult result (IsPlanned image) (RefusesRecover image)) }
-    ensures room { IfOk result (HasRoom (S.size src.old)) }
+    ensures planned { OverTold S.tells (S.blocks src.old) (λ image. formats.Btrfs ≡ format_in image → superblock.now.bytes ≡ block_at image SUPER_BLOCK → MatchResult result (IsPlanned image) (RefusesRecover image)) }
+    ensures room { IfOk result (HasMendingRoom (S.size src.old)) }
     ensures cause { HasCauseOf Answer.Fault (S.faults src.old) (S.faults src.new) result }
     ensures answers { IfErr result IsRecoverAnswer }
 {
-    let sup = Super::read(superblock, SUPERBLOCK, src.len())?;
+    let sup = Super::read(superblock, SUPER_BLOCK, src.len())?;
     Ok(copy_both(src, superblock, sup.total_bytes / 4096)?)
 }
 
@@ -85,14 +89,14 @@ fn wipe_both<S: BlockSource>(src: &mut S, front: &Front) -> Result<Mending, Faul
     ensures kept { S.kept src.old src.new }
     ensures format { IfOk result (λ m. m.format ≡ formats.Reiser) }
     ensures first { OverTold S.tells (S.blocks src.old) (λ image. IfOk result (λ m.
-        Gives (block_at image 16384) (wiped front.now.sup.blocks front.now.bitmap 16384 (block_at image 16384)) m.first)) }
+        Gives (block_at image FIRST_MIRROR) (wiped front.now.sup.blocks front.now.bitmap FIRST_MIRROR (block_at image FIRST_MIRROR)) m.first)) }
     ensures second { OverTold S.tells (S.blocks src.old) (λ image. IfOk result (λ m.
-        Gives (block_at image 67108864) (wiped front.now.sup.blocks front.now.bitmap 67108864 (block_at image 67108864)) m.second)) }
-    ensures room { IfOk result (HasRoom (S.size src.old)) }
+        Gives (block_at image SECOND_MIRROR) (wiped front.now.sup.blocks front.now.bitmap SECOND_MIRROR (block_at image SECOND_MIRROR)) m.second)) }
+    ensures room { IfOk result (HasMendingRoom (S.size src.old)) }
     ensures cause { HasCause (S.faults src.old) (S.faults src.new) result }
 {
-    let first = wipe(src, front, FIRST_COPY)?;
-    let second = wipe(src, front, SECOND_COPY)?;
+    let first = wipe(src, front, FIRST_MIRROR)?;
+    let second = wipe(src, front, SECOND_MIRROR)?;
     Ok(Mending {
         format: Format::Reiser,
         first,
@@ -106,14 +110,14 @@ fn copy_both<S: BlockSource>(src: &mut S, superblock: &Block, blocks: u64) -> Re
     ensures kept { S.kept src.old src.new }
     ensures format { IfOk result (λ m. m.format ≡ formats.Btrfs) }
     ensures first { OverTold S.tells (S.blocks src.old) (λ image. IfOk result (λ m.
-        Gives (block_at image 16384) (copied blocks superblock.now.bytes 16384 (block_at image 16384)) m.first)) }
+        Gives (block_at image FIRST_MIRROR) (copied blocks superblock.now.bytes FIRST_MIRROR (block_at image FIRST_MIRROR)) m.first)) }
     ensures second { OverTold S.tells (S.blocks src.old) (λ image. IfOk result (λ m.
-        Gives (block_at image 67108864) (copied blocks superblock.now.bytes 67108864 (block_at image 67108864)) m.second)) }
-    ensures room { IfOk result (HasRoom (S.size src.old)) }
+        Gives (block_at image SECOND_MIRROR) (copied blocks superblock.now.bytes SECOND_MIRROR (block_at image SECOND_MIRROR)) m.second)) }
+    ensures room { IfOk result (HasMendingRoom (S.size src.old)) }
     ensures cause { HasCause (S.faults src.old) (S.faults src.new) result }
 {
-    let first = copy(src, superblock, FIRST_COPY, blocks)?;
-    let second = copy(src, superblock, SECOND_COPY, blocks)?;
+    let first = copy(src, superblock, FIRST_MIRROR, blocks)?;
+    let second = copy(src, superblock, SECOND_MIRROR, blocks)?;
     Ok(Mending {
         format: Format::Btrfs,
         first,
@@ -121,15 +125,17 @@ fn copy_both<S: BlockSource>(src: &mut S, superblock: &Block, blocks: u64) -> Re
     })
 }
 
-/// The zeros that are to be written to a block, where the ReiserFS volume has it without use and it holds a Btrfs superblock.
+/// The zeros that are to be written to a block, where a copy has its place on the ReiserFS volume, which has it
+/// without use, and it holds a Btrfs superblock.
 fn wipe<S: BlockSource>(src: &mut S, front: &Front, place: BlockNo) -> Result<Option<Block>, Fault>
     requires device { front.now.sup.blocks ≤ S.size src.old }
+    requires small { place < 2 ^ 52 }
     ensures kept { S.kept src.old src.new }
     ensures gives { OverTold S.tells (S.blocks src.old) (λ image. IfOk result (Gives (block_at image place) (wiped front.now.sup.blocks front.now.bitmap place (block_at image place)))) }
     ensures room { IfOk result (λ found. is_some found ≡ true → place < S.size src.old) }
     ensures cause { HasCause (S.faults src.old) (S.faults src.new) result }
 {
-    if place >= front.sup.blocks || front.bitmap.is_used(place) {
+    if place + 1 >= front.sup.blocks || front.bitmap.is_used(place) {
         return Ok(None);
     }
     let mut block = Block::zero();
@@ -141,8 +147,8 @@ fn wipe<S: BlockSource>(src: &mut S, front: &Front, place: BlockNo) -> Result<Op
     }
 }
 
-/// The copy of a superblock that is to be written to its block, where a Btrfs volume of so many blocks has it and it holds anything
-/// else.
+/// The copy of a superblock that is to be written to its block, where it has its place on a Btrfs volume of so many blocks, which
+/// holds anything else there.
 fn copy<S: BlockSource>(
     src: &mut S,
     superblock: &Block,
@@ -156,7 +162,7 @@ fn copy<S: BlockSource>(
     ensures room { IfOk result (λ found. is_some found ≡ true → place < S.size src.old) }
     ensures cause { HasCause (S.faults src.old) (S.faults src.new) result }
 {
-    if place >= blocks {
+    if place + 1 >= blocks {
         return Ok(None);
     }
     let mut copy = Block::zero();

@@ -3,14 +3,13 @@ ghost use Rattle.std.specs.Prelude.{◌≡◌, ◌⊎◌, ℕ, IfErr, IfOk};
 ghost use Rattle.std.specs.Result.{MatchResult};
 ghost use Rattle.reiser_bitmap.specs.outside.Fault.{HasCauseOf};
 ghost use Rattle.reiser_bitmap.specs.outside.History.{Image, OverTold};
-ghost use Rattle.btr_reader.specs.Parts.{HasBtrfsRows};
 ghost use Rattle.volume_state.specs.Saved.{image_blocks};
-ghost use Rattle.volume_state.specs.Untouched.{IsUntouched, old_used};
+ghost use Rattle.volume_state.specs.GoingBack.{CanGoBack, old_used};
 ghost use Rattle.reiser_volume.specs.Volume.{superblock};
 ghost use Rattle.rollback_core.specs.RollbackAnswers.{HasPlaces, HasVolume, IsRollbackAnswer, RefusesRollback};
-ghost use Rattle.rollback_core.specs.Opened.{IsFoundOn, IsMapOn, IsOldOf, IsOpenedOn, LiesWithin};
-ghost use Rattle.rollback_core.specs.Prepared.{IsPrepared};
-ghost use Rattle.rollback_core.specs.Writing.{AreApart, HasRoom};
+ghost use Rattle.rollback_core.specs.Opened.{IsBtrfsOn, IsMapOn, IsOldOf, IsOpenedOn, LiesWithin};
+ghost use Rattle.rollback_core.specs.Prepared.{IsWayBack};
+ghost use Rattle.rollback_core.specs.Writing.{AreWritesApart, HasRoom};
 
 use crate::answers::{changed, image_answer};
 use crate::saved::{count_reserved, read_block, read_reserved};
@@ -18,7 +17,8 @@ use crate::wiping::wipe_both;
 use crate::{RollbackSummary, WayBack};
 use btr_reader::{Btrfs, ImageMap};
 use btr_super::Super;
-use convert_steps::{Answer, SUPERBLOCK, find_format};
+use btrfs_format::block::SUPER_BLOCK;
+use convert_steps::{Answer, find_format};
 use reiser_bitmap::{Bitmap, Block, BlockSource, BtrRefusal, Format, VolumeRefusal};
 use reiser_volume::Volume;
 use std::alloc::Global;
@@ -28,20 +28,20 @@ use volume_state::{ImageSource, image_moved, reserved_used};
 /// written.
 ///
 /// It is refused, in this order: where the disk has no volume, or a ReiserFS one; where something is wrong with the superblock; where
-/// there is a log tree; where something is wrong with the chunks, the root tree, the file tree or what lies on the way to the image; where
-/// the image is missing; where the volume in it is refused; where a block of that was moved; and where the Btrfs volume uses a reserved
-/// block.
+/// there is a log tree; where something is wrong with the chunks, the root tree or what lies on the way to the image; where the image is
+/// missing; where the volume in it is refused; where a block of that was moved; and where the Btrfs volume uses a reserved block. Of the
+/// file tree all nodes are looked at, and in them the names of the root directory and where extents lie. What else its bodies hold stands
+/// in no one's way.
 pub fn prepare<S: BlockSource>(alloc: Global, src: &mut S) -> Result<WayBack, Answer>
     ensures kept { S.kept src.old src.new }
-    ensures prepared { OverTold S.tells (S.blocks src.old) (λ disk. MatchResult result (IsPrepared disk) (RefusesRollback disk)) }
+    ensures prepared { OverTold S.tells (S.blocks src.old) (λ disk. MatchResult result (IsWayBack disk) (RefusesRollback disk)) }
     ensures room { IfOk result (HasRoom (S.size src.old)) }
-    ensures apart { IfOk result AreApart }
+    ensures apart { IfOk result AreWritesApart }
     ensures cause { HasCauseOf Answer.Fault (S.faults src.old) (S.faults src.new) result }
     ensures answers { IfErr result IsRollbackAnswer }
 {
     let block = find_superblock(src)?;
     let volume = open_volume(alloc, src, &block)?;
-    check_rows(alloc, src, &volume)?;
     let map = read_map(alloc, src, &volume)?;
     prepare_old(alloc, src, &volume, &map)
 }
@@ -55,9 +55,9 @@ fn prepare_old<S: BlockSource>(
 ) -> Result<WayBack, Answer>
     requires device { map.now.device ≡ S.size src.old }
     ensures kept { S.kept src.old src.new }
-    ensures prepared { OverTold S.tells (S.blocks src.old) (λ disk. IsOpenedOn disk volume.now → IsMapOn disk map.now → MatchResult result (IsPrepared disk) (RefusesRollback disk)) }
+    ensures prepared { OverTold S.tells (S.blocks src.old) (λ disk. IsOpenedOn disk volume.now → IsMapOn disk map.now → MatchResult result (IsWayBack disk) (RefusesRollback disk)) }
     ensures room { IfOk result (HasRoom (S.size src.old)) }
-    ensures apart { IfOk result AreApart }
+    ensures apart { IfOk result AreWritesApart }
     ensures cause { HasCauseOf Answer.Fault (S.faults src.old) (S.faults src.new) result }
     ensures answers { IfErr result IsRollbackAnswer }
 {
@@ -70,7 +70,7 @@ fn prepare_old<S: BlockSource>(
 /// Block 16 of a disk that has a Btrfs volume.
 fn find_superblock<S: BlockSource>(src: &mut S) -> Result<Block, Answer>
     ensures kept { S.kept src.old src.new }
-    ensures found { OverTold S.tells (S.blocks src.old) (λ disk. MatchResult result (IsFoundOn disk) (RefusesRollback disk)) }
+    ensures found { OverTold S.tells (S.blocks src.old) (λ disk. MatchResult result (IsBtrfsOn disk) (RefusesRollback disk)) }
     ensures cause { HasCauseOf Answer.Fault (S.faults src.old) (S.faults src.new) result }
     ensures answers { IfErr result IsRollbackAnswer }
 {
@@ -85,11 +85,11 @@ fn find_superblock<S: BlockSource>(src: &mut S) -> Result<Block, Answer>
 /// Opens the Btrfs volume with this superblock, where that names no log tree.
 fn open_volume<S: BlockSource>(alloc: Global, src: &mut S, block: &Block) -> Result<Btrfs, Answer>
     ensures kept { S.kept src.old src.new }
-    ensures opened { OverTold S.tells (S.blocks src.old) (λ disk. IsFoundOn disk block.now → MatchResult result (IsOpenedOn disk) (RefusesRollback disk)) }
+    ensures opened { OverTold S.tells (S.blocks src.old) (λ disk. IsBtrfsOn disk block.now → MatchResult result (IsOpenedOn disk) (RefusesRollback disk)) }
     ensures cause { HasCauseOf Answer.Fault (S.faults src.old) (S.faults src.new) result }
     ensures answers { IfErr result IsRollbackAnswer }
 {
-    let sup = Super::read(block, SUPERBLOCK, src.len())?;
+    let sup = Super::read(block, SUPER_BLOCK, src.len())?;
     if sup.log_root != 0 {
         return Err(Answer::Btr(BtrRefusal::LogPending {
             address: sup.log_root,
@@ -98,22 +98,11 @@ fn open_volume<S: BlockSource>(alloc: Global, src: &mut S, block: &Block) -> Res
     Ok(Btrfs::open_by(alloc, src, block)?)
 }
 
-/// Whether the rows of the Btrfs volume, which a crash has to leave, can be read.
-fn check_rows<S: BlockSource>(alloc: Global, src: &mut S, volume: &Btrfs) -> Result<(), Answer>
-    ensures kept { S.kept src.old src.new }
-    ensures checked { OverTold S.tells (S.blocks src.old) (λ disk. IsOpenedOn disk volume.now → MatchResult result (λ _. HasBtrfsRows disk) (RefusesRollback disk)) }
-    ensures cause { HasCauseOf Answer.Fault (S.faults src.old) (S.faults src.new) result }
-    ensures answers { IfErr result IsRollbackAnswer }
-{
-    volume.check_rows(alloc, src)?;
-    Ok(())
-}
-
 /// The map of the saved image.
 fn read_map<S: BlockSource>(alloc: Global, src: &mut S, volume: &Btrfs) -> Result<ImageMap, Answer>
     ensures kept { S.kept src.old src.new }
     ensures device { IfOk result (λ map. map.device ≡ S.size src.old) }
-    ensures read { OverTold S.tells (S.blocks src.old) (λ disk. IsOpenedOn disk volume.now → HasBtrfsRows disk → MatchResult result (IsMapOn disk) (RefusesRollback disk)) }
+    ensures read { OverTold S.tells (S.blocks src.old) (λ disk. IsOpenedOn disk volume.now → MatchResult result (IsMapOn disk) (RefusesRollback disk)) }
     ensures cause { HasCauseOf Answer.Fault (S.faults src.old) (S.faults src.new) result }
     ensures answers { IfErr result IsRollbackAnswer }
 {
@@ -138,7 +127,7 @@ fn open_old<S: BlockSource>(alloc: Global, src: &mut S, map: &ImageMap) -> Resul
         Err(answer) => return Err(image_answer(answer)),
     };
     let blocks = old.bitmap().len();
-    if blocks <= SUPERBLOCK || blocks > image.len() {
+    if blocks <= SUPER_BLOCK || blocks > image.len() {
         return Err(changed());
     }
     Ok(old)
@@ -164,7 +153,7 @@ fn check_reserved<S: BlockSource>(
 ) -> Result<(), Answer>
     ensures kept { S.kept src.old src.new }
     ensures told { OverTold S.tells (S.blocks src.old) (λ disk. IsOpenedOn disk volume.now → HasPlaces disk → blocks ≡ (superblock (image_blocks disk)).blocks →
-        MatchResult result (λ _. IsUntouched disk) (RefusesRollback disk)) }
+        MatchResult result (λ _. CanGoBack disk) (RefusesRollback disk)) }
     ensures cause { HasCauseOf Answer.Fault (S.faults src.old) (S.faults src.new) result }
     ensures answers { IfErr result IsRollbackAnswer }
 {
@@ -184,16 +173,16 @@ fn plan<S: BlockSource>(
     requires device { map.now.device ≡ S.size src.old }
     requires inside { LiesWithin used.now map.now (S.size src.old) }
     ensures kept { S.kept src.old src.new }
-    ensures planned { OverTold S.tells (S.blocks src.old) (λ disk. IsMapOn disk map.now → IsUntouched disk → used.now ≡ old_used disk →
-        MatchResult result (IsPrepared disk) (RefusesRollback disk)) }
+    ensures planned { OverTold S.tells (S.blocks src.old) (λ disk. IsMapOn disk map.now → CanGoBack disk → used.now ≡ old_used disk →
+        MatchResult result (IsWayBack disk) (RefusesRollback disk)) }
     ensures room { IfOk result (HasRoom (S.size src.old)) }
-    ensures apart { IfOk result AreApart }
+    ensures apart { IfOk result AreWritesApart }
     ensures cause { HasCauseOf Answer.Fault (S.faults src.old) (S.faults src.new) result }
     ensures answers { IfErr result (λ e. (e ≡ Answer.Fault) ⊎ (e ≡ Answer.Memory)) }
 {
     let (first, second) = wipe_both(src, used)?;
     let mut image = ImageSource::new(src, map);
-    let superblock = read_block(&mut image, SUPERBLOCK)?;
+    let superblock = read_block(&mut image, SUPER_BLOCK)?;
     let reserved = match read_reserved(alloc, &mut image, used) {
         Ok(saved) => saved,
         Err(answer) => return Err(image_answer(answer)),

@@ -4,17 +4,11 @@ ghost use Rattle.reiser_bitmap.specs.outside.Fault.{HasCause};
 ghost use Rattle.reiser_bitmap.specs.outside.History.{EachCrash, IsBlock, IsSettled, block_at, reads};
 ghost use Rattle.reiser_bitmap.specs.outside.Writes.{Writes};
 ghost use Rattle.reiser_bitmap.specs.vol_block.Volume.{zeros};
-ghost use Rattle.rollback_core.specs.Writing.{AreApart, AreWiped, AreWrittenBack, GoApart, HasRoom, IsPart, IsPlace, IsTurned, IsUnturned, IsWiping};
+ghost use Rattle.rollback_core.specs.Writing.{AreWritesApart, AreWiped, AreWrittenBack, GoApart, HasRoom, IsWayBackPart, IsSavedPlace, IsTurned, IsUnturned, IsWiping};
 
 use crate::way::{Saved, WayBack};
-use convert_steps::SUPERBLOCK;
+use btrfs_format::block::{FIRST_MIRROR, SECOND_MIRROR, SUPER_BLOCK};
 use reiser_bitmap::{Access, Block, BlockNo, Disk, Fault};
-
-/// The block of the first copy of a Btrfs superblock, as the Btrfs on-disk format documentation has it: at 64 MiB.
-pub const FIRST_COPY: BlockNo = 16384;
-
-/// The block of the second copy: at 256 GiB.
-pub const SECOND_COPY: BlockNo = 67_108_864;
 
 /// Writes the old volume back, in three steps, each of which is on the disk before the next begins: its reserved blocks, then block 16,
 /// and then zeros over copies of the Btrfs superblock.
@@ -23,10 +17,10 @@ pub const SECOND_COPY: BlockNo = 67_108_864;
 pub fn write_back<D: Disk>(disk: &mut D, way: &WayBack) -> Result<(), Fault>
     requires open { D.opened disk.old ≡ Some Access.Write }
     requires room { HasRoom (D.size disk.old) way.now }
-    requires apart { AreApart way.now }
+    requires apart { AreWritesApart way.now }
     ensures crash { EachCrash D.tells (D.history disk.old) (D.history disk.new) (λ image.
         IsUnturned way.now (reads (D.history disk.old)) image ⊎ IsTurned way.now (reads (D.history disk.old)) image) }
-    ensures writes { Writes D.Disk (IsPart way.now) disk.old disk.new }
+    ensures writes { Writes D.Disk (IsWayBackPart way.now) disk.old disk.new }
     ensures written { IsTrue D.tells → OnOk result (IsTurned way.now (reads (D.history disk.old)) (reads (D.history disk.new))) }
     ensures wiped { IsTrue D.tells → OnOk result (AreWiped way.now (reads (D.history disk.new))) }
     ensures settled { IsTrue D.tells → OnOk result (IsSettled (D.history disk.new)) }
@@ -42,7 +36,7 @@ fn write_reserved<D: Disk>(disk: &mut D, saved: &[Saved]) -> Result<(), Fault>
     requires open { D.opened disk.old ≡ Some Access.Write }
     requires in_range { All (λ s. s.at < D.size disk.old) saved.now }
     requires apart { GoApart saved.now }
-    ensures writes { Writes D.Disk (λ b _. IsPlace saved.now b) disk.old disk.new }
+    ensures writes { Writes D.Disk (λ b _. IsSavedPlace saved.now b) disk.old disk.new }
     ensures written { IsTrue D.tells → OnOk result (AreWrittenBack saved.now (reads (D.history disk.new))) }
     ensures settled { IsTrue D.tells → OnOk result (IsSettled (D.history disk.new)) }
     ensures cause { HasCause (D.faults disk.old) (D.faults disk.new) result }
@@ -62,7 +56,7 @@ fn write_superblock<D: Disk>(disk: &mut D, superblock: &Block) -> Result<(), Fau
     ensures settled { IsTrue D.tells → OnOk result (IsSettled (D.history disk.new)) }
     ensures cause { HasCause (D.faults disk.old) (D.faults disk.new) result }
 {
-    disk.write(SUPERBLOCK, superblock)?;
+    disk.write(SUPER_BLOCK, superblock)?;
     disk.sync()
 }
 
@@ -75,8 +69,8 @@ fn wipe_copies<D: Disk>(disk: &mut D, way: &WayBack) -> Result<(), Fault>
     ensures settled { IsTrue D.tells → OnOk result (IsSettled (D.history disk.new)) }
     ensures cause { HasCause (D.faults disk.old) (D.faults disk.new) result }
 {
-    wipe_if(disk, way.first, FIRST_COPY)?;
-    wipe_if(disk, way.second, SECOND_COPY)?;
+    wipe_if(disk, way.first, FIRST_MIRROR)?;
+    wipe_if(disk, way.second, SECOND_MIRROR)?;
     disk.sync()
 }
 

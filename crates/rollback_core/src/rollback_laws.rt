@@ -1,5 +1,5 @@
 // Laws of the definitions, each the contract of a function that does nothing.
-ghost use Rattle.rollback_core.specs.RollbackLaws.{RefusalsAreOfTouched, RollbackGoesOn, RollbackKeeps, WritingRollsBack};
+ghost use Rattle.rollback_core.specs.RollbackLaws.{RefusedCanNotGoBack, RollbackGoesOn, RollbackKeeps, WritingRollsBack};
 
 /// What a crash of a rollback leaves is a Btrfs volume with the same rows and the same image, which can be rolled back; or the volume in
 /// that image, accepted and with its rows.
@@ -13,8 +13,8 @@ pub fn rollback_goes_on()
 {}
 
 /// A volume that can be rolled back is not refused.
-pub fn refusals_are_of_touched()
-    ensures { RefusalsAreOfTouched }
+pub fn refused_can_not_go_back()
+    ensures { RefusedCanNotGoBack }
 {}
 
 /// What is prepared and written makes of a disk what is said of a rollback.

@@ -7,7 +7,8 @@ ghost use Rattle.reiser_bitmap.specs.Bits.{has, used_blocks};
 ghost use Rattle.rollback_core.specs.Prepared.{AreSaved};
 ghost use Rattle.rollback_core.specs.Writing.{GoApart};
 
-use crate::{SUPERBLOCK, Saved};
+use crate::Saved;
+use btrfs_format::block::SUPER_BLOCK;
 use reiser_bitmap::{Bitmap, Block, BlockNo, BlockSource, Fault, Memory, VolAnswer, is_reserved};
 use std::alloc::Global;
 
@@ -54,7 +55,7 @@ pub fn read_reserved<S: BlockSource>(
 fn is_saved(block: BlockNo, blocks: u64) -> bool
     ensures { result ≡ (not (block == 16) && is_reserved block blocks) }
 {
-    block != SUPERBLOCK && is_reserved(block, blocks)
+    block != SUPER_BLOCK && is_reserved(block, blocks)
 }
 
 /// Appends a block of an image.

@@ -1,4 +1,4 @@
-ghost use Rattle.rollback_core.specs.SavedLaws.{PartsDecideSaved, RecoveryKeepsUse, SamePartsStayUntouched, UnusedBlocksDecideNothing, UnusedBlocksLieApart, UsedBlocksDecideUse};
+ghost use Rattle.rollback_core.specs.SavedLaws.{PartsDecideSaved, RecoveryKeepsUse, SamePartsGoBack, UnusedBlocksDecideNothing, UnusedBlocksLieApart, UsedBlocksDecideUse};
 
 use crate::recovery_keeps;
 use btr_reader::metadata_decides;
@@ -11,19 +11,20 @@ pub fn parts_decide_saved()
     metadata_decides();
 }
 
-/// The volume before can be had back from each disk that is as long, and on which no part of the volume lies in a block that differs.
-pub fn same_parts_stay_untouched()
-    ensures { SamePartsStayUntouched }
+/// The same of two disks of one length on which no part of the volume lies in a block that differs.
+pub fn same_parts_go_back()
+    ensures { SamePartsGoBack }
 {
     parts_decide_saved();
 }
 
-/// The volume before can be had back from each disk that has the same in the block of the superblock and in each block in use.
+/// Where the volume before can be had back from a disk, it can from each that has the same in the block of the superblock and in each
+/// block in use.
 pub fn unused_blocks_decide_nothing()
     ensures { UnusedBlocksDecideNothing }
 {
     unused_blocks_lie_apart();
-    same_parts_stay_untouched();
+    same_parts_go_back();
 }
 
 /// Which blocks are in use depends on the block of the superblock and on the blocks in use alone.

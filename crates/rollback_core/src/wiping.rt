@@ -1,25 +1,26 @@
 // Copies of the Btrfs superblock in blocks that the old volume has without use.
-ghost use Rattle.std.specs.Prelude.{◌≡◌, ◌≢◌, ◌≤◌, ◌<◌, ◌&&◌, not, nat_lt, true, codes, IfOk, length};
+ghost use Rattle.std.specs.Prelude.{◌≡◌, ◌≢◌, ◌≤◌, ◌<◌, ◌+◌, ◌^◌, ◌&&◌, not, nat_lt, true, codes, IfOk, length};
 ghost use Rattle.reiser_bitmap.specs.outside.Fault.{HasCause};
 ghost use Rattle.reiser_bitmap.specs.outside.History.{OverTold, block_at};
 ghost use Rattle.reiser_bitmap.specs.vol_block.Format.{has_bytes_at};
 ghost use Rattle.reiser_bitmap.specs.Bits.{has};
 
 use crate::saved::read_block;
-use crate::{FIRST_COPY, SECOND_COPY};
+use btrfs_format::block::{FIRST_MIRROR, SECOND_MIRROR, SUPER_MAGIC_OFFSET};
 use reiser_bitmap::{Bitmap, BlockNo, BlockSource, Fault, has_magic};
 
-/// Whether a block of a disk is to become zeros: the volume with these used blocks has it without use, and it holds the magic of a Btrfs
-/// superblock.
+/// Whether a block of a disk is to become zeros: a copy has its place there on the volume with these used blocks, which has it without
+/// use, and it holds the magic of a Btrfs superblock.
 fn is_wiped<S: BlockSource>(src: &mut S, used: &Bitmap, place: BlockNo) -> Result<bool, Fault>
     requires inside { length used.now ≤ S.size src.old }
+    requires small { place < 2 ^ 52 }
     ensures kept { S.kept src.old src.new }
     ensures free { IfOk result (λ wiped. wiped ≡ true → (place < length used.now) × (has used.now place ≢ true)) }
     ensures wiped { OverTold S.tells (S.blocks src.old) (λ disk. IfOk result (λ wiped.
-        wiped ≡ (nat_lt place (length used.now) && (not (has used.now place) && has_bytes_at (block_at disk place) 64 (codes "_BHRfS_M"))))) }
+        wiped ≡ (nat_lt (place + 1) (length used.now) && (not (has used.now place) && has_bytes_at (block_at disk place) SUPER_MAGIC_OFFSET (codes "_BHRfS_M"))))) }
     ensures cause { HasCause (S.faults src.old) (S.faults src.new) result }
 {
-    if place >= used.len() || used.is_used(place) {
+    if place + 1 >= used.len() || used.is_used(place) {
         return Ok(false);
     }
     let block = read_block(src, place)?;
@@ -30,15 +31,15 @@ fn is_wiped<S: BlockSource>(src: &mut S, used: &Bitmap, place: BlockNo) -> Resul
 pub fn wipe_both<S: BlockSource>(src: &mut S, used: &Bitmap) -> Result<(bool, bool), Fault>
     requires inside { length used.now ≤ S.size src.old }
     ensures kept { S.kept src.old src.new }
-    ensures first_free { IfOk result (λ both. both.0 ≡ true → (16384 < length used.now) × (has used.now 16384 ≢ true)) }
-    ensures second_free { IfOk result (λ both. both.1 ≡ true → (67108864 < length used.now) × (has used.now 67108864 ≢ true)) }
+    ensures first_free { IfOk result (λ both. both.0 ≡ true → (FIRST_MIRROR < length used.now) × (has used.now FIRST_MIRROR ≢ true)) }
+    ensures second_free { IfOk result (λ both. both.1 ≡ true → (SECOND_MIRROR < length used.now) × (has used.now SECOND_MIRROR ≢ true)) }
     ensures first { OverTold S.tells (S.blocks src.old) (λ disk. IfOk result (λ both.
-        both.0 ≡ (nat_lt 16384 (length used.now) && (not (has used.now 16384) && has_bytes_at (block_at disk 16384) 64 (codes "_BHRfS_M"))))) }
+        both.0 ≡ (nat_lt (FIRST_MIRROR + 1) (length used.now) && (not (has used.now FIRST_MIRROR) && has_bytes_at (block_at disk FIRST_MIRROR) SUPER_MAGIC_OFFSET (codes "_BHRfS_M"))))) }
     ensures second { OverTold S.tells (S.blocks src.old) (λ disk. IfOk result (λ both.
-        both.1 ≡ (nat_lt 67108864 (length used.now) && (not (has used.now 67108864) && has_bytes_at (block_at disk 67108864) 64 (codes "_BHRfS_M"))))) }
+        both.1 ≡ (nat_lt (SECOND_MIRROR + 1) (length used.now) && (not (has used.now SECOND_MIRROR) && has_bytes_at (block_at disk SECOND_MIRROR) SUPER_MAGIC_OFFSET (codes "_BHRfS_M"))))) }
     ensures cause { HasCause (S.faults src.old) (S.faults src.new) result }
 {
-    let first = is_wiped(src, used, FIRST_COPY)?;
-    let second = is_wiped(src, used, SECOND_COPY)?;
+    let first = is_wiped(src, used, FIRST_MIRROR)?;
+    let second = is_wiped(src, used, SECOND_MIRROR)?;
     Ok((first, second))
 }

@@ -1,6 +1,7 @@
 // The saved image of a small disk.
-use btr_reader::{Btrfs, ImageMap, Piece};
+use btr_reader::{Btrfs, ImageMap, MappedExtent};
 use btr_reader_walk::MapRange;
+use btrfs_format::block::SUPER_INFO_OFFSET;
 use outside::{Access, BlockSource, Disk};
 use outside_mem::MemDisk;
 use refusals::{BtrAnswer, BtrRefusal, BtrRule};
@@ -25,15 +26,16 @@ fn image(alloc: Global) -> Result<ImageMap, Fail> {
         logical: 0x10_0000,
         length: 0x1_0000,
         physical: 4096 * 8,
+        mirror: None,
     })?;
     let mut pieces = Vec::new(alloc);
-    pieces.push(Piece {
+    pieces.push(MappedExtent {
         first: 1,
         count: 2,
         disk: 0x10_0000,
         offset: 3 * 4096,
     })?;
-    pieces.push(Piece {
+    pieces.push(MappedExtent {
         first: 4,
         count: 1,
         disk: 0x10_0000 + 2 * 4096,
@@ -111,15 +113,16 @@ fn kept(alloc: Global) -> Result<ImageMap, Fail> {
         logical: 0x10_0000,
         length: 0x1000_0000,
         physical: 0x10_0000,
+        mirror: None,
     })?;
     let mut pieces = Vec::new(alloc);
-    pieces.push(Piece {
+    pieces.push(MappedExtent {
         first: 0,
         count: 256,
         disk: 4096 * 1000,
         offset: 0,
     })?;
-    pieces.push(Piece {
+    pieces.push(MappedExtent {
         first: 256,
         count: 200,
         disk: 4096 * 256,
@@ -171,6 +174,21 @@ fn reserved_blocks_in_use_are_told(rt: HostRuntime) -> Result<(), Fail> {
 }
 
 #[test]
+fn a_second_copy_is_in_use(rt: HostRuntime) -> Result<(), Fail> {
+    let twice = Sample {
+        mirror: Some(4096 * 9984),
+        ..Sample::PLAIN
+    };
+    let mut disk = btrfs(rt.alloc(), &twice)?;
+    let volume = Btrfs::open(rt.alloc(), &mut disk)?;
+    for (blocks, expected) in [(8712, Some(8704)), (9984, None), (9985, Some(9984))] {
+        let told = reserved_used(rt.alloc(), &volume, &mut disk, blocks)?;
+        assert_eq!(rt; told, expected);
+    }
+    Ok(())
+}
+
+#[test]
 fn a_fault_is_no_reserved_block(rt: HostRuntime) -> Result<(), Fail> {
     let mut disk = btrfs(rt.alloc(), &Sample::PLAIN)?;
     let volume = Btrfs::open(rt.alloc(), &mut disk)?;
@@ -204,7 +222,7 @@ fn another_device_is_told(rt: HostRuntime) -> Result<(), Fail> {
     let volume = Btrfs::open(rt.alloc(), &mut disk)?;
     let told = reserved_used(rt.alloc(), &volume, &mut device(rt.alloc())?, 8448);
     let size = BtrRefusal::BadBtrfs {
-        address: 65536,
+        address: SUPER_INFO_OFFSET,
         rule: BtrRule::SuperField,
     };
     assert_eq!(rt; told, Err(BtrAnswer::Refused(size)));

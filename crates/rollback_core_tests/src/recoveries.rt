@@ -1,7 +1,8 @@
 // Recoveries of small volumes in memory.
-ghost use Rattle.std.specs.Prelude.{◌≤◌, ◌<◌, ◌^◌, ◌≡◌, IfOk, length, None};
+ghost use Rattle.std.specs.Prelude.{◌≤◌, ◌<◌, ◌^◌, ◌≡◌, IfOk, length, None, Some};
 
 use btr_super::{Super, mirror};
+use btrfs_format::block::{FIRST_MIRROR, SECOND_MIRROR_END, SUPER_INFO_OFFSET};
 use command_answers::Answer;
 use outside::{Access, BlockSource, Disk};
 use outside_mem::MemDisk;
@@ -17,10 +18,10 @@ use volume_samples::Sample;
 /// The blocks of a volume that has one copy of a superblock, and that block.
 const BLOCKS: u64 = 20_000;
 
-const COPY: BlockNo = 16384;
+const COPY: BlockNo = FIRST_MIRROR;
 
 /// The blocks of a volume that has both copies.
-const LARGE: u64 = 67_108_880;
+const LARGE: u64 = SECOND_MIRROR_END;
 
 fn filled(byte: u8) -> Block {
     Block {
@@ -92,6 +93,15 @@ fn has(disk: &mut MemDisk, n: BlockNo, wanted: &Block) -> Result<bool, Fail> {
     Ok(block == *wanted)
 }
 
+/// How many writes a recovery of so many copies makes: block 16 comes before them.
+fn writes_for(mirrors: u64) -> u64 {
+    if mirrors == 0 {
+        0
+    } else {
+        mirrors.saturating_add(1)
+    }
+}
+
 /// Recovers a disk, and then once more, which writes nothing; and whether the block of the copy is then this one.
 fn recovers(
     rt: &(impl Abort + AllocGlobal),
@@ -108,7 +118,7 @@ fn recovers(
         recover(rt.alloc(), &mut disk),
         Ok(RecoverSummary { format, mirrors })
     );
-    assert_eq!(rt; disk.writes(), mirrors);
+    assert_eq!(rt; disk.writes(), writes_for(mirrors));
     assert!(rt; has(&mut disk, COPY, copy)?);
     disk.settle();
     disk.open("", Access::Write)?;
@@ -191,13 +201,14 @@ fn what_is_wrong_is_refused(rt: HostRuntime) -> Result<(), Fail> {
         &rt,
         btrfs(rt.alloc(), &torn, &Block::zero())?,
         Answer::Btr(BtrRefusal::BadBtrfs {
-            address: 65536,
+            address: SUPER_INFO_OFFSET,
             rule: BtrRule::SuperCsum,
         }),
     )
 }
 
-/// A recovery that stops at its write, and one whose sync fails, leave the block as it was or as it is to be.
+/// A recovery that stops behind the write of block 16 leaves the block of the copy as it was, and one that stops behind the write of that
+/// block leaves it as it was or as it is to be.
 fn crashes(
     rt: &(impl Abort + AllocGlobal),
     disk: MemDisk,
@@ -211,11 +222,21 @@ fn crashes(
     disk.open("", Access::Write)?;
     disk.stop_at_write(1);
     assert_eq!(rt; recover(rt.alloc(), &mut disk), Err(Answer::Fault));
-    for (choice, block, mirrors) in [(0, old, 1), (1, new, 0)] {
+    for choice in [0, 1] {
+        let mut left = disk.after_crash(&[choice])?;
+        left.open("", Access::Read)?;
+        assert!(rt; has(&mut left, COPY, old)?);
+    }
+    let mut disk = disk.after_crash(&[0])?;
+    disk.open("", Access::Write)?;
+    disk.stop_at_write(2);
+    assert_eq!(rt; recover(rt.alloc(), &mut disk), Err(Answer::Fault));
+    for (choice, block) in [(0, old), (1, new)] {
         let mut left = disk.after_crash(&[choice])?;
         left.open("", Access::Read)?;
         assert!(rt; has(&mut left, COPY, block)?);
         left.settle();
+        let mirrors = if choice == 0 { 1 } else { 0 };
         recovers(rt, left, format, mirrors, new)?;
     }
     Ok(())
@@ -234,7 +255,7 @@ fn a_crash_leaves_the_block_as_it_was_or_mended(rt: HostRuntime) -> Result<(), F
 #[test]
 fn each_failed_call_is_a_fault(rt: HostRuntime) -> Result<(), Fail> {
     let superblock = superblock(rt.alloc(), BLOCKS)?;
-    for k in 0..4 {
+    for k in 0..8 {
         let mut disk = btrfs(rt.alloc(), &superblock, &Block::zero())?;
         disk.open("", Access::Write)?;
         disk.fail_call(k)?;
@@ -246,19 +267,20 @@ fn each_failed_call_is_a_fault(rt: HostRuntime) -> Result<(), Fail> {
 /// A disk of so many blocks with this superblock and zeros in all others.
 fn without_copies(alloc: Global, blocks: u64, superblock: &Block) -> Result<MemDisk, Fail>
     requires { 16 < blocks }
-    ensures { IfOk result (λ d. d.opened ≡ None) }
+    ensures size { IfOk result (λ d. length d.history.start ≡ blocks) }
+    ensures closed { IfOk result (λ d. d.opened ≡ None) }
 {
     let mut disk = MemDisk::new(alloc, blocks)?;
     disk.set_block(16, superblock)?;
     Ok(disk)
 }
 
-/// How many of two writes a crash by this choice keeps, where so many were made.
+/// How many of two writes a crash by this choice keeps, where so many were made with that of block 16 before them.
 fn kept(writes: u64, choice: [u32; 2]) -> u64
     ensures { result ≤ 2 }
 {
-    let first = if writes > 0 && choice[0] == 1 { 1 } else { 0 };
-    let second = if writes > 1 && choice[1] == 1 { 1 } else { 0 };
+    let first = if writes > 1 && choice[0] == 1 { 1 } else { 0 };
+    let second = if writes > 2 && choice[1] == 1 { 1 } else { 0 };
     first + second
 }
 
@@ -266,13 +288,13 @@ fn kept(writes: u64, choice: [u32; 2]) -> u64
 #[test]
 fn both_copies_are_written(rt: HostRuntime) -> Result<(), Fail> {
     let superblock = superblock(rt.alloc(), LARGE)?;
-    for writes in 0..4 {
+    for writes in 0..5 {
         for choice in [[0, 0], [1, 0], [0, 1], [1, 1]] {
             let mut disk = without_copies(rt.alloc(), LARGE, &superblock)?;
             disk.open("", Access::Write)?;
             disk.stop_at_write(writes);
             let done = recover(rt.alloc(), &mut disk).is_ok();
-            assert_eq!(rt; done, writes == 3);
+            assert_eq!(rt; done, writes == 4);
             let mut left = disk.after_crash(&choice)?;
             left.open("", Access::Write)?;
             let missing = if done { 0 } else { 2 - kept(writes, choice) };
@@ -281,8 +303,97 @@ fn both_copies_are_written(rt: HostRuntime) -> Result<(), Fail> {
                 mirrors: missing,
             };
             assert_eq!(rt; recover(rt.alloc(), &mut left), Ok(told));
-            assert_eq!(rt; left.writes(), missing);
+            assert_eq!(rt; left.writes(), writes_for(missing));
         }
     }
+    Ok(())
+}
+
+/// Writes block 16 of an open disk, where it has one.
+fn put_superblock(disk: &mut MemDisk, superblock: &Block) -> Result<(), Fail>
+    requires open { disk.old.opened ≡ Some Access.Write }
+    ensures open { disk.new.opened ≡ Some Access.Write }
+{
+    if disk.len() > 16 {
+        disk.write(16, superblock)?;
+    }
+    Ok(())
+}
+
+/// A superblock that waits when a recovery begins has reached the device before its copy is written, so no crash leaves the copy alone.
+#[test]
+fn a_superblock_that_waits_comes_before_its_copy(rt: HostRuntime) -> Result<(), Fail> {
+    let superblock = superblock(rt.alloc(), BLOCKS)?;
+    let copy = copy_of(&superblock);
+    for writes in 0..4 {
+        for choice in [[0, 0], [1, 0], [0, 1], [1, 1]] {
+            let mut disk = MemDisk::new(rt.alloc(), BLOCKS)?;
+            disk.set_block(COPY, &filled(3))?;
+            disk.open("", Access::Write)?;
+            put_superblock(&mut disk, &superblock)?;
+            disk.stop_at_write(writes);
+            let done = recover(rt.alloc(), &mut disk).is_ok();
+            assert_eq!(rt; done, writes == 3);
+            let mut left = disk.after_crash(&choice)?;
+            left.open("", Access::Read)?;
+            let copied = has(&mut left, COPY, &copy)?;
+            assert!(rt; copied || has(&mut left, COPY, &filled(3))?);
+            assert!(rt; !copied || has(&mut left, 16, &superblock)?);
+        }
+    }
+    Ok(())
+}
+
+/// A disk of so many blocks with this block in the place of the copy, and what a recovery leaves there; and how many blocks it writes.
+fn recovered(disk: MemDisk, alloc: Global, held: &Block) -> Result<(Block, u64), Fail>
+    requires size { COPY < length disk.history.start }
+    requires closed { disk.opened ≡ None }
+{
+    let mut disk = disk;
+    disk.set_block(COPY, held)?;
+    disk.open("", Access::Write)?;
+    recover(alloc, &mut disk).ok().ok_or("a recovery")?;
+    let mut block = Block::zero();
+    if COPY < disk.len() {
+        disk.read(COPY, &mut block)?;
+    }
+    Ok((block, disk.writes()))
+}
+
+/// A ReiserFS volume of so many blocks, alone on its disk.
+fn made(alloc: Global, blocks: u64) -> Result<MemDisk, Fail>
+    requires { blocks ≤ 2 ^ 29 }
+    ensures size { IfOk result (λ d. length d.history.start ≡ blocks) }
+    ensures closed { IfOk result (λ d. d.opened ≡ None) }
+{
+    let mut disk = MemDisk::new(alloc, blocks)?;
+    disk.open("", Access::Write)?;
+    make(alloc, 0, blocks, &mut disk)?;
+    disk.settle();
+    Ok(disk)
+}
+
+/// A copy never ends with the volume: where its place is the last block, that block is left as it is.
+#[test]
+fn a_last_block_is_kept(rt: HostRuntime) -> Result<(), Fail> {
+    let (last, more) = (COPY + 1, COPY + 2);
+    let left = recovered(made(rt.alloc(), last)?, rt.alloc(), &magic())?;
+    assert!(rt; left == (magic(), 0));
+    let left = recovered(made(rt.alloc(), more)?, rt.alloc(), &magic())?;
+    assert!(rt; left == (Block::zero(), 1));
+    let block = superblock(rt.alloc(), last)?;
+    let left = recovered(
+        without_copies(rt.alloc(), last, &block)?,
+        rt.alloc(),
+        &filled(7),
+    )?;
+    assert!(rt; left == (filled(7), 0));
+    let block = superblock(rt.alloc(), more)?;
+    let left = recovered(
+        without_copies(rt.alloc(), more, &block)?,
+        rt.alloc(),
+        &filled(7),
+    )?;
+    assert!(rt; left == (copy_of(&block), 1));
     Ok(())
 }

@@ -1,3 +1,6 @@
+// Switches to a Btrfs superblock that a crash cuts.
+ghost use Rattle.std.specs.Prelude.{◌<◌};
+
 use btr_super::mirror;
 use convert_steps::switch_to;
 use outside::{Access, BlockSource, Disk};
@@ -53,5 +56,28 @@ fn a_crash_of_a_switch_leaves_the_old_superblock_or_the_new_one(
             assert!(rt; has(&mut left, 5, &filled(0))?);
         }
     }
+    Ok(())
+}
+
+/// The block of the first copy holds nines, on a volume of so many blocks; what a switch leaves there, and how many blocks it writes.
+fn switched(alloc: Global, blocks: u64) -> Result<(Block, u64), Fail>
+    requires { 16384 < blocks }
+{
+    let mut disk = MemDisk::new(alloc, blocks)?;
+    disk.set_block(16384, &filled(9))?;
+    disk.open("", Access::Write)?;
+    switch_to(&mut disk, &filled(4), blocks)?;
+    let mut block = Block::zero();
+    disk.read(16384, &mut block)?;
+    Ok((block, disk.writes()))
+}
+
+/// A volume whose last block is the one at 64 MiB has no copy, and the block is left as it is.
+#[test]
+fn a_copy_never_ends_with_the_volume(rt: HostRuntime) -> Result<(), Fail> {
+    let mut copy = Block::zero();
+    mirror(&filled(4), 16384, &mut copy);
+    assert!(rt; switched(rt.alloc(), 16385)? == (filled(9), 1));
+    assert!(rt; switched(rt.alloc(), 16386)? == (copy, 2));
     Ok(())
 }

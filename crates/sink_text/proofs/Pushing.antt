@@ -1,8 +1,6 @@
 -- A text that is gathered and then written.
-use Rattle.std.proofs.Common.{◌≡◌, ℕ, suc, ◌+◌, ◌-◌, ◌<◌, ◌≤◌, min, List, [], ◌∷◌, ◌++◌, length, get_or, take, drop, Result, Ok, Err, IsErr, sym, ◌∙◌, ap, arith, append_assoc, length-append, subst, add-one, length-take, append-nil}
+use Rattle.sink_text.proofs.Imports.{◌≡◌, ℕ, suc, ◌+◌, ◌-◌, ◌<◌, ◌≤◌, min, List, [], ◌∷◌, ◌++◌, length, get_or, take, drop, Result, Ok, Err, IsErr, sym, ◌∙◌, ap, arith, append_assoc, length-append, subst, add-one, length-take, append-nil, Takes, Pushed, Stopped, Pushes}
 use Rattle.std.specs.List.{flat_map}
-use Rattle.outside.specs.Fault.{Takes}
-use Rattle.sink_text.specs.Pushes.{Pushed, Stopped, Pushes}
 use Rattle.std.proofs.lemmas.List.{take-append-drop, take-append-le, take_min}
 use Rattle.std.proofs.lemmas.List.Concat.{flat_map-cons}
 use Rattle.std.proofs.lemmas.Grind.{flat_map-append, common_steps}

@@ -7,7 +7,7 @@ ghost use Rattle.sink_text.specs.Escape.{escaped};
 ghost use Rattle.sink_text.specs.Pushes.{Pushes};
 ghost use Rattle.sink_text.specs.Text.{piece_text, text_of};
 
-use crate::Piece;
+use crate::TextPart;
 use crate::digits::{hex_pair, octal_four, point_and_zeros};
 use crate::escapes::escape;
 use itoa::Buffer;
@@ -80,7 +80,11 @@ impl Buffered {
     }
 
     /// Adds the text of the pieces, one after the other.
-    pub fn push_pieces<S: Sink>(&mut self, pieces: &[Piece<'_>], out: &mut S) -> Result<(), Fault>
+    pub fn push_pieces<S: Sink>(
+        &mut self,
+        pieces: &[TextPart<'_>],
+        out: &mut S,
+    ) -> Result<(), Fault>
         ensures taken { IsTrue S.tells → Pushes (S.taken out.old) self.old (text_of pieces.now) result (S.taken out.new) self.new }
         ensures cause { HasCause (S.faults out.old) (S.faults out.new) result }
     {
@@ -91,19 +95,19 @@ impl Buffered {
     }
 
     /// Adds the text of a piece.
-    pub fn push_piece<S: Sink>(&mut self, piece: &Piece<'_>, out: &mut S) -> Result<(), Fault>
+    pub fn push_piece<S: Sink>(&mut self, piece: &TextPart<'_>, out: &mut S) -> Result<(), Fault>
         ensures taken { IsTrue S.tells → Pushes (S.taken out.old) self.old (piece_text piece.now) result (S.taken out.new) self.new }
         ensures cause { HasCause (S.faults out.old) (S.faults out.new) result }
     {
         match piece {
-            Piece::Plain(bytes) => self.push(bytes, out),
-            Piece::Decimal(number) => self.push_decimal(*number, out),
-            Piece::Signed(number) => self.push_signed(*number, out),
-            Piece::Octal(number) => self.push(&octal_four(*number), out),
-            Piece::Fraction(nanoseconds) => self.push_fraction(*nanoseconds, out),
-            Piece::Hyphenated(id) => self.push_uuid(*id, out),
-            Piece::Escaped(bytes) => self.push_escaped(bytes, out),
-            Piece::Hex(bytes) => self.push_hex(bytes, out),
+            TextPart::Plain(bytes) => self.push(bytes, out),
+            TextPart::Decimal(number) => self.push_decimal(*number, out),
+            TextPart::Signed(number) => self.push_signed(*number, out),
+            TextPart::Octal(number) => self.push(&octal_four(*number), out),
+            TextPart::Fraction(nanoseconds) => self.push_fraction(*nanoseconds, out),
+            TextPart::Hyphenated(id) => self.push_uuid(*id, out),
+            TextPart::Escaped(bytes) => self.push_escaped(bytes, out),
+            TextPart::Hex(bytes) => self.push_hex(bytes, out),
         }
     }
 

@@ -2,11 +2,11 @@ ghost use Rattle.std.specs.Prelude.{◌≡◌, nat_eq, position};
 ghost use Rattle.sink_text.specs.Label.{label_of, label_text};
 ghost use Rattle.sink_text.specs.Text.{piece_text};
 
-use crate::Piece;
-use crate::Piece::{Escaped, Plain};
+use crate::TextPart;
+use crate::TextPart::{Escaped, Plain};
 
 /// How the label of a volume is printed: its bytes before the first zero, or a dash where there is none.
-pub fn label_piece(label: &[u8]) -> Piece<'_>
+pub fn label_piece(label: &[u8]) -> TextPart<'_>
     ensures { piece_text result ≡ label_text (label_of label.now) }
 {
     match label_of(label) {

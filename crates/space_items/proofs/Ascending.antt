@@ -1,18 +1,7 @@
 -- Nodes that ascend by address.
-use Rattle.std.proofs.Common.{◌≡◌, ℕ, suc, ◌+◌, ◌^◌, ◌<◌, List, [], ◌∷◌, ◌++◌, length, map, take, drop, get_or, refl, sym, ◌∙◌, ap, ap₂, subst, arith, map-id, min, sum}
-use Rattle.std.specs.Prelude.{AllPairs}
-use Rattle.std.specs.declared.cmp.Ordering.TheVariants.{Less}
-use Rattle.std.proofs.lemmas.Cmp.{ranked}
-use Rattle.std.proofs.lemmas.List.{get_or-map, get_or-take, length-map, length-take, map-append, drop-drop}
-use Rattle.std.proofs.lemmas.List.Sums.{sum_by-cons}
+use Rattle.space_items.proofs.Imports.{◌≡◌, ℕ, suc, ◌+◌, ◌^◌, ◌<◌, List, [], ◌∷◌, ◌++◌, length, map, take, drop, get_or, refl, sym, ◌∙◌, ap, ap₂, subst, arith, map-id, min, AllPairs, Less, ranked, get_or-map, get_or-take, length-map, length-take, map-append, drop-drop, sum_by-cons, EXTENT_TREE, NodePointer, tree_nodes, packed_leaves, tree_levels, level_pointers, AreNodes, merged_nodes, nodes_of_tree, own_at, TreeNode}
+use Rattle.std.proofs.Common.{sum}
 use Rattle.std.proofs.Math.Seq.{take-add}
-use Rattle.btr_tree.specs.btr_reader_walk.declared.tree.Pointer.{Pointer}
-use Rattle.btr_tree.specs.Counting.{tree_nodes}
-use Rattle.btr_tree.specs.Packing.{leaves, tree_levels}
-use Rattle.btr_tree.specs.Roots.{level_pointers}
-use Rattle.space_items.specs.Nodes.{AreNodes, merged_nodes, nodes_of_tree}
-use Rattle.space_items.specs.Own.{own_at}
-use Rattle.space_items.specs.declared.node.TreeNode.{TreeNode}
 use Rattle.space_items.proofs.Describing.{node_total}
 use Rattle.space_items.proofs.Levels.{map-map, node_of, upper}
 use Rattle.space_items.proofs.Merges.{length-merge, nat_less, rises-merge}
@@ -51,7 +40,7 @@ module _ (nodes : List TreeNode) (slots : List ℕ) (are : AreNodes nodes) (up :
   }
 
   pub with_leaves : (n : ℕ) → AreNodes (merged_nodes nodes (own_at slots n))
-  with_leaves n = with_others n (own_at slots n) (map-map (λ (m : TreeNode). m.address) (λ a. record { address = a; level = 0; owner = 2 }) (take n slots) ∙ map-id (take n slots))
+  with_leaves n = with_others n (own_at slots n) (map-map (λ (m : TreeNode). m.address) (λ a. record { address = a; level = 0; owner = EXTENT_TREE }) (take n slots) ∙ map-id (take n slots))
 
 -- the nodes of all levels lie at the slots in their order
 pub upper_at : (owner level skip : ℕ) (slots sizes : List ℕ) → addresses (upper owner slots level skip sizes) ≡ take (sum sizes) (drop skip slots)
@@ -59,8 +48,8 @@ upper_at owner level skip slots [] = refl
 upper_at owner level skip slots (n ∷ sizes) =
     let own : List ℕ = take n (drop skip slots) in
     let total : sum (n ∷ sizes) ≡ n + sum sizes = sum_by-cons (λ x. x) n sizes in
-    let place : Pointer → ℕ = λ (p : Pointer). p.address in
-    let rest : List Pointer = level_pointers 1 (suc level) (skip + n) slots sizes in
+    let place : NodePointer → ℕ = λ (p : NodePointer). p.address in
+    let rest : List NodePointer = level_pointers 1 (suc level) (skip + n) slots sizes in
     let first : map place (map (λ a. record { address = a; level = level; generation = 1 }) own) ≡ own = map-map place (λ a. record { address = a; level = level; generation = 1 }) own ∙ map-id own in
     let second : map place rest ≡ take (sum sizes) (drop n (drop skip slots)) = sym (map-map (λ (m : TreeNode). m.address) (node_of owner) rest) ∙ (upper_at owner (suc level) (skip + n) slots sizes ∙ ap (take (sum sizes)) (sym (drop-drop n skip slots))) in
     map-map (λ (m : TreeNode). m.address) (node_of owner) (level_pointers 1 level skip slots (n ∷ sizes))
@@ -70,7 +59,7 @@ upper_at owner level skip slots (n ∷ sizes) =
 
 -- those of a whole tree
 pub tree_at : (owner nodesize : ℕ) (lengths slots : List ℕ) → addresses (nodes_of_tree owner nodesize lengths slots) ≡ take (tree_nodes nodesize lengths) slots
-tree_at owner nodesize lengths slots = upper_at owner 0 0 slots (tree_levels nodesize (length (leaves nodesize lengths)))
+tree_at owner nodesize lengths slots = upper_at owner 0 0 slots (tree_levels nodesize (length (packed_leaves nodesize lengths)))
 
 -- The nodes of a tree behind those of others, where all of them lie at the first slots.
 pub tree_behind : (owner nodesize n : ℕ) (lengths slots : List ℕ) (old : List TreeNode) → addresses old ≡ take n slots

@@ -1,6 +1,5 @@
 -- How long the bodies of the extent tree's items are.
-use Rattle.std.proofs.Common.{◌≡◌, ℕ, suc, ◌+◌, ◌*◌, ◌≤◌, List, [], ◌∷◌, length, Bool, true, false, Option, Some, None, refl, arith, length-append, cond, ltb}
-use Rattle.std.specs.List.{flat_map}
+use Rattle.space_items.proofs.Imports.{◌≡◌, ℕ, suc, ◌+◌, ◌*◌, ◌≤◌, List, [], ◌∷◌, length, Bool, true, false, Option, Some, None, refl, arith, length-append, cond, ltb, flat_map, FS_TREE, METADATA_ITEM_SIZE, PlannedChunk, Piece, group_item, node_item, piece_item, piece_refs, put_ref, image_refs, hash_of_ref, data_ref, TreeNode}
 use Rattle.btr_space_items.specs.BlockGroup.{block_group_bytes, block_group_layout}
 use Rattle.btr_space_items.specs.ExtentHead.{extent_head_bytes, extent_head_layout}
 use Rattle.btr_space_items.specs.InlineRef.{inline_ref_bytes, tree_block_layout, data_ref_layout}
@@ -8,10 +7,6 @@ use Rattle.btr_space_items.specs.declared.block_group.BlockGroup.{BlockGroup}
 use Rattle.btr_space_items.specs.declared.extent_head.ExtentHead.{ExtentHead}
 use Rattle.btr_space_items.specs.declared.inline_ref.InlineRef.{InlineRef}
 use Rattle.btr_space_items.specs.declared.inline_ref.InlineRef.TheVariants.{TreeBlock, DataRef}
-use Rattle.unit_plan.specs.declared.chunk.Chunk.{Chunk}
-use Rattle.unit_plan.specs.declared.piece.Piece.{Piece}
-use Rattle.space_items.specs.Extents.{group_item, node_item, piece_item, piece_refs, put_ref, image_refs, hash_of_ref, data_ref}
-use Rattle.space_items.specs.declared.node.TreeNode.{TreeNode}
 
 length-group_bytes : (g : BlockGroup) → length (block_group_bytes g) ≡ 24
 unfolding block_group_layout
@@ -26,10 +21,10 @@ unfolding tree_block_layout data_ref_layout
 ref_bytes-le (TreeBlock root) = omega arith
 ref_bytes-le (DataRef root objectid offset count) = omega arith
 
-pub length-group : (used : ℕ) (c : Chunk) → length (group_item used c).1 ≡ 24
+pub length-group : (used : ℕ) (c : PlannedChunk) → length (group_item used c).1 ≡ 24
 length-group used c = length-group_bytes _
 
-pub length-node : (n : TreeNode) → length (node_item n).1 ≡ 33
+pub length-node : (n : TreeNode) → length (node_item n).1 ≡ METADATA_ITEM_SIZE
 unfolding extent_head_layout tree_block_layout
 length-node n = refl
 
@@ -49,7 +44,7 @@ few_refs : (from : Option ℕ) (owner : Option (ℕ × ℕ)) (count place : ℕ)
 few_refs None None count place = omega arith
 few_refs (Some b) None count place = omega arith
 few_refs None (Some o) count place = omega arith
-few_refs (Some b) (Some o) count place = omega (arith, length-put (data_ref 5 o.0 o.1) (image_refs (Some b)))
+few_refs (Some b) (Some o) count place = omega (arith, length-put (data_ref FS_TREE o.0 o.1) (image_refs (Some b)))
 
 pub length-piece : (p : Piece) → length (piece_item p).1 ≤ 82
 length-piece p =

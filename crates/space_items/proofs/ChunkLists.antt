@@ -1,35 +1,22 @@
 -- The chunks of a volume, one after the other.
-use Rattle.std.proofs.Common.{◌≡◌, ℕ, suc, ◌+◌, ◌≤◌, List, [], ◌∷◌, ◌++◌, length, map, take, get_or, Some, sym, ◌∙◌, ap, arith, take-suc, append_assoc}
-use Rattle.std.specs.Prelude.{All, AllPairs, slice_get}
+use Rattle.space_items.proofs.Imports.{◌≡◌, ℕ, suc, ◌+◌, ◌≤◌, List, [], ◌∷◌, ◌++◌, length, map, take, get_or, Some, sym, ◌∙◌, ap, arith, take-suc, append_assoc, All, AllPairs, slice_get, map-append, take_all, sum_by-cons, sum_by_more, sum_by_more_le, slice_get_within, get_or_from_slice_get, DEV_ITEM, DEV_ITEMS_OBJECTID, Key, make_key, Item, device_bytes, Ids, chunk_item, chunk_items, device_body, PlannedChunk, Plan, IsChunk, AreChunks, role_of, usable_end}
 use Rattle.std.specs.List.{sum_by}
-use Rattle.std.proofs.lemmas.List.{map-append, take_all}
-use Rattle.std.proofs.lemmas.List.Sums.{sum_by-cons, sum_by_more, sum_by_more_le}
-use Rattle.std.proofs.lemmas.Option.{slice_get_within, get_or_from_slice_get}
-use Rattle.btr_tree.specs.btr_keys.declared.key.Key.{Key}
-use Rattle.btr_tree.specs.btr_keys.Key.{make_key}
-use Rattle.btr_tree.specs.btr_node.Leaf.{Item}
-use Rattle.btr_space_items.specs.Device.{device_bytes}
 use Rattle.btr_space_items.specs.declared.device.Device.{Device}
-use Rattle.btr_tree.specs.vol_block.declared.ids.Ids.{Ids}
-use Rattle.space_items.specs.Chunks.{chunk_item, chunk_items, device_body}
-use Rattle.unit_plan.specs.declared.chunk.Chunk.{Chunk}
-use Rattle.unit_plan.specs.declared.plan.Plan.{Plan}
-use Rattle.unit_plan.specs.Chunks.{IsChunk, AreChunks, role_of, usable_end}
 use Rattle.space_items.proofs.OneList.{chunks_one}
 
 -- the blocks so far, and those of the next chunk
-pub blocks_more : (cs : List Chunk) (i : ℕ) (c : Chunk) → slice_get cs i ≡ Some c → sum_by (λ d. d.length) (take (i + 1) cs) ≡ sum_by (λ d. d.length) (take i cs) + c.length
+pub blocks_more : (cs : List PlannedChunk) (i : ℕ) (c : PlannedChunk) → slice_get cs i ≡ Some c → sum_by (λ d. d.length) (take (i + 1) cs) ≡ sum_by (λ d. d.length) (take i cs) + c.length
 blocks_more cs i c is =
-    let at : (get_or cs i c).length ≡ c.length = ap (λ (d : Chunk). d.length) (get_or_from_slice_get cs i c c is) in
-    omega (arith, sum_by_more (λ (d : Chunk). d.length) cs i c (slice_get_within cs i c is), at)
+    let at : (get_or cs i c).length ≡ c.length = ap (λ (d : PlannedChunk). d.length) (get_or_from_slice_get cs i c c is) in
+    omega (arith, sum_by_more (λ (d : PlannedChunk). d.length) cs i c (slice_get_within cs i c is), at)
 
-pub blocks_more_le : (cs : List Chunk) (i : ℕ) (c : Chunk) → slice_get cs i ≡ Some c → sum_by (λ d. d.length) (take i cs) + c.length ≤ sum_by (λ d. d.length) cs
+pub blocks_more_le : (cs : List PlannedChunk) (i : ℕ) (c : PlannedChunk) → slice_get cs i ≡ Some c → sum_by (λ d. d.length) (take i cs) + c.length ≤ sum_by (λ d. d.length) cs
 blocks_more_le cs i c is =
-    let at : (get_or cs i c).length ≡ c.length = ap (λ (d : Chunk). d.length) (get_or_from_slice_get cs i c c is) in
-    omega (arith, sum_by_more_le (λ (d : Chunk). d.length) cs i c (slice_get_within cs i c is), at)
+    let at : (get_or cs i c).length ≡ c.length = ap (λ (d : PlannedChunk). d.length) (get_or_from_slice_get cs i c c is) in
+    omega (arith, sum_by_more_le (λ (d : PlannedChunk). d.length) cs i c (slice_get_within cs i c is), at)
 
 -- chunks that ascend have no more blocks than there are from before the first to behind the last
-blocks_between : (low high : ℕ) (cs : List Chunk) → low ≤ high → AllPairs (λ c d. c.start + c.length ≤ d.start) cs → All (λ c. low ≤ c.start) cs → All (λ c. c.start + c.length ≤ high) cs
+blocks_between : (low high : ℕ) (cs : List PlannedChunk) → low ≤ high → AllPairs (λ c d. c.start + c.length ≤ d.start) cs → All (λ c. low ≤ c.start) cs → All (λ c. c.start + c.length ≤ high) cs
     → low + sum_by (λ c. c.length) cs ≤ high
 blocks_between low high [] some ascend above below = omega arith
 blocks_between low high (c ∷ cs) some ascend above below =
@@ -38,48 +25,48 @@ blocks_between low high (c ∷ cs) some ascend above below =
     let rest : c.start + c.length + sum_by (λ d. d.length) cs ≤ high =
     blocks_between (c.start + c.length) high cs end (λ i j d l h. ascend (suc i) (suc j) d (omega (arith, l)) (omega (arith, h))) (λ k d h. ascend 0 (suc k) d (omega arith) (omega (arith, h)))
     (λ k d h. below (suc k) d (omega (arith, h))) in
-    omega (arith, first, rest, sum_by-cons (λ (d : Chunk). d.length) c cs)
+    omega (arith, first, rest, sum_by-cons (λ (d : PlannedChunk). d.length) c cs)
 
 -- each chunk ends within the volume
-pub chunk_ends : (plan : Plan) (blocks : ℕ) (cs : List Chunk) → AreChunks plan blocks cs → All (λ c. c.start + c.length ≤ blocks) cs
+pub chunk_ends : (plan : Plan) (blocks : ℕ) (cs : List PlannedChunk) → AreChunks plan blocks cs → All (λ c. c.start + c.length ≤ blocks) cs
 chunk_ends plan blocks cs are k d h =
     let is : IsChunk (role_of plan blocks) (usable_end blocks) (get_or cs k d) = are.each k d h in
     omega (arith, is.ends)
 
-pub chunk_ends_at : (plan : Plan) (blocks : ℕ) (cs : List Chunk) (i : ℕ) (c : Chunk) → AreChunks plan blocks cs → slice_get cs i ≡ Some c → c.start + c.length ≤ blocks
+pub chunk_ends_at : (plan : Plan) (blocks : ℕ) (cs : List PlannedChunk) (i : ℕ) (c : PlannedChunk) → AreChunks plan blocks cs → slice_get cs i ≡ Some c → c.start + c.length ≤ blocks
 chunk_ends_at plan blocks cs i c are is =
     let end : (get_or cs i c).start + (get_or cs i c).length ≤ blocks = chunk_ends plan blocks cs are i c (slice_get_within cs i c is) in
-    let at : (get_or cs i c).start + (get_or cs i c).length ≡ c.start + c.length = ap (λ (d : Chunk). d.start + d.length) (get_or_from_slice_get cs i c c is) in
+    let at : (get_or cs i c).start + (get_or cs i c).length ≡ c.start + c.length = ap (λ (d : PlannedChunk). d.start + d.length) (get_or_from_slice_get cs i c c is) in
     omega (arith, end, at)
 
 -- and together they have no more blocks
-pub chunk_blocks_fit : (plan : Plan) (blocks : ℕ) (cs : List Chunk) → AreChunks plan blocks cs → sum_by (λ c. c.length) cs ≤ blocks
+pub chunk_blocks_fit : (plan : Plan) (blocks : ℕ) (cs : List PlannedChunk) → AreChunks plan blocks cs → sum_by (λ c. c.length) cs ≤ blocks
 chunk_blocks_fit plan blocks cs are = omega (arith, blocks_between 0 blocks cs (omega arith) are.ascending (λ k d h. omega arith) (chunk_ends plan blocks cs are))
 
 -- an item more for each chunk; `inside` is what stands for the chunks
-pub mapped_more : (f : Chunk → Item) (front old new : List Item) (inside cs : List Chunk) (i : ℕ) (c : Chunk) → inside ≡ cs → slice_get cs i ≡ Some c → old ≡ front ++ map f (take i inside) → new ≡ old ++ f c ∷ []
+pub mapped_more : (f : PlannedChunk → Item) (front old new : List Item) (inside cs : List PlannedChunk) (i : ℕ) (c : PlannedChunk) → inside ≡ cs → slice_get cs i ≡ Some c → old ≡ front ++ map f (take i inside) → new ≡ old ++ f c ∷ []
     → new ≡ front ++ map f (take (i + 1) inside)
 mapped_more f front old new inside cs i c same there built added =
-    let is : slice_get inside i ≡ Some c = ap (λ (l : List Chunk). slice_get l i) same ∙ there in
+    let is : slice_get inside i ≡ Some c = ap (λ (l : List PlannedChunk). slice_get l i) same ∙ there in
     let one : i + 1 ≡ suc i = omega arith in
     let taken : take (i + 1) inside ≡ take i inside ++ c ∷ [] =
-    ap (λ (n : ℕ). take n inside) one ∙ (take-suc inside i c (slice_get_within inside i c is) ∙ ap (λ (d : Chunk). take i inside ++ d ∷ []) (get_or_from_slice_get inside i c c is)) in
+    ap (λ (n : ℕ). take n inside) one ∙ (take-suc inside i c (slice_get_within inside i c is) ∙ ap (λ (d : PlannedChunk). take i inside ++ d ∷ []) (get_or_from_slice_get inside i c c is)) in
     added ∙ (ap (λ (l : List Item). l ++ f c ∷ []) built ∙ (append_assoc front (map f (take i inside)) (f c ∷ [])
     ∙ ap (λ (l : List Item). front ++ l) (sym (ap (map f) taken ∙ map-append f (take i inside) (c ∷ [])))))
 
 -- an item for each chunk of any list that the plan makes
-pub mapped_all : (f : Chunk → Item) (front items : List Item) (plan : Plan) (blocks : ℕ) (inside cs list : List Chunk) (i : ℕ) → inside ≡ cs → length cs ≤ i → items ≡ front ++ map f (take i inside)
+pub mapped_all : (f : PlannedChunk → Item) (front items : List Item) (plan : Plan) (blocks : ℕ) (inside cs list : List PlannedChunk) (i : ℕ) → inside ≡ cs → length cs ≤ i → items ≡ front ++ map f (take i inside)
     → AreChunks plan blocks cs → AreChunks plan blocks list → items ≡ front ++ map f list
 mapped_all f front items plan blocks inside cs list i same past built are others =
-    let long : length inside ≤ i = omega (arith, ap (λ (l : List Chunk). length l) same) in
-    built ∙ ap (λ (l : List Chunk). front ++ map f l) (take_all i inside long ∙ (same ∙ chunks_one plan blocks cs list are others))
+    let long : length inside ≤ i = omega (arith, ap (λ (l : List PlannedChunk). length l) same) in
+    built ∙ ap (λ (l : List PlannedChunk). front ++ map f l) (take_all i inside long ∙ (same ∙ chunks_one plan blocks cs list are others))
 
 -- the device's item, and those of the chunks
-pub with_device : (ids : Ids) (plan : Plan) (blocks : ℕ) (cs list : List Chunk) (none front items : List Item) (key : Key) (body : List ℕ) (device : Device) → AreChunks plan blocks cs
-    → AreChunks plan blocks list → none ≡ [] → key ≡ make_key 1 216 1 → body ≡ device_bytes device → device ≡ device_body ids blocks cs → front ≡ none ++ (key, body) ∷ []
+pub with_device : (ids : Ids) (plan : Plan) (blocks : ℕ) (cs list : List PlannedChunk) (none front items : List Item) (key : Key) (body : List ℕ) (device : Device) → AreChunks plan blocks cs
+    → AreChunks plan blocks list → none ≡ [] → key ≡ make_key DEV_ITEMS_OBJECTID DEV_ITEM 1 → body ≡ device_bytes device → device ≡ device_body ids blocks cs → front ≡ none ++ (key, body) ∷ []
     → items ≡ front ++ map (chunk_item ids) list → items ≡ chunk_items ids blocks list
 with_device ids plan blocks cs list none front items key body device are others empty key_is body_is device_is first all =
     let bytes : body ≡ device_bytes (device_body ids blocks list) = body_is ∙ ap device_bytes (device_is ∙ ap (device_body ids blocks) (chunks_one plan blocks cs list are others)) in
-    let one : front ≡ (make_key 1 216 1, device_bytes (device_body ids blocks list)) ∷ [] =
-    first ∙ (ap (λ (l : List Item). l ++ (key, body) ∷ []) empty ∙ (ap (λ (k : Key). (k, body) ∷ []) key_is ∙ ap (λ (b : List ℕ). (make_key 1 216 1, b) ∷ []) bytes)) in
+    let one : front ≡ (make_key DEV_ITEMS_OBJECTID DEV_ITEM 1, device_bytes (device_body ids blocks list)) ∷ [] =
+    first ∙ (ap (λ (l : List Item). l ++ (key, body) ∷ []) empty ∙ (ap (λ (k : Key). (k, body) ∷ []) key_is ∙ ap (λ (b : List ℕ). (make_key DEV_ITEMS_OBJECTID DEV_ITEM 1, b) ∷ []) bytes)) in
     all ∙ ap (λ (l : List Item). l ++ map (chunk_item ids) list) one

@@ -1,13 +1,7 @@
 -- A plan makes chunks of a volume.
-use Rattle.std.proofs.Common.{◌≡◌, ⊎_elim, ◌⊎◌, inl, inr, ℕ, zero, suc, ◌+◌, ◌-◌, ◌*◌, ◌%◌, ◌<◌, ◌&&◌, ltb, not, Bool, true, false, List, [], ◌∷◌, ◌++◌, Option, Some, None, refl, ap, subst, arith}
-use Rattle.std.specs.Prelude.{MatchOption}
-use Rattle.std.proofs.lemmas.Bool.{and_parts, ltb-true, cases_eq}
-use Rattle.unit_plan.specs.declared.chunk.Chunk.{Chunk}
-use Rattle.unit_plan.specs.declared.chunk.Role.{Role}
+use Rattle.space_items.proofs.Imports.{◌≡◌, ⊎_elim, ◌⊎◌, inl, inr, ℕ, zero, suc, ◌+◌, ◌-◌, ◌*◌, ◌%◌, ◌<◌, ◌&&◌, ltb, not, Bool, true, false, List, [], ◌∷◌, ◌++◌, Option, Some, None, refl, ap, subst, arith, MatchOption, and_parts, ltb-true, cases_eq, PlannedChunk, Role, Plan, AreChunks, AreChunksBy, role_by, role_of, has_role, usable_end, is_in_runs}
 use Rattle.unit_plan.specs.declared.chunk.Role.TheVariants.{System, Metadata, Data}
-use Rattle.unit_plan.specs.declared.plan.Plan.{Plan}
 use Rattle.unit_plan.specs.Choice.{is_among}
-use Rattle.unit_plan.specs.Chunks.{AreChunks, AreChunksBy, role_by, role_of, has_role, usable_end, is_in_runs}
 use Rattle.unit_plan.specs.Dividing.{IsJoined, AreBegun, IsWithChunk, chunk_from}
 use Rattle.unit_plan.proofs.Dividing.{begun, goes_on, ended, divided}
 
@@ -44,10 +38,10 @@ module _ (role : ℕ → Option Role) (usable : ℕ) (inside : (u : ℕ) (r : Ro
   -- the chunks that are found below a unit
   record HasBegun (u : ℕ) : Type 0 where
     first : ℕ
-    chunks : List Chunk
+    chunks : List PlannedChunk
     are : AreBegun role usable first u chunks
 
-  with_chunk : (old : List Chunk) (o : Option Role) (first end : ℕ) → (new : List Chunk) × IsWithChunk old o first end usable new
+  with_chunk : (old : List PlannedChunk) (o : Option Role) (first end : ℕ) → (new : List PlannedChunk) × IsWithChunk old o first end usable new
   with_chunk old None first end = (old, refl)
   with_chunk old (Some r) first end = (old ++ chunk_from usable first end r ∷ [], refl)
 
@@ -63,7 +57,7 @@ module _ (role : ℕ → Option Role) (usable : ℕ) (inside : (u : ℕ) (r : Ro
       record { first = n + 1; chunks = new.0; are = subst (λ (u : ℕ). AreBegun role usable (n + 1) u new.0) step (ended role usable inside known.first (n + 1) known.chunks known.are ends new.0 new.1) })
       (joined_or_not (n + 1))
 
-  pub chunks_by : (chunks : List Chunk) × AreChunksBy role usable chunks
+  pub chunks_by : (chunks : List PlannedChunk) × AreChunksBy role usable chunks
   chunks_by =
       let known : HasBegun (usable + 1) = begins_at usable in
       (known.chunks, divided role usable inside known.first (usable + 1) usable known.chunks known.are refl (omega arith))
@@ -78,11 +72,11 @@ role_inside plan blocks u r e =
     let t = used r (ltb 0 u && (ltb (256 * u) (usable_end blocks) && not (is_in_runs plan.unallocated u))) (is_among plan.system u) (is_among plan.metadata u) e in
     ltb-true (256 * u) (usable_end blocks) (and_parts (ltb (256 * u) (usable_end blocks)) _ (and_parts (ltb 0 u) _ t).1).0
 
-pub chunks_exist : (plan : Plan) (blocks : ℕ) → (chunks : List Chunk) × AreChunks plan blocks chunks
+pub chunks_exist : (plan : Plan) (blocks : ℕ) → (chunks : List PlannedChunk) × AreChunks plan blocks chunks
 chunks_exist plan blocks = chunks_by (role_of plan blocks) (usable_end blocks) (role_inside plan blocks)
 
 -- the chunks that the plan makes
-pub the_chunks : Plan → ℕ → List Chunk
+pub the_chunks : Plan → ℕ → List PlannedChunk
 the_chunks plan blocks = (chunks_exist plan blocks).0
 
 pub are_the_chunks : (plan : Plan) (blocks : ℕ) → AreChunks plan blocks (the_chunks plan blocks)

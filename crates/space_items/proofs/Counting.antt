@@ -1,19 +1,8 @@
 -- How much of a list lies between two places.
-use Rattle.std.proofs.Common.{◌≡◌, ◌<◌, ◌≤◌, ℕ, zero, suc, ◌+◌, ◌*◌, ◌^◌, Bool, true, false, not, cond, List, [], ◌∷◌, ◌++◌, length, filter, map, take, drop, get_or, sum_by, Some, refl, sym, ap, subst, ◌∙◌, ◌&&◌, arith, length-drop}
-use Rattle.std.specs.Prelude.{nat_le, nat_lt, slice_get, All, AllPairs}
+use Rattle.space_items.proofs.Imports.{◌≡◌, ◌<◌, ◌≤◌, ℕ, zero, suc, ◌+◌, ◌*◌, ◌^◌, Bool, true, false, not, cond, List, [], ◌∷◌, ◌++◌, length, filter, map, take, drop, get_or, sum_by, Some, refl, sym, ap, subst, ◌∙◌, ◌&&◌, arith, nat_le, nat_lt, slice_get, All, AllPairs, take_all, take-append-drop, get_or-drop, map_more, All-head, All-tail, All-more, All-weaker, filter_more, filter-append, sum_by-cons, sum_by-append, sum_by-le, sum_by-take-le, slice_get_within, get_or_from_slice_get, AreNodes, bytes_of_nodes, bytes_of_pieces, used_in, ArePieces, LieBefore, group_of, Group, TreeNode, PlannedChunk, Piece}
+use Rattle.std.proofs.Common.{length-drop}
 use Rattle.std.proofs.lemmas.Bool.Decides.{nat_tests}
-use Rattle.std.proofs.lemmas.List.{take_all, take-append-drop, get_or-drop, map_more}
-use Rattle.std.proofs.lemmas.List.Elements.{All-head, All-tail, All-more, All-weaker, filter_more, filter-append}
 use Rattle.std.proofs.lemmas.List.Filters.{sum_by-filter_both}
-use Rattle.std.proofs.lemmas.List.Sums.{sum_by-cons, sum_by-append, sum_by-le, sum_by-take-le}
-use Rattle.std.proofs.lemmas.Option.{slice_get_within, get_or_from_slice_get}
-use Rattle.space_items.specs.Nodes.{AreNodes}
-use Rattle.space_items.specs.Extents.{bytes_of_nodes, bytes_of_pieces, used_in}
-use Rattle.space_items.specs.Stream.{ArePieces, LieBefore, group_of}
-use Rattle.space_items.specs.declared.groups.Group.{Group}
-use Rattle.space_items.specs.declared.node.TreeNode.{TreeNode}
-use Rattle.unit_plan.specs.declared.chunk.Chunk.{Chunk}
-use Rattle.unit_plan.specs.declared.piece.Piece.{Piece}
 
 pub not_in_below : (low high a : ℕ) → a < low → (nat_le low a && nat_lt a high) ≡ false
 not_in_below low high a h = grind (arith, nat_tests)
@@ -172,12 +161,12 @@ abbrev pub node_place : TreeNode → ℕ
 node_place n = n.address
 
 -- one group more
-pub groups_more : (f : Chunk → Group) (chunks : List Chunk) (i : ℕ) (c : Chunk) (g : Group) (old new : List Group) → slice_get chunks i ≡ Some c → g ≡ f c → old ≡ map f (take i chunks) → new ≡ old ++ g ∷ [] → new ≡ map f (take (i + 1) chunks)
+pub groups_more : (f : PlannedChunk → Group) (chunks : List PlannedChunk) (i : ℕ) (c : PlannedChunk) (g : Group) (old new : List Group) → slice_get chunks i ≡ Some c → g ≡ f c → old ≡ map f (take i chunks) → new ≡ old ++ g ∷ [] → new ≡ map f (take (i + 1) chunks)
 groups_more f chunks i c g old new there is so_far added =
     added
     ∙ (ap (λ (l : List Group). l ++ g ∷ []) so_far
     ∙ (ap (λ (h : Group). map f (take i chunks) ++ h ∷ []) is
-    ∙ sym (map_more f chunks i c (slice_get_within chunks i c there) ∙ ap (λ (d : Chunk). map f (take i chunks) ++ f d ∷ []) (get_or_from_slice_get chunks i c c there))))
+    ∙ sym (map_more f chunks i c (slice_get_within chunks i c there) ∙ ap (λ (d : PlannedChunk). map f (take i chunks) ++ f d ∷ []) (get_or_from_slice_get chunks i c c there))))
 
 -- of one element, in an interval and behind it
 in_or_behind : (a n low mid : ℕ) → low ≤ mid → cond (nat_le low a && nat_lt a mid) n 0 + cond (nat_le mid a) n 0 ≤ cond (nat_le low a) n 0
@@ -241,7 +230,7 @@ sum_both f g (x ∷ xs) =
     let rest = sum_both f g xs in
     omega (arith, all, first, second, rest)
 
-sum_of_groups : (pieces : List Piece) (nodes : List TreeNode) (nodesize : ℕ) (cs : List Chunk) → sum_by (λ g. g.used) (map (group_of pieces nodes nodesize) cs) ≡ sum_by (used_in pieces nodes nodesize) cs
+sum_of_groups : (pieces : List Piece) (nodes : List TreeNode) (nodesize : ℕ) (cs : List PlannedChunk) → sum_by (λ g. g.used) (map (group_of pieces nodes nodesize) cs) ≡ sum_by (used_in pieces nodes nodesize) cs
 sum_of_groups pieces nodes nodesize [] = refl
 sum_of_groups pieces nodes nodesize (c ∷ cs) =
     let all = sum_by-cons (λ g. g.used) (group_of pieces nodes nodesize c) (map (group_of pieces nodes nodesize) cs) in
@@ -250,14 +239,14 @@ sum_of_groups pieces nodes nodesize (c ∷ cs) =
     omega (arith, all, some, rest)
 
 -- what extents take of chunks that do not overlap
-pub used_within : (pieces : List Piece) (nodes : List TreeNode) (nodesize : ℕ) (cs : List Chunk) → nodesize ≤ 65536 → ArePieces pieces → AreNodes nodes → AllPairs (λ c d. c.start + c.length ≤ d.start) cs
+pub used_within : (pieces : List Piece) (nodes : List TreeNode) (nodesize : ℕ) (cs : List PlannedChunk) → nodesize ≤ 65536 → ArePieces pieces → AreNodes nodes → AllPairs (λ c d. c.start + c.length ≤ d.start) cs
     → sum_by (λ g. g.used) (map (group_of pieces nodes nodesize) cs) < 2 ^ 64
 used_within pieces nodes nodesize cs small are_pieces are_nodes apart =
     let all = sum_of_groups pieces nodes nodesize cs in
     let both = sum_both (bytes_of_pieces pieces) (bytes_of_nodes nodes nodesize) cs in
     let behind : AllPairs (λ c d. 4096 * (c.start + c.length) ≤ 4096 * d.start) cs = λ i j d order inside. let h = apart i j d order inside in omega (arith, h) in
-    let of_pieces : sum_by (bytes_of_pieces pieces) cs ≤ sum_by piece_bytes pieces = apart_counted piece_place piece_bytes (λ (c : Chunk). 4096 * c.start) (λ (c : Chunk). 4096 * (c.start + c.length)) pieces cs (λ c. omega arith) behind in
-    let of_nodes : sum_by (bytes_of_nodes nodes nodesize) cs ≤ sum_by (λ n. nodesize) nodes = apart_counted node_place (λ n. nodesize) (λ (c : Chunk). 4096 * c.start) (λ (c : Chunk). 4096 * (c.start + c.length)) nodes cs (λ c. omega arith) behind in
+    let of_pieces : sum_by (bytes_of_pieces pieces) cs ≤ sum_by piece_bytes pieces = apart_counted piece_place piece_bytes (λ (c : PlannedChunk). 4096 * c.start) (λ (c : PlannedChunk). 4096 * (c.start + c.length)) pieces cs (λ c. omega arith) behind in
+    let of_nodes : sum_by (bytes_of_nodes nodes nodesize) cs ≤ sum_by (λ n. nodesize) nodes = apart_counted node_place (λ n. nodesize) (λ (c : PlannedChunk). 4096 * c.start) (λ (c : PlannedChunk). 4096 * (c.start + c.length)) nodes cs (λ c. omega arith) behind in
     let few = pieces_fit pieces are_pieces in
     let some = nodes_fit nodes nodesize small are_nodes in
     omega (arith, all, both, of_pieces, of_nodes, few, some)

@@ -1,22 +1,8 @@
 -- The nodes of a tree, one level after the other.
-use Rattle.std.proofs.Common.{◌≡◌, ⊎_elim, ℕ, zero, suc, ◌+◌, ◌-◌, ◌<◌, ◌≤◌, List, [], ◌∷◌, ◌++◌, length, map, get_or, take, drop, refl, sym, ◌∙◌, ap, ap₂, subst, arith, append_assoc, append-nil}
-use Rattle.std.specs.List.{sum}
-use Rattle.std.specs.Int.{div_ceil}
-use Rattle.std.specs.Prelude.{All}
-use Rattle.std.proofs.lemmas.Bool.{cases_lt}
-use Rattle.std.proofs.lemmas.List.{drop_more, drop_all, drop-drop, map-append, length_push}
-use Rattle.std.proofs.lemmas.List.Elements.{All-cons, All-nil}
-use Rattle.std.proofs.lemmas.List.Sums.{sum_by-cons}
-use Rattle.btr_tree.specs.btr_node.NodeSize.{IsNodeSize}
-use Rattle.btr_tree.specs.Counting.{Tally, Counted}
-use Rattle.btr_tree.specs.Packing.{capacity, fan_out, leaves, weight, tree_levels, level_sizes}
+use Rattle.space_items.proofs.Imports.{◌≡◌, ⊎_elim, ℕ, zero, suc, ◌+◌, ◌-◌, ◌<◌, ◌≤◌, List, [], ◌∷◌, ◌++◌, length, map, get_or, take, drop, refl, sym, ◌∙◌, ap, ap₂, subst, arith, append_assoc, append-nil, sum, div_ceil, All, cases_lt, drop_more, drop_all, drop-drop, map-append, length_push, All-cons, All-nil, sum_by-cons, IsNodeSize, Tally, Counted, capacity, fan_out, packed_leaves, weight, tree_levels, level_sizes, level_pointers, NodePointer, nodes_at, TreeNode}
 use Rattle.btr_tree.proofs.Climbing.{wide_fan}
 use Rattle.btr_tree.proofs.Groups.{ends_in}
-use Rattle.btr_tree.specs.Roots.{level_pointers}
 use Rattle.btr_tree.proofs.Sizes.{sizes-one, sizes-more, sizes-none, smaller}
-use Rattle.btr_tree.specs.btr_reader_walk.declared.tree.Pointer.{Pointer}
-use Rattle.space_items.specs.Nodes.{nodes_at}
-use Rattle.space_items.specs.declared.node.TreeNode.{TreeNode}
 
 -- no level that is listed is empty
 pub full_levels : (d fan n : ℕ) → 121 ≤ fan → 1 ≤ n → All (λ m. 1 ≤ m) (level_sizes d fan n)
@@ -37,7 +23,7 @@ few_levels (suc d) fan n =
     (cases_lt 1 n)
 
 -- a tree has a leaf
-pub some_leaf : (nodesize : ℕ) (lengths : List ℕ) → 1 ≤ length (leaves nodesize lengths)
+pub some_leaf : (nodesize : ℕ) (lengths : List ℕ) → 1 ≤ length (packed_leaves nodesize lengths)
 some_leaf nodesize lengths =
     let ends = ends_in weight (capacity nodesize) [] lengths in
     omega (arith, ap length ends.2, length_push ends.0 ends.1)
@@ -46,7 +32,7 @@ some_leaf nodesize lengths =
 pub tree_full : (tally : Tally) (lengths : List ℕ) → IsNodeSize tally.nodesize → Counted tally lengths → All (λ n. 1 ≤ n) (tree_levels tally.nodesize tally.leaves)
 tree_full tally lengths size counted = full_levels 256 (fan_out tally.nodesize) tally.leaves (wide_fan tally.nodesize size) (omega (arith, some_leaf tally.nodesize lengths, counted.count))
 
-abbrev pub node_of : ℕ → Pointer → TreeNode
+abbrev pub node_of : ℕ → NodePointer → TreeNode
 node_of owner p = record { address = p.address; level = p.level; owner = owner }
 
 -- the nodes of the levels from one on, which take the slots from one on

@@ -4,6 +4,7 @@ pub mod ChunkLists
 pub mod ChunksExist
 pub mod Counting
 pub mod Describing
+pub mod Imports
 pub mod Levels
 pub mod Merges
 pub mod Merging

@@ -1,15 +1,7 @@
 -- Merging two lists by an order: one step, the members of the result, and what one element more in a list changes.
-use Rattle.std.proofs.Common.{◌≡◌, ⊎_elim, ◌⊎◌, inl, inr, ℕ, suc, ◌+◌, ◌<◌, ◌≤◌, true, List, [], ◌∷◌, ◌++◌, length, map, get_or, refl, sym, ◌∙◌, ap, subst, subst₂, arith, lt-ltb, le-ltb, eq-eqb, ne_eqb}
-use Rattle.std.specs.Cmp.{IsTotalOrder}
+use Rattle.space_items.proofs.Imports.{◌≡◌, ⊎_elim, ◌⊎◌, inl, inr, ℕ, suc, ◌+◌, ◌<◌, ◌≤◌, true, List, [], ◌∷◌, ◌++◌, length, map, get_or, refl, sym, ◌∙◌, ap, subst, subst₂, arith, lt-ltb, le-ltb, eq-eqb, ne_eqb, IsTotalOrder, nat_cmp, match_ordering, ordering_reverse, Ordering, Less, Equal, Greater, All-cons, All-head, All-tail, sum_by-cons, AllPairs-cons, All, AllPairs}
 use Rattle.std.specs.List.{sum_by}
-use Rattle.std.specs.Ordering.{nat_cmp, match_ordering, ordering_reverse}
 use Rattle.std.specs.Set.{sorted_merge}
-use Rattle.std.specs.declared.cmp.Ordering.{Ordering}
-use Rattle.std.specs.declared.cmp.Ordering.TheVariants.{Less, Equal, Greater}
-use Rattle.std.proofs.lemmas.List.Elements.{All-cons, All-head, All-tail}
-use Rattle.std.proofs.lemmas.List.Sums.{sum_by-cons}
-use Rattle.std.proofs.lemmas.List.Kept.{AllPairs-cons}
-use Rattle.std.specs.Prelude.{All, AllPairs}
 
 by_order : {P : Type 0} (k : Ordering) → (k ≡ Less → P) → (k ≡ Equal → P) → (k ≡ Greater → P) → P
 by_order Less a b c = a refl

@@ -1,20 +1,7 @@
 -- Lists of items, put together by their keys.
-use Rattle.std.proofs.Common.{◌≡◌, ◌≢◌, ◌≤◌, ◌<◌, ◌⊎◌, ℕ, zero, suc, ◌+◌, ◌-◌, List, [], ◌∷◌, ◌++◌, length, take, drop, get_or, Some, refl, sym, ap, subst, ◌∙◌, append_assoc, arith, ⊎_elim, inl, inr}
-use Rattle.std.specs.Prelude.{slice_get, slice_range}
-use Rattle.std.specs.Cmp.{IsTotalOrder}
-use Rattle.std.specs.Ordering.{nat_cmp, ordering_then, ordering_reverse}
-use Rattle.std.specs.declared.cmp.Ordering.{Ordering}
-use Rattle.std.specs.declared.cmp.Ordering.TheVariants.{Less, Equal, Greater}
-use Rattle.std.proofs.lemmas.Bool.{cases_eq}
-use Rattle.std.proofs.lemmas.Cmp.{nat_cmp_total, on_total, then_total}
-use Rattle.std.proofs.lemmas.List.{length-drop, take_all}
+use Rattle.space_items.proofs.Imports.{◌≡◌, ◌≢◌, ◌≤◌, ◌<◌, ◌⊎◌, ℕ, zero, suc, ◌+◌, ◌-◌, List, [], ◌∷◌, ◌++◌, length, take, drop, get_or, Some, refl, sym, ap, subst, ◌∙◌, append_assoc, arith, ⊎_elim, inl, inr, slice_get, slice_range, IsTotalOrder, nat_cmp, ordering_then, ordering_reverse, Ordering, Less, Equal, Greater, cases_eq, nat_cmp_total, on_total, then_total, length-drop, take_all, slice_get-get_or, Key, key_cmp, IsBefore, Item, merged, item_cmp}
 use Rattle.std.proofs.lemmas.Map.Lookups.{exact_unsigned}
-use Rattle.std.proofs.lemmas.Option.{slice_get-get_or}
-use Rattle.btr_tree.specs.btr_keys.declared.key.Key.{Key}
-use Rattle.btr_tree.specs.btr_keys.Key.{key_cmp, IsBefore}
-use Rattle.btr_tree.specs.btr_node.Leaf.{Item}
 use Rattle.btr_item_list.proofs.Joining.{no_item, range_push}
-use Rattle.space_items.specs.Merging.{merged, item_cmp}
 use Rattle.space_items.proofs.Merges.{merge-nil, merge-less, merge-greater}
 
 pub key_total : IsTotalOrder key_cmp

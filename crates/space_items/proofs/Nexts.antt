@@ -1,23 +1,7 @@
 -- The item that comes next where lists are put together by key.
-use Rattle.std.proofs.Common.{◌≡◌, ◌<◌, ℕ, zero, suc, ◌+◌, ◌*◌, ◌^◌, Bool, true, false, cond, List, [], ◌∷◌, drop, map, Option, Some, None, refl, sym, ap, subst, ◌∙◌, arith}
-use Rattle.std.specs.Prelude.{slice_get, IfSome}
+use Rattle.space_items.proofs.Imports.{◌≡◌, ◌<◌, ℕ, zero, suc, ◌+◌, ◌*◌, ◌^◌, Bool, true, false, cond, List, [], ◌∷◌, drop, map, Option, Some, None, refl, sym, ap, subst, ◌∙◌, arith, slice_get, IfSome, nat_cmp, ordering_then, is_lt, match_ordering, Ordering, Less, Equal, Greater, slice_get_within, MatchOption-at_some, key_cmp, Item, is_before, Piece, node_item, piece_item, item_cmp, merged, FitsExtents, IsSmallGroup, IsSmallNext, IsSmallPiece, extents_ahead, first_of, item_of_group, item_of_next, passed, place_of, ExtentStream, Next, Group, TreeNode}
 use Rattle.std.specs.Option.{MatchOption, option_map}
-use Rattle.std.specs.Ordering.{nat_cmp, ordering_then, is_lt, match_ordering}
-use Rattle.std.specs.declared.cmp.Ordering.{Ordering}
-use Rattle.std.specs.declared.cmp.Ordering.TheVariants.{Less, Equal, Greater}
-use Rattle.std.proofs.lemmas.Option.{slice_get_within, MatchOption-at_some}
-use Rattle.btr_tree.specs.btr_keys.Key.{key_cmp}
-use Rattle.btr_tree.specs.btr_node.Leaf.{Item}
-use Rattle.btr_tree.specs.btr_node.Order.{is_before}
-use Rattle.unit_plan.specs.declared.piece.Piece.{Piece}
-use Rattle.space_items.specs.Extents.{node_item, piece_item}
-use Rattle.space_items.specs.Merging.{item_cmp, merged}
-use Rattle.space_items.specs.Stream.{FitsExtents, IsSmallGroup, IsSmallNext, IsSmallPiece, extents_ahead, first_of, item_of_group, item_of_next, passed, place_of}
-use Rattle.space_items.specs.declared.extent_stream.ExtentStream.{ExtentStream}
-use Rattle.space_items.specs.declared.extent_stream.Next.{Next}
 use Rattle.space_items.specs.declared.extent_stream.Next.TheVariants as next
-use Rattle.space_items.specs.declared.groups.Group.{Group}
-use Rattle.space_items.specs.declared.node.TreeNode.{TreeNode}
 use Rattle.space_items.proofs.Counting.{all_at}
 use Rattle.space_items.proofs.Merges.{merge-nil}
 

@@ -1,10 +1,5 @@
 -- Two lists of nodes, merged one node after the other.
-use Rattle.std.proofs.Common.{◌≡◌, ℕ, ◌+◌, ◌<◌, ◌≤◌, List, [], ◌∷◌, ◌++◌, length, get_or, drop, sym, ◌∙◌, ap, arith, append_assoc, append-nil}
-use Rattle.std.proofs.lemmas.List.{drop_more, drop_all}
-use Rattle.std.specs.Ordering.{nat_cmp}
-use Rattle.std.specs.declared.cmp.Ordering.{Ordering}
-use Rattle.space_items.specs.Nodes.{merged_nodes}
-use Rattle.space_items.specs.declared.node.TreeNode.{TreeNode}
+use Rattle.space_items.proofs.Imports.{◌≡◌, ℕ, ◌+◌, ◌<◌, ◌≤◌, List, [], ◌∷◌, ◌++◌, length, get_or, drop, sym, ◌∙◌, ap, arith, append_assoc, append-nil, drop_more, drop_all, nat_cmp, Ordering, merged_nodes, TreeNode}
 use Rattle.space_items.proofs.Merges.{merge-nil, merge-less, merge-equal, merge-greater, nat_less, nat_equal, nat_greater}
 
 -- by the address

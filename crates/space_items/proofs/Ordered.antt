@@ -1,16 +1,6 @@
 -- The items of the small lists ascend, and are short.
-use Rattle.std.proofs.Common.{◌≡◌, ◌≤◌, ◌<◌, ℕ, zero, suc, ◌+◌, ◌*◌, true, List, [], ◌∷◌, ◌++◌, length, length-append, map, get_or, refl, ap, arith, eqb, cond, Bool, false}
-use Rattle.std.specs.Prelude.{All, AllPairs, codes}
-use Rattle.std.specs.Cmp.{IsTotalOrder}
-use Rattle.std.specs.Ordering.{is_lt, nat_cmp, ordering_then}
-use Rattle.std.specs.declared.cmp.Ordering.{Ordering}
-use Rattle.std.specs.declared.cmp.Ordering.TheVariants.{Less, Equal, Greater}
-use Rattle.std.proofs.lemmas.Bool.{and_parts, and_from, false≢true}
-use Rattle.std.proofs.lemmas.Cmp.{on_total}
-use Rattle.std.proofs.lemmas.List.Elements.{All-cons, All-nil}
-use Rattle.std.proofs.lemmas.List.Kept.{AllPairs-cons}
-use Rattle.btr_tree.specs.vol_block.declared.ids.Ids.{Ids}
-use Rattle.btr_tree.specs.btr_keys.Key.{key_cmp, key_layout, IsBefore, make_key}
+use Rattle.space_items.proofs.Imports.{◌≡◌, ◌≤◌, ◌<◌, ℕ, zero, suc, ◌+◌, ◌*◌, true, List, [], ◌∷◌, ◌++◌, length, length-append, map, get_or, refl, ap, arith, eqb, cond, Bool, false, All, AllPairs, codes, IsTotalOrder, is_lt, nat_cmp, ordering_then, Ordering, Less, Equal, Greater, and_parts, and_from, false≢true, on_total, All-cons, All-nil, AllPairs-cons, DEV_ITEM, ROOT_ITEM, DEV_ITEMS_OBJECTID, Ids, key_cmp, key_layout, IsBefore, make_key, device_layout, device_bytes, Item, keys_of, Ascends, ascends, is_before, PlannedChunk, Plan, IsChunk, AreChunks, role_of, usable_end, merged, item_cmp, TreeRoot, chunk_item, chunk_items, device_body, dev_extent_item, device_items, tree_root_item, other_root_items, saved_ref, default_entry, tree_uuid, zero_uuid, AreIds, ChunkItemsFit, RootItemsFit}
+use Rattle.vol_block.specs.declared.mode.TheConstants.{DIRECTORY_MODE}
 use Rattle.btr_tree.specs.btr_keys.DirEntry.{dir_entry_head}
 use Rattle.btr_tree.specs.btr_keys.InodeRef.{inode_ref_bytes, inode_ref_head}
 use Rattle.btr_tree.specs.btr_keys.Stamp.{stamp_layout}
@@ -22,17 +12,6 @@ use Rattle.btr_space_items.specs.RootItem.{root_item_layout}
 use Rattle.btr_space_items.specs.RootRef.{root_ref_head}
 use Rattle.btr_space_items.specs.Stripe.{stripe_layout}
 use Rattle.btr_space_items.specs.DevExtent.{dev_extent_layout}
-use Rattle.btr_space_items.specs.Device.{device_layout, device_bytes}
-use Rattle.btr_tree.specs.btr_node.Leaf.{Item, keys_of}
-use Rattle.btr_tree.specs.btr_node.Order.{Ascends, ascends, is_before}
-use Rattle.unit_plan.specs.declared.chunk.Chunk.{Chunk}
-use Rattle.unit_plan.specs.declared.plan.Plan.{Plan}
-use Rattle.unit_plan.specs.Chunks.{IsChunk, AreChunks, role_of, usable_end}
-use Rattle.space_items.specs.Merging.{merged, item_cmp}
-use Rattle.space_items.specs.declared.node.TreeRoot.{TreeRoot}
-use Rattle.space_items.specs.Chunks.{chunk_item, chunk_items, device_body, dev_extent_item, device_items}
-use Rattle.space_items.specs.Roots.{root_item, other_root_items, saved_ref, default_entry, tree_uuid, zero_uuid}
-use Rattle.space_items.specs.Laws.{AreIds, ChunkItemsFit, RootItemsFit}
 use Rattle.space_items.proofs.Merges.{nat_less, rises-merge, all-merge}
 use Rattle.space_items.proofs.Merging.{key_total}
 
@@ -79,8 +58,8 @@ rise_mapped f (x ∷ xs) up =
 
 -- chunks
 
-module _ (plan : Plan) (blocks : ℕ) (chunks : List Chunk) (are : AreChunks plan blocks chunks) where
-  starts_rise : (i j : ℕ) (d : Chunk) → i < j → j < length chunks → 4096 * (get_or chunks i d).start < 4096 * (get_or chunks j d).start
+module _ (plan : Plan) (blocks : ℕ) (chunks : List PlannedChunk) (are : AreChunks plan blocks chunks) where
+  starts_rise : (i j : ℕ) (d : PlannedChunk) → i < j → j < length chunks → 4096 * (get_or chunks i d).start < 4096 * (get_or chunks j d).start
   starts_rise i j d l h =
       let is : IsChunk (role_of plan blocks) (usable_end blocks) (get_or chunks i d) = are.each i d (omega (arith, l, h)) in
       let apart : (get_or chunks i d).start + (get_or chunks i d).length ≤ (get_or chunks j d).start = are.ascending i j d l h in
@@ -94,24 +73,24 @@ module _ (plan : Plan) (blocks : ℕ) (chunks : List Chunk) (are : AreChunks pla
 
 -- bodies
 
-short_chunk : (ids : Ids) (c : Chunk) → AreIds ids → length (chunk_item ids c).1 ≤ 439
+short_chunk : (ids : Ids) (c : PlannedChunk) → AreIds ids → length (chunk_item ids c).1 ≤ 439
 unfolding chunk_layout stripe_layout
 short_chunk ids c are = omega (arith, are.device, length-append (ids.device ++ []) [], length-append ids.device [])
 
-short_extent : (ids : Ids) (c : Chunk) → AreIds ids → length (dev_extent_item ids c).1 ≤ 439
+short_extent : (ids : Ids) (c : PlannedChunk) → AreIds ids → length (dev_extent_item ids c).1 ≤ 439
 unfolding dev_extent_layout
 short_extent ids c are = omega (arith, are.chunk_tree, length-append ids.chunk_tree [])
 
-short_device : (ids : Ids) (blocks : ℕ) (chunks : List Chunk) → AreIds ids → length (device_bytes (device_body ids blocks chunks)) ≤ 439
+short_device : (ids : Ids) (blocks : ℕ) (chunks : List PlannedChunk) → AreIds ids → length (device_bytes (device_body ids blocks chunks)) ≤ 439
 unfolding device_layout
 short_device ids blocks chunks are = omega (arith, are.device, are.fsid, length-append ids.device (ids.fsid ++ []), length-append ids.fsid [])
 
-device_first : (item : Item) (chunks : List Chunk) (f : Chunk → Item) → ((c : Chunk) → IsBefore item.0 (f c).0) → Rise (map f chunks) → Rise (item ∷ map f chunks)
+device_first : (item : Item) (chunks : List PlannedChunk) (f : PlannedChunk → Item) → ((c : PlannedChunk) → IsBefore item.0 (f c).0) → Rise (map f chunks) → Rise (item ∷ map f chunks)
 device_first item chunks f low up = AllPairs-cons (λ a b. item_cmp a b ≡ Less) item (map f chunks) (all_mapped f (λ b. item_cmp item b ≡ Less) chunks (λ k d h. low (get_or chunks k d))) up
 
 pub chunk_items_fit : ChunkItemsFit
 chunk_items_fit plan blocks ids chunks are chunked =
-    let device : Item = (make_key 1 216 1, device_bytes (device_body ids blocks chunks)) in (
+    let device : Item = (make_key DEV_ITEMS_OBJECTID DEV_ITEM 1, device_bytes (device_body ids blocks chunks)) in (
       record {
         ascend = rise_ascends (chunk_items ids blocks chunks) (device_first device chunks (chunk_item ids) (λ c. refl) (chunks_rise plan blocks chunks chunked ids));
         short = All-cons (λ i. length i.1 ≤ 439) device (map (chunk_item ids) chunks) (short_device ids blocks chunks are) (all_mapped (chunk_item ids) (λ i. length i.1 ≤ 439) chunks (λ k d h. short_chunk ids (get_or chunks k d) are));
@@ -129,7 +108,7 @@ uuid_long ids tree are = by_test (eqb tree 256)
     by_test true = are.subvolume
     by_test false = refl
 
-short_root : (ids : Ids) (nodesize : ℕ) (r : TreeRoot) → AreIds ids → length (root_item ids nodesize r).1 ≤ 439
+short_root : (ids : Ids) (nodesize : ℕ) (r : TreeRoot) → AreIds ids → length (tree_root_item ids nodesize r).1 ≤ 439
 unfolding root_item_layout inode_layout key_layout stamp_layout
 short_root ids nodesize r are = omega (arith, uuid_long ids r.tree are, length-append {A = ℕ})
 
@@ -151,7 +130,7 @@ short_default = omega arith
 
 short_others : (index now k : ℕ) (d : Item) → k < length (other_root_items index now) → length (get_or (other_root_items index now) k d).1 ≤ 439
 short_others index now zero d h = short_saved index
-short_others index now (suc zero) d h = short_inode (inode_made now 0x41ED 0 0 0)
+short_others index now (suc zero) d h = short_inode (inode_made now DIRECTORY_MODE 0 0 0)
 short_others index now (suc (suc zero)) d h = short_name 0
 short_others index now (suc (suc (suc zero))) d h = short_default
 short_others index now (suc (suc (suc (suc zero)))) d h = short_saved index
@@ -160,16 +139,16 @@ short_others index now (suc (suc (suc (suc (suc k))))) d h = absurd (omega (arit
 others_rise : (index now : ℕ) → Rise (other_root_items index now)
 others_rise index now = ascends_rise (other_root_items index now) refl
 
-roots_rise : (ids : Ids) (nodesize : ℕ) (list : List TreeRoot) → AllPairs (λ r s. r.tree < s.tree) list → Rise (map (root_item ids nodesize) list)
+roots_rise : (ids : Ids) (nodesize : ℕ) (list : List TreeRoot) → AllPairs (λ r s. r.tree < s.tree) list → Rise (map (tree_root_item ids nodesize) list)
 roots_rise ids nodesize list up =
-    rise_mapped (root_item ids nodesize) list
-    (λ i j d l h. ap (λ (o : Ordering). ordering_then o (ordering_then (nat_cmp 132 132) (nat_cmp 0 0))) (nat_less (get_or list i d).tree (get_or list j d).tree (up i j d l h)))
+    rise_mapped (tree_root_item ids nodesize) list
+    (λ i j d l h. ap (λ (o : Ordering). ordering_then o (ordering_then (nat_cmp ROOT_ITEM ROOT_ITEM) (nat_cmp 0 0))) (nat_less (get_or list i d).tree (get_or list j d).tree (up i j d l h)))
 
 pub root_items_fit : RootItemsFit
 root_items_fit list index ids now nodesize are up =
-    let roots : List Item = map (root_item ids nodesize) list in
+    let roots : List Item = map (tree_root_item ids nodesize) list in
     let others : List Item = other_root_items index now in
     record {
       ascend = rise_ascends (merged roots others) (rises-merge item_cmp item_total roots others (roots_rise ids nodesize list up) (others_rise index now));
-      short = all-merge item_cmp (λ i. length i.1 ≤ 439) roots others (all_mapped (root_item ids nodesize) (λ i. length i.1 ≤ 439) list (λ k d h. short_root ids nodesize (get_or list k d) are)) (short_others index now);
+      short = all-merge item_cmp (λ i. length i.1 ≤ 439) roots others (all_mapped (tree_root_item ids nodesize) (λ i. length i.1 ≤ 439) list (λ k d h. short_root ids nodesize (get_or list k d) are)) (short_others index now);
     }

@@ -1,13 +1,7 @@
 -- The bound of the number of the extent tree's own nodes holds.
-use Rattle.std.proofs.Common.{◌≡◌, ⊎_elim, ℕ, suc, ◌+◌, ◌-◌, ◌*◌, ◌/◌, ◌<◌, ◌≤◌, subst, arith, mul_comm, mul-suc, div-mul-le_self}
-use Rattle.std.specs.Int.{div_ceil}
-use Rattle.std.proofs.Math.Nat.{lt-div-mul-add}
-use Rattle.std.proofs.lemmas.Bool.{cases_lt}
-use Rattle.std.proofs.lemmas.Grind.{div_ceil_times}
+use Rattle.space_items.proofs.Imports.{◌≡◌, ⊎_elim, ℕ, suc, ◌+◌, ◌-◌, ◌*◌, ◌/◌, ◌<◌, ◌≤◌, subst, arith, mul-suc, div-mul-le_self, div_ceil, lt-div-mul-add, cases_lt, div_ceil_times, NODE_BYTES, IsNodeSize, leaf_bound, node_bound, capacity}
+use Rattle.std.proofs.Common.{mul_comm}
 use Rattle.std.proofs.lemmas.Nat.{mul-le}
-use Rattle.btr_tree.specs.btr_node.NodeSize.{IsNodeSize}
-use Rattle.btr_tree.specs.Counting.{leaf_bound, node_bound}
-use Rattle.btr_tree.specs.Packing.{capacity}
 
 pub roomy : (n : ℕ) → IsNodeSize n → 3995 ≤ capacity n
 roomy n size =
@@ -61,12 +55,12 @@ few_parents : (l : ℕ) → (l ≤ div_ceil l 64 * 64) × (div_ceil l 64 * 64 < 
 few_parents l = div_ceil_times l 64 (omega arith)
 
 -- with as many nodes as the bound says there are no more
-pub bound_holds : (bytes x n : ℕ) → IsNodeSize n → x ≤ 2 * node_bound bytes n + 16 → node_bound (bytes + 58 * x) n ≤ 2 * node_bound bytes n + 16
+pub bound_holds : (bytes x n : ℕ) → IsNodeSize n → x ≤ 2 * node_bound bytes n + 16 → node_bound (bytes + NODE_BYTES * x) n ≤ 2 * node_bound bytes n + 16
 bound_holds bytes x n size few =
-    let twice : 2 * bytes + 116 * x ≡ 2 * (bytes + 58 * x) = omega arith in
+    let twice : 2 * bytes + 116 * x ≡ 2 * (bytes + NODE_BYTES * x) = omega arith in
     let grown : 3995 * ((2 * bytes + 116 * x) / capacity n) ≤ 3995 * (2 * bytes / capacity n) + 3995 + 116 * x = quotient (2 * bytes) (116 * x) (capacity n) (roomy n size) in
-    let leaves : 3995 * (2 * (bytes + 58 * x) / capacity n) ≤ 3995 * (2 * bytes / capacity n) + 3995 + 116 * x = subst (λ (b : ℕ). 3995 * (b / capacity n) ≤ 3995 * (2 * bytes / capacity n) + 3995 + 116 * x) twice grown in
-    linear (2 * bytes / capacity n) (2 * (bytes + 58 * x) / capacity n) leaves few
+    let leaves : 3995 * (2 * (bytes + NODE_BYTES * x) / capacity n) ≤ 3995 * (2 * bytes / capacity n) + 3995 + 116 * x = subst (λ (b : ℕ). 3995 * (b / capacity n) ≤ 3995 * (2 * bytes / capacity n) + 3995 + 116 * x) twice grown in
+    linear (2 * bytes / capacity n) (2 * (bytes + NODE_BYTES * x) / capacity n) leaves few
   where
     linear : (q p : ℕ) → 3995 * p ≤ 3995 * q + 3995 + 116 * x → x ≤ 2 * (q + 1 + div_ceil (q + 1) 64 + 8) + 16 → p + 1 + div_ceil (p + 1) 64 + 8 ≤ 2 * (q + 1 + div_ceil (q + 1) 64 + 8) + 16
     linear q p leaves few = omega (arith, few_parents (q + 1), few_parents (p + 1), leaves, few)

@@ -1,19 +1,9 @@
 -- The root tree's items, one root after the other.
-use Rattle.std.proofs.Common.{◌≡◌, ◌≢◌, ◌≤◌, ◌<◌, ℕ, zero, suc, ◌+◌, ◌-◌, List, [], ◌∷◌, ◌++◌, length, map, drop, get_or, Some, sym, ap, subst, ◌∙◌, append_assoc, arith, drop-cons}
-use Rattle.std.specs.Prelude.{All, slice_get, slice_range}
-use Rattle.std.proofs.lemmas.List.{length-drop, drop-drop, get_or-drop}
-use Rattle.std.proofs.lemmas.Option.{slice_get_within, get_or_from_slice_get}
-use Rattle.btr_tree.specs.vol_block.declared.ids.Ids.{Ids}
-use Rattle.btr_tree.specs.btr_keys.declared.key.Key.{Key}
-use Rattle.btr_tree.specs.btr_keys.Key.{make_key, IsBefore}
-use Rattle.btr_tree.specs.btr_node.Leaf.{Item}
-use Rattle.space_items.specs.declared.node.TreeRoot.{TreeRoot}
-use Rattle.space_items.specs.Merging.{merged}
-use Rattle.space_items.specs.Roots.{AreBefore, root_item, other_root_items}
+use Rattle.space_items.proofs.Imports.{◌≡◌, ◌≢◌, ◌≤◌, ◌<◌, ℕ, zero, suc, ◌+◌, ◌-◌, List, [], ◌∷◌, ◌++◌, length, map, drop, get_or, Some, sym, ap, subst, ◌∙◌, append_assoc, arith, drop-cons, All, slice_get, slice_range, length-drop, drop-drop, get_or-drop, slice_get_within, get_or_from_slice_get, ROOT_ITEM, Ids, Key, make_key, IsBefore, Item, TreeRoot, merged, AreBefore, tree_root_item, other_root_items}
 use Rattle.space_items.proofs.Merging.{merged_behind, merged_ahead}
 
 -- none of the other items is a root item
-others_apart : (index now k : ℕ) (d : Item) → k < length (other_root_items index now) → (get_or (other_root_items index now) k d).0.kind ≢ 132
+others_apart : (index now k : ℕ) (d : Item) → k < length (other_root_items index now) → (get_or (other_root_items index now) k d).0.kind ≢ ROOT_ITEM
 others_apart index now zero d h = omega arith
 others_apart index now (suc zero) d h = omega arith
 others_apart index now (suc (suc zero)) d h = omega arith
@@ -58,15 +48,15 @@ module _ (f : TreeRoot → Item) (key : Key) (others whole : List Item) (next en
 
 -- at the others of a root tree
 pub root_more : (ids : Ids) (nodesize index now : ℕ) (key : Key) (others whole : List Item) (next end : ℕ) (list : List TreeRoot) (i : ℕ) (root : TreeRoot) (items before new : List Item)
-    → others ≡ other_root_items index now → AreBefore others next key end → slice_get list i ≡ Some root → key ≡ make_key root.tree 132 0
-    → items ++ merged (map (root_item ids nodesize) (drop i list)) (drop next (other_root_items index now)) ≡ whole → before ≡ items ++ slice_range others next end
-    → new ≡ before ++ root_item ids nodesize root ∷ []
-    → (end ≤ length (other_root_items index now)) × (new ++ merged (map (root_item ids nodesize) (drop (i + 1) list)) (drop end (other_root_items index now)) ≡ whole)
+    → others ≡ other_root_items index now → AreBefore others next key end → slice_get list i ≡ Some root → key ≡ make_key root.tree ROOT_ITEM 0
+    → items ++ merged (map (tree_root_item ids nodesize) (drop i list)) (drop next (other_root_items index now)) ≡ whole → before ≡ items ++ slice_range others next end
+    → new ≡ before ++ tree_root_item ids nodesize root ∷ []
+    → (end ≤ length (other_root_items index now)) × (new ++ merged (map (tree_root_item ids nodesize) (drop (i + 1) list)) (drop end (other_root_items index now)) ≡ whole)
 root_more ids nodesize index now key others whole next end list i root items before new are passed there is so_far before_is new_is =
     let all : List Item = other_root_items index now in
     let known : AreBefore all next key end = subst (λ (l : List Item). AreBefore l next key end) are passed in
-    let kind : key.kind ≡ 132 = ap (λ (k : Key). k.kind) is in (
+    let kind : key.kind ≡ ROOT_ITEM = ap (λ (k : Key). k.kind) is in (
       known.within,
-      root_added (root_item ids nodesize) key all whole next end known (λ k d h same. others_apart index now k d h (same ∙ kind)) list i root items before new there is so_far
+      root_added (tree_root_item ids nodesize) key all whole next end known (λ k d h same. others_apart index now k d h (same ∙ kind)) list i root items before new there is so_far
           (before_is ∙ ap (λ (l : List Item). items ++ slice_range l next end) are) new_is,
     )

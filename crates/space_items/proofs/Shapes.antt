@@ -1,27 +1,6 @@
 -- The keys of the extent tree's items, and how long their bodies are.
-use Rattle.std.proofs.Common.{◌≡◌, ⊎_elim, inl, inr, ℕ, ◌+◌, ◌*◌, ◌≤◌, List, [], ◌∷◌, ◌++◌, length, map, refl, sym, ◌∙◌, ap, ap₂, subst₂, arith, sum_by}
-use Rattle.std.specs.Cmp.{IsTotalOrder}
-use Rattle.std.specs.Ordering.{nat_cmp, ordering_then}
-use Rattle.std.specs.Prelude.{All}
-use Rattle.std.specs.declared.cmp.Ordering.{Ordering}
-use Rattle.std.specs.declared.cmp.Ordering.TheVariants.{Less, Equal, Greater}
-use Rattle.std.proofs.lemmas.Cmp.{nat_cmp_total, on_total, then_total}
-use Rattle.std.proofs.lemmas.List.{map-append, length-map}
-use Rattle.std.proofs.lemmas.List.Elements.{All-cons, All-nil}
-use Rattle.std.proofs.lemmas.List.Sums.{sum_by-cons, sum_by-le}
-use Rattle.btr_tree.specs.btr_keys.Key.{key_cmp, make_key}
-use Rattle.btr_tree.specs.btr_keys.declared.key.Key.{Key}
-use Rattle.btr_tree.specs.btr_node.Leaf.{Item}
-use Rattle.btr_tree.specs.btr_node.NodeSize.{IsNodeSize}
-use Rattle.btr_tree.specs.Counting.{bytes_of, tree_nodes}
-use Rattle.btr_tree.specs.Packing.{weight}
-use Rattle.btr_tree.specs.Roots.{lengths_of}
+use Rattle.space_items.proofs.Imports.{◌≡◌, ⊎_elim, inl, inr, ℕ, ◌+◌, ◌*◌, ◌≤◌, List, [], ◌∷◌, ◌++◌, length, map, refl, sym, ◌∙◌, ap, ap₂, subst₂, arith, sum_by, IsTotalOrder, nat_cmp, ordering_then, All, Ordering, Less, Equal, Greater, nat_cmp_total, on_total, then_total, map-append, length-map, All-cons, All-nil, sum_by-cons, sum_by-le, BLOCK_GROUP_ITEM, METADATA_ITEM, METADATA_ITEM_SIZE, BLOCK_GROUP_BYTES, EXTENT_BYTES, NODE_BYTES, key_cmp, make_key, Key, Item, IsNodeSize, bytes_of, tree_nodes, weight, lengths_of, PlannedChunk, Piece, extent_items, group_item, node_item, piece_item, used_in, item_cmp, TreeNode}
 use Rattle.btr_tree.proofs.Falling.{never_fall}
-use Rattle.unit_plan.specs.declared.chunk.Chunk.{Chunk}
-use Rattle.unit_plan.specs.declared.piece.Piece.{Piece}
-use Rattle.space_items.specs.Extents.{extent_items, group_item, node_item, piece_item, used_in}
-use Rattle.space_items.specs.Merging.{item_cmp}
-use Rattle.space_items.specs.declared.node.TreeNode.{TreeNode}
 use Rattle.space_items.proofs.BodyLengths.{length-group, length-node, length-piece}
 use Rattle.space_items.proofs.Levels.{map-map}
 use Rattle.space_items.proofs.Merges.{merge, map-merge, length-merge, sum-merge, all-merge, IsMore, IsPut, IsAbove, more_in_first, more_in_second}
@@ -41,16 +20,16 @@ shape_total =
     then_total {R = λ a b. nat_cmp a.0.objectid b.0.objectid} {S = λ a b. ordering_then (nat_cmp a.0.kind b.0.kind) (nat_cmp a.0.offset b.0.offset)} (on_total (λ (s : Shape). s.0.objectid) nat_cmp_total)
     (then_total {R = λ a b. nat_cmp a.0.kind b.0.kind} {S = λ a b. nat_cmp a.0.offset b.0.offset} (on_total (λ (s : Shape). s.0.kind) nat_cmp_total) (on_total (λ (s : Shape). s.0.offset) nat_cmp_total))
 
-abbrev pub group_shape : Chunk → Shape
-group_shape c = (make_key (4096 * c.start) 192 (4096 * c.length), 24)
+abbrev pub group_shape : PlannedChunk → Shape
+group_shape c = (make_key (4096 * c.start) BLOCK_GROUP_ITEM (4096 * c.length), 24)
 
 abbrev pub node_shape : TreeNode → Shape
-node_shape n = (make_key n.address 169 n.level, 33)
+node_shape n = (make_key n.address METADATA_ITEM n.level, METADATA_ITEM_SIZE)
 
 abbrev pub piece_shape : Piece → Shape
 piece_shape p = shape (piece_item p)
 
-abbrev pub shapes : List Chunk → List Piece → List TreeNode → List Shape
+abbrev pub shapes : List PlannedChunk → List Piece → List TreeNode → List Shape
 shapes chunks pieces nodes = merge shape_cmp (map group_shape chunks) (merge shape_cmp (map node_shape nodes) (map piece_shape pieces))
 
 same_map : {A B : Type 0} (f g : A → B) → ((x : A) → f x ≡ g x) → (xs : List A) → map f xs ≡ map g xs
@@ -58,18 +37,18 @@ same_map f g same [] = refl
 same_map f g same (x ∷ xs) = ap₂ (λ y ys. y ∷ ys) (same x) (same_map f g same xs)
 
 -- the shapes of the items do not go by how much of a chunk is used
-pub shapes_are : (chunks : List Chunk) (pieces : List Piece) (nodes : List TreeNode) (nodesize : ℕ) → map shape (extent_items chunks pieces nodes nodesize) ≡ shapes chunks pieces nodes
+pub shapes_are : (chunks : List PlannedChunk) (pieces : List Piece) (nodes : List TreeNode) (nodesize : ℕ) → map shape (extent_items chunks pieces nodes nodesize) ≡ shapes chunks pieces nodes
 shapes_are chunks pieces nodes nodesize =
-    let group : Chunk → Item = λ (c : Chunk). group_item (used_in pieces nodes nodesize c) c in
+    let group : PlannedChunk → Item = λ (c : PlannedChunk). group_item (used_in pieces nodes nodesize c) c in
     map-merge item_cmp shape_cmp shape (λ a b. refl) (map group chunks) (merge item_cmp (map node_item nodes) (map piece_item pieces))
     ∙ ap₂ (λ gs is. merge shape_cmp gs is)
-    (map-map shape group chunks ∙ same_map (λ c. shape (group c)) group_shape (λ c. ap (λ (n : ℕ). (make_key (4096 * c.start) 192 (4096 * c.length), n)) (length-group (used_in pieces nodes nodesize c) c)) chunks)
+    (map-map shape group chunks ∙ same_map (λ c. shape (group c)) group_shape (λ c. ap (λ (n : ℕ). (make_key (4096 * c.start) BLOCK_GROUP_ITEM (4096 * c.length), n)) (length-group (used_in pieces nodes nodesize c) c)) chunks)
     (map-merge item_cmp shape_cmp shape (λ a b. refl) (map node_item nodes) (map piece_item pieces)
     ∙ ap₂ (λ ns ps. merge shape_cmp ns ps)
-    (map-map shape node_item nodes ∙ same_map (λ n. shape (node_item n)) node_shape (λ n. ap (λ (l : ℕ). (make_key n.address 169 n.level, l)) (length-node n)) nodes)
+    (map-map shape node_item nodes ∙ same_map (λ n. shape (node_item n)) node_shape (λ n. ap (λ (l : ℕ). (make_key n.address METADATA_ITEM n.level, l)) (length-node n)) nodes)
     (map-map shape piece_item pieces))
 
-pub lengths_are : (chunks : List Chunk) (pieces : List Piece) (nodes : List TreeNode) (nodesize : ℕ) → lengths_of (extent_items chunks pieces nodes nodesize) ≡ map (λ s. s.1) (shapes chunks pieces nodes)
+pub lengths_are : (chunks : List PlannedChunk) (pieces : List Piece) (nodes : List TreeNode) (nodesize : ℕ) → lengths_of (extent_items chunks pieces nodes nodesize) ≡ map (λ s. s.1) (shapes chunks pieces nodes)
 lengths_are chunks pieces nodes nodesize = sym (map-map (λ (s : Shape). s.1) shape (extent_items chunks pieces nodes nodesize)) ∙ ap (map (λ (s : Shape). s.1)) (shapes_are chunks pieces nodes nodesize)
 
 -- Bodies are short.
@@ -78,16 +57,16 @@ pub all_map : {A B : Type 0} (P : B → Type 0) (f : A → B) → ((x : A) → P
 all_map P f h [] = All-nil P
 all_map P f h (x ∷ xs) = All-cons P (f x) (map f xs) (h x) (all_map P f h xs)
 
-pub bodies_short : (chunks : List Chunk) (pieces : List Piece) (nodes : List TreeNode) (nodesize : ℕ) → All (λ i. length i.1 ≤ 82) (extent_items chunks pieces nodes nodesize)
+pub bodies_short : (chunks : List PlannedChunk) (pieces : List Piece) (nodes : List TreeNode) (nodesize : ℕ) → All (λ i. length i.1 ≤ 82) (extent_items chunks pieces nodes nodesize)
 bodies_short chunks pieces nodes nodesize =
     let short : Item → Type 0 = λ (i : Item). length i.1 ≤ 82 in
     all-merge item_cmp short (map (λ c. group_item (used_in pieces nodes nodesize c) c) chunks) (merge item_cmp (map node_item nodes) (map piece_item pieces))
     (all_map short (λ c. group_item (used_in pieces nodes nodesize c) c) (λ c. omega (arith, length-group (used_in pieces nodes nodesize c) c)) chunks)
     (all-merge item_cmp short (map node_item nodes) (map piece_item pieces) (all_map short node_item (λ n. omega (arith, length-node n)) nodes) (all_map short piece_item length-piece pieces))
 
-pub items_few : (chunks : List Chunk) (pieces : List Piece) (nodes : List TreeNode) (nodesize : ℕ) → length (extent_items chunks pieces nodes nodesize) ≤ length chunks + length nodes + length pieces
+pub items_few : (chunks : List PlannedChunk) (pieces : List Piece) (nodes : List TreeNode) (nodesize : ℕ) → length (extent_items chunks pieces nodes nodesize) ≤ length chunks + length nodes + length pieces
 items_few chunks pieces nodes nodesize =
-    let group : Chunk → Item = λ (c : Chunk). group_item (used_in pieces nodes nodesize c) c in
+    let group : PlannedChunk → Item = λ (c : PlannedChunk). group_item (used_in pieces nodes nodesize c) c in
     omega (
       arith,
       length-merge item_cmp (map group chunks) (merge item_cmp (map node_item nodes) (map piece_item pieces)),
@@ -103,7 +82,7 @@ sum_map : {A B : Type 0} (g : B → ℕ) (f : A → B) (xs : List A) → sum_by 
 sum_map g f [] = refl
 sum_map g f (x ∷ xs) = omega (arith, sum_by-cons g (f x) (map f xs), sum_by-cons (λ y. g (f y)) x xs, sum_map g f xs)
 
-pub bytes-le : (chunks : List Chunk) (pieces : List Piece) (nodes : List TreeNode) (nodesize : ℕ) → bytes_of (lengths_of (extent_items chunks pieces nodes nodesize)) ≤ 49 * length chunks + 58 * length nodes + 107 * length pieces
+pub bytes-le : (chunks : List PlannedChunk) (pieces : List Piece) (nodes : List TreeNode) (nodesize : ℕ) → bytes_of (lengths_of (extent_items chunks pieces nodes nodesize)) ≤ BLOCK_GROUP_BYTES * length chunks + NODE_BYTES * length nodes + EXTENT_BYTES * length pieces
 bytes-le chunks pieces nodes nodesize =
     let takes : Shape → ℕ = λ (s : Shape). weight s.1 in
     let gs : List Shape = map group_shape chunks in
@@ -115,9 +94,9 @@ bytes-le chunks pieces nodes nodesize =
       whole,
       sum-merge shape_cmp takes gs (merge shape_cmp ns ps),
       sum-merge shape_cmp takes ns ps,
-      sum_by-le takes 49 gs (all_map (λ s. takes s ≤ 49) group_shape (λ c. omega arith) chunks),
-      sum_by-le takes 58 ns (all_map (λ s. takes s ≤ 58) node_shape (λ n. omega arith) nodes),
-      sum_by-le takes 107 ps (all_map (λ s. takes s ≤ 107) piece_shape (λ p. omega (arith, length-piece p)) pieces),
+      sum_by-le takes BLOCK_GROUP_BYTES gs (all_map (λ s. takes s ≤ BLOCK_GROUP_BYTES) group_shape (λ c. omega arith) chunks),
+      sum_by-le takes NODE_BYTES ns (all_map (λ s. takes s ≤ NODE_BYTES) node_shape (λ n. omega arith) nodes),
+      sum_by-le takes EXTENT_BYTES ps (all_map (λ s. takes s ≤ EXTENT_BYTES) piece_shape (λ p. omega (arith, length-piece p)) pieces),
       length-map chunks group_shape,
       length-map nodes node_shape,
       length-map pieces piece_shape,
@@ -127,7 +106,7 @@ bytes-le chunks pieces nodes nodesize =
 
 before_by_address : (y : TreeNode) (nodes : List TreeNode) → IsAbove node_cmp y nodes → IsAbove shape_cmp (node_shape y) (map node_shape nodes)
 before_by_address y [] above = tt
-before_by_address y (z ∷ nodes) above = ap (λ k. ordering_then k (ordering_then (nat_cmp 169 169) (nat_cmp y.level z.level))) above
+before_by_address y (z ∷ nodes) above = ap (λ k. ordering_then k (ordering_then (nat_cmp METADATA_ITEM METADATA_ITEM) (nat_cmp y.level z.level))) above
 
 node_shapes_more : (y : TreeNode) (xs ys : List TreeNode) → IsMore node_cmp y xs ys → IsMore shape_cmp (node_shape y) (map node_shape xs) (map node_shape ys)
 node_shapes_more y xs ys more =
@@ -148,14 +127,14 @@ other_kind Less e = cc
 other_kind Equal e = cc
 other_kind Greater e = cc
 
-pub more_shapes : (chunks : List Chunk) (pieces : List Piece) (y : TreeNode) (xs ys : List TreeNode) → IsMore node_cmp y xs ys → IsMore shape_cmp (node_shape y) (shapes chunks pieces xs) (shapes chunks pieces ys)
+pub more_shapes : (chunks : List PlannedChunk) (pieces : List Piece) (y : TreeNode) (xs ys : List TreeNode) → IsMore node_cmp y xs ys → IsMore shape_cmp (node_shape y) (shapes chunks pieces xs) (shapes chunks pieces ys)
 more_shapes chunks pieces y xs ys more =
     more_in_second shape_cmp shape_total (node_shape y) (map group_shape chunks) (merge shape_cmp (map node_shape xs) (map piece_shape pieces)) (merge shape_cmp (map node_shape ys) (map piece_shape pieces))
     (more_in_first shape_cmp shape_total (node_shape y) (map node_shape xs) (map node_shape ys) (map piece_shape pieces) (node_shapes_more y xs ys more)
     (all_map (λ s. shape_cmp (node_shape y) s ≡ Equal → ⊥) piece_shape (λ p. other_kind (nat_cmp y.address (4096 * p.place))) pieces))
 
 -- there are no fewer nodes with it
-pub more_nodes : (chunks : List Chunk) (pieces : List Piece) (nodesize : ℕ) (y : TreeNode) (xs ys : List TreeNode) → IsNodeSize nodesize → IsMore node_cmp y xs ys
+pub more_nodes : (chunks : List PlannedChunk) (pieces : List Piece) (nodesize : ℕ) (y : TreeNode) (xs ys : List TreeNode) → IsNodeSize nodesize → IsMore node_cmp y xs ys
     → tree_nodes nodesize (lengths_of (extent_items chunks pieces xs nodesize)) ≤ tree_nodes nodesize (lengths_of (extent_items chunks pieces ys nodesize))
 more_nodes chunks pieces nodesize y xs ys size more =
     let old : List Shape = shapes chunks pieces xs in
@@ -165,7 +144,7 @@ more_nodes chunks pieces nodesize y xs ys size more =
     (λ (same : old ≡ new). omega (arith, ap (λ ss. tree_nodes nodesize (map (λ (s : Shape). s.1) ss)) same))
     (λ (put : IsPut shape_cmp (node_shape y) old new).
     let without : map (λ s. s.1) old ≡ map (λ s. s.1) put.before ++ map (λ s. s.1) put.after = ap (map (λ (s : Shape). s.1)) put.without ∙ map-append (λ (s : Shape). s.1) put.before put.after in
-    let with : map (λ s. s.1) new ≡ map (λ s. s.1) put.before ++ 33 ∷ map (λ s. s.1) put.after = ap (map (λ (s : Shape). s.1)) put.with ∙ map-append (λ (s : Shape). s.1) put.before (node_shape y ∷ put.after) in
-    subst₂ (λ ls ms. tree_nodes nodesize ls ≤ tree_nodes nodesize ms) (sym without) (sym with) (never_fall nodesize (map (λ s. s.1) put.before) (map (λ s. s.1) put.after) 33 size))
+    let with : map (λ s. s.1) new ≡ map (λ s. s.1) put.before ++ METADATA_ITEM_SIZE ∷ map (λ s. s.1) put.after = ap (map (λ (s : Shape). s.1)) put.with ∙ map-append (λ (s : Shape). s.1) put.before (node_shape y ∷ put.after) in
+    subst₂ (λ ls ms. tree_nodes nodesize ls ≤ tree_nodes nodesize ms) (sym without) (sym with) (never_fall nodesize (map (λ s. s.1) put.before) (map (λ s. s.1) put.after) METADATA_ITEM_SIZE size))
     (more_shapes chunks pieces y xs ys more) in
     subst₂ (λ ls ms. tree_nodes nodesize ls ≤ tree_nodes nodesize ms) (sym (lengths_are chunks pieces xs nodesize)) (sym (lengths_are chunks pieces ys nodesize)) known

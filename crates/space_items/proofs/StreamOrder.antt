@@ -1,34 +1,8 @@
 -- The items of the extent tree and of the checksum tree ascend, and are short.
-use Rattle.std.proofs.Common.{◌≡◌, ◌≤◌, ◌<◌, ℕ, zero, suc, ◌+◌, ◌-◌, ◌*◌, ◌^◌, min, List, [], ◌∷◌, ◌++◌, length, map, get_or, refl, sym, ap, subst, ◌∙◌, arith, length-append, length-take}
-use Rattle.std.specs.Prelude.{All, AllPairs}
-use Rattle.std.specs.Int.{div_ceil}
-use Rattle.std.specs.List.{flat_map, range_with_len}
-use Rattle.std.specs.Ordering.{ordering_then, nat_cmp}
-use Rattle.std.specs.declared.cmp.Ordering.{Ordering}
-use Rattle.std.specs.declared.cmp.Ordering.TheVariants.{Less}
-use Rattle.std.proofs.Math.Nat.{mul-add, mul-le-mul_left, mul_comm}
-use Rattle.std.proofs.lemmas.Grind.{div_ceil_times}
+use Rattle.space_items.proofs.Imports.{◌≡◌, ◌≤◌, ◌<◌, ℕ, zero, suc, ◌+◌, ◌-◌, ◌*◌, ◌^◌, min, List, [], ◌∷◌, ◌++◌, length, map, get_or, refl, sym, ap, subst, ◌∙◌, arith, length-append, All, AllPairs, div_ceil, flat_map, range_with_len, ordering_then, nat_cmp, Ordering, Less, mul-add, mul-le-mul_left, mul_comm, div_ceil_times, All-append, All-cons, All-head, All-nil, All-tail, All-weaker, AllPairs-cons, EXTENT_CSUM, EXTENT_CSUM_OBJECTID, Image, block_at, IsBefore, Item, kind_sum, kind_width, SumKind, Crc32c, Sha256, AreChunks, IsChunk, role_of, usable_end, sums_in_item, PlannedChunk, Piece, Plan, group_item, node_item, piece_item, used_in, extent_items, item_cmp, merged, AreNodes, ArePieces, IsSmallPiece, block_sum, run_items, sum_items, sums_item, TreeNode}
+use Rattle.std.proofs.Common.{length-take}
 use Rattle.std.proofs.lemmas.List.FromFn.{get_or-range_with_len, length-range_with_len}
-use Rattle.std.proofs.lemmas.List.Elements.{All-append, All-cons, All-head, All-nil, All-tail, All-weaker}
-use Rattle.std.proofs.lemmas.List.Kept.{AllPairs-cons}
-use Rattle.btr_tree.specs.outside.History.{Image, block_at}
-use Rattle.btr_tree.specs.btr_keys.Key.{IsBefore}
-use Rattle.btr_tree.specs.btr_node.Leaf.{Item}
-use Rattle.btr_tree.specs.csum_kinds.Kind.{kind_sum, kind_width}
-use Rattle.btr_tree.specs.csum_kinds.declared.kind.SumKind.{SumKind}
-use Rattle.btr_tree.specs.csum_kinds.declared.kind.SumKind.TheVariants.{Crc32c}
-use Rattle.unit_plan.specs.Chunks.{AreChunks, IsChunk, role_of, usable_end}
-use Rattle.unit_plan.specs.Sums.{sums_in_item}
-use Rattle.unit_plan.specs.declared.chunk.Chunk.{Chunk}
-use Rattle.unit_plan.specs.declared.piece.Piece.{Piece}
-use Rattle.unit_plan.specs.declared.plan.Plan.{Plan}
-use Rattle.space_items.specs.Extents.{group_item, node_item, piece_item, used_in, extent_items}
-use Rattle.space_items.specs.Merging.{item_cmp, merged}
-use Rattle.space_items.specs.Nodes.{AreNodes}
-use Rattle.space_items.specs.Stream.{ArePieces, IsSmallPiece}
 use Rattle.space_items.specs.StreamLaws.{ExtentItemsFit, SumItemsFit}
-use Rattle.space_items.specs.Sums.{block_sum, run_items, sum_items, sums_item}
-use Rattle.space_items.specs.declared.node.TreeNode.{TreeNode}
 use Rattle.space_items.proofs.BodyLengths.{length-group, length-node, length-piece}
 use Rattle.space_items.proofs.Merges.{nat_equal, nat_less, rises-merge, all-merge}
 use Rattle.space_items.proofs.Ordered.{Rise, item_total, rise_ascends}
@@ -50,7 +24,7 @@ less_first a b o h = ap (λ (k : Ordering). ordering_then k o) (nat_less a b h)
 
 -- The extent tree.
 
-groups_rise : (plan : Plan) (blocks : ℕ) (chunks : List Chunk) (used : Chunk → ℕ) → AreChunks plan blocks chunks → Rise (map (λ c. group_item (used c) c) chunks)
+groups_rise : (plan : Plan) (blocks : ℕ) (chunks : List PlannedChunk) (used : PlannedChunk → ℕ) → AreChunks plan blocks chunks → Rise (map (λ c. group_item (used c) c) chunks)
 groups_rise plan blocks chunks used are =
     rise_of (λ c. group_item (used c) c) chunks
     (λ i j d l h.
@@ -95,8 +69,8 @@ extent_items_fit plan blocks chunks pieces nodes nodesize are_chunks are_pieces 
 
 -- an item with checksums of blocks from one on to before another
 record IsSumAt (low high : ℕ) (i : Item) : Type 0 where
-  objectid : i.0.objectid ≡ 2 ^ 64 - 10
-  kind : i.0.kind ≡ 128
+  objectid : i.0.objectid ≡ EXTENT_CSUM_OBJECTID
+  kind : i.0.kind ≡ EXTENT_CSUM
   from : low ≤ i.0.offset
   to : i.0.offset < high
 
@@ -118,6 +92,7 @@ rise_append (x ∷ xs) ys up also across =
 -- an item's checksums fit into a leaf
 item_fits : (sums : SumKind) → kind_width sums * sums_in_item sums + 126 ≤ 4096
 item_fits Crc32c = omega arith
+item_fits Sha256 = omega arith
 
 module _ (sums : SumKind) (image : Image) where
   abbrev item_at : ℕ → ℕ → ℕ → Item

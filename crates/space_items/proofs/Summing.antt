@@ -1,20 +1,6 @@
 -- Checksums of blocks, one behind the other, and the items that have them.
-use Rattle.std.proofs.Common.{◌≡◌, ◌<◌, ◌≤◌, ℕ, zero, suc, ◌+◌, ◌-◌, ◌*◌, ◌/◌, ◌%◌, min, Bool, true, false, cond, List, [], ◌∷◌, ◌++◌, map, drop, Some, refl, sym, ap, ◌∙◌, append_assoc, arith, ⊎_elim, eq-eqb, ne_eqb}
-use Rattle.std.specs.Prelude.{slice_get, ◌==◌}
-use Rattle.std.specs.Int.{div_ceil}
-use Rattle.std.specs.List.{flat_map, range_with_len}
-use Rattle.std.proofs.Math.Nat.{add-div_left, div-eq_of_lt, div_self, eq-or-lt_of_le, mod-eq_of_lt, mod_self, mul-add, mul-add-mod_self_left, zero-div, zero-mod}
+use Rattle.space_items.proofs.Imports.{◌≡◌, ◌<◌, ◌≤◌, ℕ, zero, suc, ◌+◌, ◌-◌, ◌*◌, ◌/◌, ◌%◌, min, Bool, true, false, cond, List, [], ◌∷◌, ◌++◌, map, drop, Some, refl, sym, ap, ◌∙◌, append_assoc, arith, ⊎_elim, eq-eqb, ne_eqb, slice_get, ◌==◌, div_ceil, flat_map, range_with_len, add-div_left, div-eq_of_lt, div_self, eq-or-lt_of_le, mod-eq_of_lt, mod_self, mul-add, mul-add-mod_self_left, zero-div, zero-mod, cases_lt, Image, Item, SumKind, Crc32c, Sha256, sums_in_item, Piece, IsPieceTaken, behind, left_of, sum_standing, sums_ahead, blocks_taken, run_items, sum_items, sums_item, SumStream}
 use Rattle.std.proofs.lemmas.List.{append-nil}
-use Rattle.std.proofs.lemmas.Bool.{cases_lt}
-use Rattle.btr_tree.specs.outside.History.{Image}
-use Rattle.btr_tree.specs.btr_node.Leaf.{Item}
-use Rattle.btr_tree.specs.csum_kinds.declared.kind.SumKind.{SumKind}
-use Rattle.btr_tree.specs.csum_kinds.declared.kind.SumKind.TheVariants.{Crc32c}
-use Rattle.unit_plan.specs.Sums.{sums_in_item}
-use Rattle.unit_plan.specs.declared.piece.Piece.{Piece}
-use Rattle.space_items.specs.Stream.{IsTaken, behind, left_of, sum_standing, sums_ahead, taken}
-use Rattle.space_items.specs.Sums.{run_items, sum_items, sums_item}
-use Rattle.space_items.specs.declared.sum_stream.SumStream.{SumStream}
 use Rattle.space_items.proofs.Nexts.{drop_next}
 
 -- the parts of one number more
@@ -130,6 +116,7 @@ module _ {X : Type 0} (n : ℕ) (some : 0 < n) (item : ℕ → ℕ → X) where
 
 pub item_some : (sums : SumKind) → 0 < sums_in_item sums
 item_some Crc32c = omega arith
+item_some Sha256 = omega arith
 
 -- of a piece of which nothing was done
 left_whole : (sums : SumKind) (image : Image) (pieces : List Piece) → left_of sums image 0 pieces ≡ sum_items sums image pieces
@@ -184,10 +171,10 @@ sums_next sums image pieces at done m p there inside is = ⊎_elim last more (eq
         ∙ ap (λ (b : Bool). sums_item sums image (p.place + done) m ∷ left_of sums image (cond {A = ℕ × ℕ} b (at + 1, 0) (at, done + m)).1 (drop (cond {A = ℕ × ℕ} b (at + 1, 0) (at, done + m)).0 pieces)) (sym test))))
 
 -- a stream that took an item
-pub taken_next : (old new : SumStream) (image : Image) (pieces : List Piece) (p : Piece) → slice_get pieces old.piece ≡ Some p → old.done < p.count → IsTaken old new p → sum_standing new ≡ sums_item old.sums image (p.place + old.done) (taken old p)
+pub taken_next : (old new : SumStream) (image : Image) (pieces : List Piece) (p : Piece) → slice_get pieces old.piece ≡ Some p → old.done < p.count → IsPieceTaken old new p → sum_standing new ≡ sums_item old.sums image (p.place + old.done) (blocks_taken old p)
     → sums_ahead old pieces image ≡ sum_standing new ∷ sums_ahead new pieces image
 taken_next old new image pieces p there inside is stands =
-    sums_next old.sums image pieces old.piece old.done (taken old p) p there inside refl
+    sums_next old.sums image pieces old.piece old.done (blocks_taken old p) p there inside refl
     ∙ (ap (λ (i : Item). i ∷ left_of old.sums image (behind old p).1 (drop (behind old p).0 pieces)) (sym stands)
     ∙ (ap (λ (t : ℕ × ℕ). sum_standing new ∷ left_of old.sums image t.1 (drop t.0 pieces)) (sym is.at)
     ∙ ap (λ (s : SumKind). sum_standing new ∷ left_of s image new.done (drop new.piece pieces)) (sym is.sums)))

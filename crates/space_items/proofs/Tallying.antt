@@ -1,21 +1,5 @@
 -- The items of the extent tree are counted, one after the other.
-use Rattle.std.proofs.Common.{◌≡◌, ℕ, ◌+◌, ◌-◌, ◌*◌, ◌^◌, ◌<◌, ◌≤◌, min, List, [], ◌∷◌, ◌++◌, length, get_or, refl, sym, ◌∙◌, ap, subst, arith, append_assoc, append-nil, length-append, sum_by}
-use Rattle.std.specs.Prelude.{All}
-use Rattle.std.proofs.lemmas.List.{get_or_at, map-append}
-use Rattle.std.proofs.lemmas.List.Elements.{All-head, All-tail, All-cons, All-nil}
-use Rattle.std.proofs.lemmas.List.Sums.{sum_by-cons}
-use Rattle.btr_tree.specs.btr_node.Leaf.{Item}
-use Rattle.btr_tree.specs.Counting.{Tally, Counted, bytes_of}
-use Rattle.btr_tree.specs.Packing.{weight}
-use Rattle.btr_tree.specs.Roots.{lengths_of}
-use Rattle.unit_plan.specs.Chunks.{AreChunks, usable_end}
-use Rattle.unit_plan.specs.declared.chunk.Chunk.{Chunk}
-use Rattle.unit_plan.specs.declared.piece.Piece.{Piece}
-use Rattle.unit_plan.specs.declared.plan.Plan.{Plan}
-use Rattle.space_items.specs.Extents.{extent_items}
-use Rattle.space_items.specs.Nodes.{AreNodes}
-use Rattle.space_items.specs.Stream.{ArePieces}
-use Rattle.space_items.specs.declared.node.TreeNode.{TreeNode}
+use Rattle.space_items.proofs.Imports.{◌≡◌, ℕ, ◌+◌, ◌-◌, ◌*◌, ◌^◌, ◌<◌, ◌≤◌, min, List, [], ◌∷◌, ◌++◌, length, get_or, refl, sym, ◌∙◌, ap, subst, arith, append_assoc, append-nil, length-append, sum_by, All, get_or_at, map-append, All-head, All-tail, All-cons, All-nil, sum_by-cons, ITEM_SIZE, EXTENT_BYTES, Item, Tally, Counted, bytes_of, weight, lengths_of, AreChunks, usable_end, PlannedChunk, Piece, Plan, extent_items, AreNodes, ArePieces, TreeNode}
 use Rattle.space_items.proofs.Counting.{apart_fit}
 use Rattle.space_items.proofs.Shapes.{bodies_short, items_few}
 
@@ -38,7 +22,7 @@ front : {A : Type 0} (P : A → Type 0) (xs ys : List A) → All P (xs ++ ys) �
 front P [] ys all = All-nil P
 front P (x ∷ xs) ys all = All-cons P x xs (All-head P x (xs ++ ys) all) (front P xs ys (All-tail P x (xs ++ ys) all))
 
-light : (items : List Item) → All (λ i. length i.1 ≤ 82) items → bytes_of (lengths_of items) ≤ 107 * length items
+light : (items : List Item) → All (λ i. length i.1 ≤ 82) items → bytes_of (lengths_of items) ≤ EXTENT_BYTES * length items
 light [] all = omega arith
 light (i ∷ items) all = omega (arith, sum_by-cons weight (length i.1) (lengths_of items), light items (All-tail (λ j. length j.1 ≤ 82) i items all), All-head (λ j. length j.1 ≤ 82) i items all)
 
@@ -57,7 +41,7 @@ module _ (nodesize : ℕ) (items : List Item) (short : AreShort items) where
         let here : length (get_or (so_far.done ++ i ∷ rest) (length so_far.done) i).1 ≤ 82 = all (length so_far.done) i (omega (arith, length-append so_far.done (i ∷ rest))) in
         omega (arith, here, ap (λ (j : Item). length j.1) at)
 
-    pub next_light : tally.bytes + 25 + length i.1 < 2 ^ 60
+    pub next_light : tally.bytes + ITEM_SIZE + length i.1 < 2 ^ 60
     next_light =
         let all : All (λ j. length j.1 ≤ 82) (so_far.done ++ i ∷ rest) = subst (All (λ j. length j.1 ≤ 82)) whole short.short in
         omega (
@@ -89,10 +73,10 @@ sum-ge : {A : Type 0} (f : A → ℕ) (xs : List A) → All (λ x. 1 ≤ f x) xs
 sum-ge f [] all = omega arith
 sum-ge f (x ∷ xs) all = omega (arith, sum_by-cons f x xs, sum-ge f xs (All-tail (λ y. 1 ≤ f y) x xs all), All-head (λ y. 1 ≤ f y) x xs all)
 
-pub few_chunks : (plan : Plan) (blocks : ℕ) (chunks : List Chunk) → AreChunks plan blocks chunks → length chunks ≤ blocks
+pub few_chunks : (plan : Plan) (blocks : ℕ) (chunks : List PlannedChunk) → AreChunks plan blocks chunks → length chunks ≤ blocks
 few_chunks plan blocks chunks are =
-    let start : Chunk → ℕ = λ (c : Chunk). c.start in
-    let count : Chunk → ℕ = λ (c : Chunk). c.length in
+    let start : PlannedChunk → ℕ = λ (c : PlannedChunk). c.start in
+    let count : PlannedChunk → ℕ = λ (c : PlannedChunk). c.length in
     omega (
       arith,
       sum-ge count chunks (λ k d h. (are.each k d h).not_empty),
@@ -110,7 +94,7 @@ few_pieces pieces are =
       apart_fit start count (2 ^ 29) 0 pieces (omega arith) (λ k d h. omega arith) are.ascending (λ k d h. (are.small k d h).place),
     )
 
-pub are_short : (plan : Plan) (blocks nodesize : ℕ) (chunks : List Chunk) (pieces : List Piece) (nodes : List TreeNode) → blocks ≤ 2 ^ 29 → AreChunks plan blocks chunks → ArePieces pieces → AreNodes nodes
+pub are_short : (plan : Plan) (blocks nodesize : ℕ) (chunks : List PlannedChunk) (pieces : List Piece) (nodes : List TreeNode) → blocks ≤ 2 ^ 29 → AreChunks plan blocks chunks → ArePieces pieces → AreNodes nodes
     → AreShort (extent_items chunks pieces nodes nodesize)
 are_short plan blocks nodesize chunks pieces nodes small are are_pieces are_nodes = record {
   short = bodies_short chunks pieces nodes nodesize;

@@ -1,6 +1,9 @@
 -- The extent tree: which ranges of the volume are taken, by what, and how much of each chunk.
 use Rattle.std.specs.Prelude.{ℕ, ◌+◌, ◌*◌, nat_le, nat_lt, Bool, ◌&&◌, if◌then◌else◌, Option, Some, None, List, [], ◌∷◌, ◌++◌, length, map, filter}
 use Rattle.std.specs.List.{flat_map, sum_by}
+use Rattle.btrfs_format.specs.declared.flag.TheConstants.{EXTENT_FLAG_DATA, EXTENT_FLAG_TREE_BLOCK}
+use Rattle.btrfs_format.specs.declared.key.TheConstants.{BLOCK_GROUP_ITEM, EXTENT_ITEM, METADATA_ITEM}
+use Rattle.btrfs_format.specs.declared.object.TheConstants.{CONV_IMAGE_SUBVOL, FIRST_CHUNK_TREE_OBJECTID, FS_TREE}
 use Rattle.btr_tree.specs.castagnoli.Castagnoli.{data_ref_hash}
 use Rattle.btr_tree.specs.btr_keys.Key.{make_key}
 use Rattle.btr_tree.specs.btr_node.Leaf.{Item}
@@ -10,7 +13,7 @@ use Rattle.btr_space_items.specs.InlineRef.{inline_ref_bytes, ref_root, ref_obje
 use Rattle.btr_space_items.specs.declared.inline_ref.InlineRef.{InlineRef}
 use Rattle.btr_space_items.specs.declared.inline_ref.InlineRef.TheVariants.{TreeBlock, DataRef}
 use Rattle.space_items.specs.Merging.{merged}
-use Rattle.unit_plan.specs.declared.chunk.Chunk.{Chunk}
+use Rattle.unit_plan.specs.declared.chunk.PlannedChunk.{PlannedChunk}
 use Rattle.unit_plan.specs.declared.piece.Piece.{Piece}
 use Rattle.space_items.specs.declared.node.TreeNode.{TreeNode}
 use Rattle.space_items.specs.Chunks.{chunk_kind}
@@ -22,11 +25,11 @@ data_ref tree inode block = DataRef tree inode (4096 * block) 1
 -- the image, inode 257 of tree 256, refers to the blocks of the volume; a file of tree 5 to what it owns
 abbrev pub image_refs : Option ℕ → List InlineRef
 image_refs None = []
-image_refs (Some block) = data_ref 256 257 block ∷ []
+image_refs (Some block) = data_ref CONV_IMAGE_SUBVOL 257 block ∷ []
 
 abbrev pub owner_refs : Option (ℕ × ℕ) → List InlineRef
 owner_refs None = []
-owner_refs (Some owner) = data_ref 5 owner.0 owner.1 ∷ []
+owner_refs (Some owner) = data_ref FS_TREE owner.0 owner.1 ∷ []
 
 abbrev pub hash_of_ref : InlineRef → ℕ
 hash_of_ref r = data_ref_hash (ref_root r) (ref_objectid r) (ref_offset r)
@@ -50,33 +53,33 @@ extent_body flags refs = extent_head_bytes (record { refs = length refs; generat
 
 -- the extent of a piece; 1 is data
 abbrev pub piece_item : Piece → Item
-piece_item p = (make_key (4096 * p.place) 168 (4096 * p.count), extent_body 1 (piece_refs p))
+piece_item p = (make_key (4096 * p.place) EXTENT_ITEM (4096 * p.count), extent_body EXTENT_FLAG_DATA (piece_refs p))
 
 -- the extent of a node; 2 is a node
 abbrev pub node_item : TreeNode → Item
-node_item n = (make_key n.address 169 n.level, extent_body 2 (TreeBlock n.owner ∷ []))
+node_item n = (make_key n.address METADATA_ITEM n.level, extent_body EXTENT_FLAG_TREE_BLOCK (TreeBlock n.owner ∷ []))
 
 -- an address lies in the chunk
-abbrev pub is_in_chunk : Chunk → ℕ → Bool
+abbrev pub is_in_chunk : PlannedChunk → ℕ → Bool
 is_in_chunk c address = nat_le (4096 * c.start) address && nat_lt address (4096 * (c.start + c.length))
 
 -- the bytes of the extents of pieces in a chunk, and of those of nodes
-abbrev pub bytes_of_pieces : List Piece → Chunk → ℕ
+abbrev pub bytes_of_pieces : List Piece → PlannedChunk → ℕ
 bytes_of_pieces pieces c = sum_by (λ p. 4096 * p.count) (filter (λ p. is_in_chunk c (4096 * p.place)) pieces)
 
-abbrev pub bytes_of_nodes : List TreeNode → ℕ → Chunk → ℕ
+abbrev pub bytes_of_nodes : List TreeNode → ℕ → PlannedChunk → ℕ
 bytes_of_nodes nodes nodesize c = sum_by (λ n. nodesize) (filter (λ n. is_in_chunk c n.address) nodes)
 
 -- the bytes of the extents of a chunk
-abbrev pub used_in : List Piece → List TreeNode → ℕ → Chunk → ℕ
+abbrev pub used_in : List Piece → List TreeNode → ℕ → PlannedChunk → ℕ
 used_in pieces nodes nodesize c = bytes_of_pieces pieces c + bytes_of_nodes nodes nodesize c
 
 -- the block group of a chunk
-abbrev pub group_item : ℕ → Chunk → Item
+abbrev pub group_item : ℕ → PlannedChunk → Item
 group_item used c =
-    (make_key (4096 * c.start) 192 (4096 * c.length), block_group_bytes (record { used = used; chunk_objectid = 256; flags = chunk_kind c.role }))
+    (make_key (4096 * c.start) BLOCK_GROUP_ITEM (4096 * c.length), block_group_bytes (record { used = used; chunk_objectid = FIRST_CHUNK_TREE_OBJECTID; flags = chunk_kind c.role }))
 
 -- The whole of it, ascending: an extent for each piece and for each node, and a block group for each chunk.
-abbrev pub extent_items : List Chunk → List Piece → List TreeNode → ℕ → List Item
+abbrev pub extent_items : List PlannedChunk → List Piece → List TreeNode → ℕ → List Item
 extent_items chunks pieces nodes nodesize =
     merged (map (λ c. group_item (used_in pieces nodes nodesize c) c) chunks) (merged (map node_item nodes) (map piece_item pieces))

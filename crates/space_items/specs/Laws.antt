@@ -4,7 +4,7 @@ use Rattle.btr_tree.specs.vol_block.declared.ids.Ids.{Ids}
 use Rattle.btr_tree.specs.btr_node.Leaf.{Item, keys_of}
 use Rattle.btr_tree.specs.btr_node.Order.{Ascends}
 use Rattle.unit_plan.specs.Chunks.{AreChunks}
-use Rattle.unit_plan.specs.declared.chunk.Chunk.{Chunk}
+use Rattle.unit_plan.specs.declared.chunk.PlannedChunk.{PlannedChunk}
 use Rattle.unit_plan.specs.declared.plan.Plan.{Plan}
 use Rattle.space_items.specs.Chunks.{chunk_items, device_items}
 use Rattle.space_items.specs.Roots.{root_items}
@@ -12,7 +12,7 @@ use Rattle.space_items.specs.declared.node.TreeRoot.{TreeRoot}
 
 -- a plan makes one list of chunks of a volume
 abbrev pub ChunksAreOne : Type 0
-ChunksAreOne = (plan : Plan) (blocks : ℕ) (chunks others : List Chunk) → AreChunks plan blocks chunks → AreChunks plan blocks others → chunks ≡ others
+ChunksAreOne = (plan : Plan) (blocks : ℕ) (chunks others : List PlannedChunk) → AreChunks plan blocks chunks → AreChunks plan blocks others → chunks ≡ others
 
 -- identifiers of 16 bytes each
 pub record AreIds (ids : Ids) : Type 0 where
@@ -29,7 +29,7 @@ pub record FitTree (items : List Item) : Type 0 where
 -- so are those of the chunk tree and of the device tree
 abbrev pub ChunkItemsFit : Type 0
 ChunkItemsFit =
-    (plan : Plan) (blocks : ℕ) (ids : Ids) (chunks : List Chunk) → AreIds ids → AreChunks plan blocks chunks
+    (plan : Plan) (blocks : ℕ) (ids : Ids) (chunks : List PlannedChunk) → AreIds ids → AreChunks plan blocks chunks
     → FitTree (chunk_items ids blocks chunks) × FitTree (device_items ids chunks)
 
 -- and those of the root tree

@@ -4,7 +4,7 @@ use Rattle.std.specs.Ordering.{nat_cmp}
 use Rattle.std.specs.Set.{sorted_merge}
 use Rattle.btr_tree.specs.btr_node.NodeSize.{IsNodeSize}
 use Rattle.btr_tree.specs.Counting.{Tally, Counted, tree_nodes}
-use Rattle.btr_tree.specs.Packing.{leaves, tree_levels}
+use Rattle.btr_tree.specs.Packing.{packed_leaves, tree_levels}
 use Rattle.btr_tree.specs.Roots.{level_pointers}
 use Rattle.space_items.specs.declared.node.TreeNode.{TreeNode}
 
@@ -16,7 +16,7 @@ nodes_at owner level slots = map (λ a. record { address = a; level = level; own
 -- below it.
 abbrev pub nodes_of_tree : ℕ → ℕ → List ℕ → List ℕ → List TreeNode
 nodes_of_tree owner nodesize lengths slots =
-    map (λ p. record { address = p.address; level = p.level; owner = owner }) (level_pointers 1 0 0 slots (tree_levels nodesize (length (leaves nodesize lengths))))
+    map (λ p. record { address = p.address; level = p.level; owner = owner }) (level_pointers 1 0 0 slots (tree_levels nodesize (length (packed_leaves nodesize lengths))))
 
 -- the nodes of two lists that ascend by address, ascending
 abbrev pub merged_nodes : List TreeNode → List TreeNode → List TreeNode

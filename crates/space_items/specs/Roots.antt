@@ -1,5 +1,9 @@
 -- The root tree: where each tree begins, and the subvolume of the saved image.
 use Rattle.std.specs.Prelude.{ℕ, ◌*◌, ◌^◌, ◌-◌, ◌==◌, ◌≤◌, ◌<◌, nat_le, Bool, ◌||◌, if◌then◌else◌, List, [], ◌∷◌, length, map, codes, replicate, slice_index_or}
+use Rattle.btrfs_format.specs.declared.flag.TheConstants.{FT_DIR}
+use Rattle.btrfs_format.specs.declared.key.TheConstants.{DIR_ITEM, ROOT_BACKREF, ROOT_ITEM, ROOT_REF}
+use Rattle.btrfs_format.specs.declared.object.TheConstants.{CONV_IMAGE_SUBVOL, FIRST_FREE_OBJECTID, FS_TREE, ROOT_TREE_DIR_OBJECTID}
+use Rattle.vol_block.specs.declared.mode.TheConstants.{DIRECTORY_MODE}
 use Rattle.btr_tree.specs.castagnoli.Castagnoli.{name_hash}
 use Rattle.btr_tree.specs.vol_block.declared.ids.Ids.{Ids}
 use Rattle.btr_tree.specs.btr_keys.DirEntry.{dir_entry_bytes}
@@ -16,7 +20,7 @@ use Rattle.space_items.specs.declared.node.TreeRoot.{TreeRoot}
 
 -- Tree 5, and those from 256 on, hold files.
 abbrev pub is_file_tree : ℕ → Bool
-is_file_tree tree = (tree == 5) || nat_le 256 tree
+is_file_tree tree = (tree == FS_TREE) || nat_le FIRST_FREE_OBJECTID tree
 
 -- such a tree has a root directory
 abbrev pub root_dirid : ℕ → ℕ
@@ -24,14 +28,14 @@ root_dirid tree = if is_file_tree tree then 256 else 0
 
 -- a root item has the inode of a directory in it, of which a kernel reads nothing
 abbrev pub root_inode : ℕ → Inode
-root_inode nodesize = record new_inode { generation = 0; transid = 0; size = 3; nbytes = nodesize; mode = 0x41ED }
+root_inode nodesize = record new_inode { generation = 0; transid = 0; size = 3; nbytes = nodesize; mode = DIRECTORY_MODE }
 
 abbrev pub zero_uuid : List ℕ
 zero_uuid = replicate 16 0
 
 -- the subvolume of the image has an identifier
 abbrev pub tree_uuid : Ids → ℕ → List ℕ
-tree_uuid ids tree = if tree == 256 then ids.subvolume else zero_uuid
+tree_uuid ids tree = if tree == CONV_IMAGE_SUBVOL then ids.subvolume else zero_uuid
 
 abbrev pub root_body : Ids → ℕ → TreeRoot → RootItem
 root_body ids nodesize r = record {
@@ -61,38 +65,38 @@ root_body ids nodesize r = record {
   rtime = stamp_of 0;
 }
 
-abbrev pub root_item : Ids → ℕ → TreeRoot → Item
-root_item ids nodesize r = (make_key r.tree 132 0, root_item_bytes (root_body ids nodesize r))
+abbrev pub tree_root_item : Ids → ℕ → TreeRoot → Item
+tree_root_item ids nodesize r = (make_key r.tree ROOT_ITEM 0, root_item_bytes (root_body ids nodesize r))
 
 -- the entry of tree 5's root that names the subvolume with the image
 abbrev pub saved_name : List ℕ
 saved_name = codes "reiserfs_saved"
 
 abbrev pub saved_ref : ℕ → List ℕ
-saved_ref index = root_ref_bytes (record { dirid = 256; sequence = index; name = saved_name })
+saved_ref index = root_ref_bytes (record { dirid = FIRST_FREE_OBJECTID; sequence = index; name = saved_name })
 
 -- the entry that names tree 5 as the one to mount
 abbrev pub default_name : List ℕ
 default_name = codes "default"
 
 abbrev pub default_entry : List ℕ
-default_entry = dir_entry_bytes (record { location = make_key 5 132 (2 ^ 64 - 1); transid = 1; data_length = 0; kind = 2; name = default_name })
+default_entry = dir_entry_bytes (record { location = make_key FS_TREE ROOT_ITEM (2 ^ 64 - 1); transid = 1; data_length = 0; kind = FT_DIR; name = default_name })
 
 abbrev pub default_item : Item
-default_item = (make_key 6 84 (name_hash default_name), default_entry)
+default_item = (make_key ROOT_TREE_DIR_OBJECTID DIR_ITEM (name_hash default_name), default_entry)
 
 -- The subvolume's references from and to tree 5, and directory 6 with the entry `default`.
 abbrev pub other_root_items : ℕ → ℕ → List Item
 other_root_items index now =
-    (make_key 5 156 256, saved_ref index)
-    ∷ (inode_item 6 (inode_made now 0x41ED 0 0 0)
-    ∷ (ref_item 6 6 0 (codes "..")
+    (make_key FS_TREE ROOT_REF CONV_IMAGE_SUBVOL, saved_ref index)
+    ∷ (inode_item ROOT_TREE_DIR_OBJECTID (inode_made now DIRECTORY_MODE 0 0 0)
+    ∷ (ref_item ROOT_TREE_DIR_OBJECTID ROOT_TREE_DIR_OBJECTID 0 (codes "..")
     ∷ (default_item
-    ∷ ((make_key 256 144 5, saved_ref index) ∷ []))))
+    ∷ ((make_key CONV_IMAGE_SUBVOL ROOT_BACKREF FS_TREE, saved_ref index) ∷ []))))
 
 -- the whole of it
 abbrev pub root_items : List TreeRoot → ℕ → Ids → ℕ → ℕ → List Item
-root_items list index ids now nodesize = merged (map (root_item ids nodesize) list) (other_root_items index now)
+root_items list index ids now nodesize = merged (map (tree_root_item ids nodesize) list) (other_root_items index now)
 
 -- from `first` on, the items up to `next` are before the key, and the one at `next` is not
 pub record AreBefore (items : List Item) (first : ℕ) (key : Key) (next : ℕ) : Type 0 where

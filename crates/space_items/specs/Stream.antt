@@ -7,7 +7,7 @@ use Rattle.btr_tree.specs.csum_kinds.Kind.{kind_width}
 use Rattle.btr_tree.specs.csum_kinds.declared.kind.SumKind.{SumKind}
 use Rattle.space_items.specs.Merging.{merged}
 use Rattle.unit_plan.specs.Sums.{sums_in_item}
-use Rattle.unit_plan.specs.declared.chunk.Chunk.{Chunk}
+use Rattle.unit_plan.specs.declared.chunk.PlannedChunk.{PlannedChunk}
 use Rattle.unit_plan.specs.declared.piece.Piece.{Piece}
 use Rattle.space_items.specs.declared.extent_stream.ExtentStream.{ExtentStream}
 use Rattle.space_items.specs.declared.extent_stream.Next.{Next}
@@ -64,7 +64,7 @@ pub record FitsExtents (s : ExtentStream) (pieces : List Piece) (nodes : List Tr
   pub piece_within : s.piece ≤ length pieces
 
 -- a chunk's group has what extents take of it
-abbrev pub group_of : List Piece → List TreeNode → ℕ → Chunk → Group
+abbrev pub group_of : List Piece → List TreeNode → ℕ → PlannedChunk → Group
 group_of pieces nodes nodesize c = record { chunk = c; used = used_in pieces nodes nodesize c }
 
 -- an item that comes next
@@ -117,15 +117,15 @@ pub record FitsSums (s : SumStream) (pieces : List Piece) : Type 0 where
   pub room : s.length ≤ length s.bytes.items
 
 -- how many blocks of a piece the next item has
-abbrev pub taken : SumStream → Piece → ℕ
-taken s p = min (p.count - s.done) (sums_in_item s.sums)
+abbrev pub blocks_taken : SumStream → Piece → ℕ
+blocks_taken s p = min (p.count - s.done) (sums_in_item s.sums)
 
 -- where a stream stands behind the next item of a piece
 abbrev pub behind : SumStream → Piece → ℕ × ℕ
-behind s p = if s.done + taken s p == p.count then (s.piece + 1, 0) else (s.piece, s.done + taken s p)
+behind s p = if s.done + blocks_taken s p == p.count then (s.piece + 1, 0) else (s.piece, s.done + blocks_taken s p)
 
 -- the next item of a piece was taken
-pub record IsTaken (old new : SumStream) (p : Piece) : Type 0 where
+pub record IsPieceTaken (old new : SumStream) (p : Piece) : Type 0 where
   pub sums : new.sums ≡ old.sums
   pub at : (new.piece, new.done) ≡ behind old p
   pub wide : length new.bytes.items ≡ length old.bytes.items

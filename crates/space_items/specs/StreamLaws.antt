@@ -5,7 +5,7 @@ use Rattle.btr_tree.specs.btr_node.Leaf.{Item, keys_of}
 use Rattle.btr_tree.specs.btr_node.Order.{Ascends}
 use Rattle.btr_tree.specs.csum_kinds.declared.kind.SumKind.{SumKind}
 use Rattle.unit_plan.specs.Chunks.{AreChunks}
-use Rattle.unit_plan.specs.declared.chunk.Chunk.{Chunk}
+use Rattle.unit_plan.specs.declared.chunk.PlannedChunk.{PlannedChunk}
 use Rattle.unit_plan.specs.declared.piece.Piece.{Piece}
 use Rattle.unit_plan.specs.declared.plan.Plan.{Plan}
 use Rattle.space_items.specs.Extents.{extent_items}
@@ -18,7 +18,7 @@ use Rattle.space_items.specs.declared.node.TreeNode.{TreeNode}
 -- of the extent tree's items a tree can be made
 abbrev pub ExtentItemsFit : Type 0
 ExtentItemsFit =
-    (plan : Plan) (blocks : ℕ) (chunks : List Chunk) (pieces : List Piece) (nodes : List TreeNode) (nodesize : ℕ) → AreChunks plan blocks chunks → ArePieces pieces → AreNodes nodes
+    (plan : Plan) (blocks : ℕ) (chunks : List PlannedChunk) (pieces : List Piece) (nodes : List TreeNode) (nodesize : ℕ) → AreChunks plan blocks chunks → ArePieces pieces → AreNodes nodes
     → FitTree (extent_items chunks pieces nodes nodesize)
 
 -- Items of which a tree can be made, though some are longer: their keys ascend, and each fits into a leaf of the smallest

@@ -2,6 +2,8 @@
 use Rattle.std.specs.Prelude.{ℕ, ◌+◌, ◌-◌, ◌*◌, ◌^◌, min, List, map, take}
 use Rattle.std.specs.Int.{div_ceil}
 use Rattle.std.specs.List.{flat_map, range_with_len}
+use Rattle.btrfs_format.specs.declared.key.TheConstants.{EXTENT_CSUM}
+use Rattle.btrfs_format.specs.declared.object.TheConstants.{EXTENT_CSUM_OBJECTID}
 use Rattle.btr_tree.specs.outside.History.{Image, block_at}
 use Rattle.btr_tree.specs.btr_keys.Key.{make_key}
 use Rattle.btr_tree.specs.btr_node.Leaf.{Item}
@@ -16,7 +18,7 @@ block_sum sums image b = take (kind_width sums) (kind_sum sums (block_at image b
 
 -- the checksums of so many blocks from one on
 abbrev pub sums_item : SumKind → Image → ℕ → ℕ → Item
-sums_item sums image first count = (make_key (2 ^ 64 - 10) 128 (4096 * first), flat_map (block_sum sums image) (range_with_len first count))
+sums_item sums image first count = (make_key EXTENT_CSUM_OBJECTID EXTENT_CSUM (4096 * first), flat_map (block_sum sums image) (range_with_len first count))
 
 -- The items of blocks from one on: each but the last one has as many as an item may have.
 abbrev pub run_items : SumKind → Image → ℕ → ℕ → List Item

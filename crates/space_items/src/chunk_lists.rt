@@ -1,39 +1,44 @@
 ghost use Rattle.std.specs.Prelude.{◌≡◌, ◌≤◌, ◌<◌, ◌+◌, ◌*◌, ◌^◌, ◌++◌, ◌∷◌, [], List, IfOk, OnOk};
 ghost use Rattle.std.specs.List.{sum_by};
 ghost use Rattle.unit_plan.specs.Chunks.{AreChunks, FitsVolume};
-ghost use Rattle.unit_plan.specs.declared.chunk.Chunk.{Chunk as ChunkOf};
+ghost use Rattle.unit_plan.specs.declared.chunk.PlannedChunk.{PlannedChunk as PlannedChunkOf};
 ghost use Rattle.space_items.specs.Chunks.{chunk_kind, chunk_body, chunk_item, chunk_items, device_body, dev_extent_item, device_items};
 
 use btr_item_list::{ItemList, key_of};
 use btr_space_items::{Chunk as ChunkBody, DevExtent, Device, Stripe};
 use btr_tree::{Ids, Memory};
+use btrfs_format::flag::{BLOCK_GROUP_DATA, BLOCK_GROUP_METADATA, BLOCK_GROUP_SYSTEM};
+use btrfs_format::key::{CHUNK_ITEM, DEV_EXTENT, DEV_ITEM};
+use btrfs_format::object::{
+    CHUNK_TREE, DEV_ITEMS_OBJECTID, EXTENT_TREE, FIRST_CHUNK_TREE_OBJECTID,
+};
 use std::alloc::Global;
-use unit_plan::{Chunk, Chunks, Plan, Role, chunks_of};
+use unit_plan::{Chunks, Plan, PlannedChunk, Role, chunks_of};
 
 /// The number of a chunk's use.
 pub fn chunk_kind(role: Role) -> u64
     ensures { result ≡ chunk_kind role }
 {
     match role {
-        Role::Data => 1,
-        Role::System => 2,
-        Role::Metadata => 4,
+        Role::Data => BLOCK_GROUP_DATA,
+        Role::System => BLOCK_GROUP_SYSTEM,
+        Role::Metadata => BLOCK_GROUP_METADATA,
     }
 }
 
 /// The body of a chunk's item: one stripe, on device 1, at the place that is its address.
-pub fn chunk_body(ids: &Ids, chunk: Chunk) -> ChunkBody
+pub fn chunk_body(ids: &Ids, chunk: PlannedChunk) -> ChunkBody
     requires { chunk.start + chunk.length ≤ 2 ^ 29 }
     ensures { result ≡ chunk_body ids.now chunk }
 {
-    let Chunk {
+    let PlannedChunk {
         start,
         length,
         role,
     } = chunk;
     ChunkBody {
         length: 4096 * length,
-        owner: 2,
+        owner: EXTENT_TREE,
         stripe_len: 65536,
         kind: chunk_kind(role),
         io_align: 4096,
@@ -89,13 +94,13 @@ fn chunk_blocks(chunks: &Chunks) -> u64
 pub fn chunks(alloc: Global, plan: &Plan, blocks: u64, ids: &Ids) -> Result<ItemList, Memory>
     requires small { blocks ≤ 2 ^ 29 }
     requires units { FitsVolume plan.now blocks }
-    ensures { (list : List ChunkOf) → AreChunks plan.now blocks list → IfOk result (λ items. items ≡ chunk_items ids.now blocks list) }
+    ensures { (list : List PlannedChunkOf) → AreChunks plan.now blocks list → IfOk result (λ items. items ≡ chunk_items ids.now blocks list) }
 {
     let chunks = chunks_of(alloc, plan, blocks)?;
     let mut items = ItemList::new(alloc);
     let mut body = [0; Device::SIZE];
     device_body(ids, blocks, &chunks).write(&mut body);
-    items.add(key_of(1, 216, 1), &body)?;
+    items.add(key_of(DEV_ITEMS_OBJECTID, DEV_ITEM, 1), &body)?;
     for i in 0..chunks.len() {
         add_chunk(&mut items, ids, chunks.get(i))?;
     }
@@ -103,20 +108,23 @@ pub fn chunks(alloc: Global, plan: &Plan, blocks: u64, ids: &Ids) -> Result<Item
 }
 
 /// Appends a chunk's item.
-fn add_chunk(items: &mut ItemList, ids: &Ids, chunk: Chunk) -> Result<(), Memory>
+fn add_chunk(items: &mut ItemList, ids: &Ids, chunk: PlannedChunk) -> Result<(), Memory>
     requires { chunk.start + chunk.length ≤ 2 ^ 29 }
     ensures { OnOk result (items.new ≡ items.old ++ chunk_item ids.now chunk ∷ []) }
 {
     let mut body = [0; ChunkBody::SIZE];
     chunk_body(ids, chunk).write(&mut body);
-    items.add(key_of(256, 228, 4096 * chunk.start), &body)
+    items.add(
+        key_of(FIRST_CHUNK_TREE_OBJECTID, CHUNK_ITEM, 4096 * chunk.start),
+        &body,
+    )
 }
 
 /// The items of the device tree: what each chunk takes of the device.
 pub fn devices(alloc: Global, plan: &Plan, blocks: u64, ids: &Ids) -> Result<ItemList, Memory>
     requires small { blocks ≤ 2 ^ 29 }
     requires units { FitsVolume plan.now blocks }
-    ensures { (list : List ChunkOf) → AreChunks plan.now blocks list → IfOk result (λ items. items ≡ device_items ids.now list) }
+    ensures { (list : List PlannedChunkOf) → AreChunks plan.now blocks list → IfOk result (λ items. items ≡ device_items ids.now list) }
 {
     let chunks = chunks_of(alloc, plan, blocks)?;
     let mut items = ItemList::new(alloc);
@@ -127,18 +135,18 @@ pub fn devices(alloc: Global, plan: &Plan, blocks: u64, ids: &Ids) -> Result<Ite
 }
 
 /// Appends what a chunk takes of the device.
-fn add_dev_extent(items: &mut ItemList, ids: &Ids, chunk: Chunk) -> Result<(), Memory>
+fn add_dev_extent(items: &mut ItemList, ids: &Ids, chunk: PlannedChunk) -> Result<(), Memory>
     requires { chunk.start + chunk.length ≤ 2 ^ 29 }
     ensures { OnOk result (items.new ≡ items.old ++ dev_extent_item ids.now chunk ∷ []) }
 {
     let extent = DevExtent {
-        chunk_tree: 3,
-        chunk_objectid: 256,
+        chunk_tree: CHUNK_TREE,
+        chunk_objectid: FIRST_CHUNK_TREE_OBJECTID,
         chunk_offset: 4096 * chunk.start,
         length: 4096 * chunk.length,
         chunk_tree_uuid: ids.chunk_tree,
     };
     let mut body = [0; DevExtent::SIZE];
     extent.write(&mut body);
-    items.add(key_of(1, 204, 4096 * chunk.start), &body)
+    items.add(key_of(1, DEV_EXTENT, 4096 * chunk.start), &body)
 }

@@ -3,16 +3,17 @@ ghost use Rattle.std.specs.Option.{MatchOption, option_map};
 ghost use Rattle.std.specs.List.{sum_by};
 ghost use Rattle.btr_tree.specs.btr_node.NodeSize.{IsNodeSize};
 ghost use Rattle.unit_plan.specs.Chunks.{AreChunks, FitsVolume};
-ghost use Rattle.unit_plan.specs.declared.chunk.Chunk.{Chunk as ChunkOf};
+ghost use Rattle.unit_plan.specs.declared.chunk.PlannedChunk.{PlannedChunk as PlannedChunkOf};
 ghost use Rattle.space_items.specs.Extents.{extent_items, used_in};
 ghost use Rattle.space_items.specs.Nodes.{AreNodes};
 ghost use Rattle.space_items.specs.Stream.{ArePieces, FitsExtents, IsSmallNext, extents_ahead, first_of, group_of};
 
 use crate::groups::{Group, Groups, groups_of};
 use crate::node::{NodeList, TreeNode};
-use crate::refs::{Body, node_body, piece_body};
+use crate::refs::{ExtentItemBody, node_body, piece_body};
 use btr_item_list::key_of;
 use btr_tree::{Key, Memory};
+use btrfs_format::key::{BLOCK_GROUP_ITEM, EXTENT_ITEM, METADATA_ITEM};
 use std::alloc::Global;
 use unit_plan::{Piece, PieceList, Plan, chunks_of};
 
@@ -26,7 +27,7 @@ pub struct ExtentStream {
     node: usize,
     piece: usize,
     key: Key,
-    body: Body,
+    body: ExtentItemBody,
 }
 
 /// What comes next.
@@ -53,8 +54,8 @@ pub fn extents<P: PieceList>(
     requires pieces { ArePieces (P.pieces pieces.now) }
     requires nodes { AreNodes nodes.now }
     ensures fits { IfOk result (λ s. FitsExtents s (P.pieces pieces.now) nodes.now) }
-    ensures all { (chunks : List ChunkOf) → AreChunks plan.now blocks chunks → IfOk result (λ s. extents_ahead s (P.pieces pieces.now) nodes.now ≡ extent_items chunks (P.pieces pieces.now) nodes.now nodesize) }
-    ensures groups { (chunks : List ChunkOf) → AreChunks plan.now blocks chunks → IfOk result (λ s. s.groups ≡ map (group_of (P.pieces pieces.now) nodes.now nodesize) chunks) }
+    ensures all { (chunks : List PlannedChunkOf) → AreChunks plan.now blocks chunks → IfOk result (λ s. extents_ahead s (P.pieces pieces.now) nodes.now ≡ extent_items chunks (P.pieces pieces.now) nodes.now nodesize) }
+    ensures groups { (chunks : List PlannedChunkOf) → AreChunks plan.now blocks chunks → IfOk result (λ s. s.groups ≡ map (group_of (P.pieces pieces.now) nodes.now nodesize) chunks) }
     ensures used { IfOk result (λ s. sum_by (λ g. g.used) s.groups < 2 ^ 64) }
 {
     let chunks = chunks_of(alloc, plan, blocks)?;
@@ -65,7 +66,7 @@ pub fn extents<P: PieceList>(
         node: 0,
         piece: 0,
         key: key_of(0, 0, 0),
-        body: Body::empty(),
+        body: ExtentItemBody::empty(),
     })
 }
 
@@ -78,19 +79,23 @@ impl Next {
         ensures { result ≡ (item_of_next self.now).0 }
     {
         match self {
-            Next::Group(group) => key_of(4096 * group.chunk.start, 192, 4096 * group.chunk.length),
-            Next::Node(node) => key_of(node.address, 169, node.level as u64),
-            Next::Piece(piece) => key_of(4096 * piece.place, 168, 4096 * piece.count),
+            Next::Group(group) => key_of(
+                4096 * group.chunk.start,
+                BLOCK_GROUP_ITEM,
+                4096 * group.chunk.length,
+            ),
+            Next::Node(node) => key_of(node.address, METADATA_ITEM, node.level as u64),
+            Next::Piece(piece) => key_of(4096 * piece.place, EXTENT_ITEM, 4096 * piece.count),
         }
     }
 
     /// The body of its item.
-    fn body(&self) -> Body
+    fn body(&self) -> ExtentItemBody
         requires { IsSmallNext self.now }
         ensures { result ≡ (item_of_next self.now).1 }
     {
         match self {
-            Next::Group(group) => Body::of(&group.body()),
+            Next::Group(group) => ExtentItemBody::of(&group.body()),
             Next::Node(node) => node_body(*node),
             Next::Piece(piece) => piece_body(piece),
         }

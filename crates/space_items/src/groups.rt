@@ -7,13 +7,14 @@ use crate::chunk_lists::chunk_kind;
 use crate::node::NodeList;
 use btr_space_items::BlockGroup;
 use btr_tree::{CopyList, Memory};
+use btrfs_format::object::FIRST_CHUNK_TREE_OBJECTID;
 use std::alloc::Global;
-use unit_plan::{Chunk, Chunks, PieceList};
+use unit_plan::{Chunks, PieceList, PlannedChunk};
 
 /// A chunk, and how many bytes of it extents take.
 #[derive(Clone, Copy)]
 pub struct Group {
-    pub chunk: Chunk,
+    pub chunk: PlannedChunk,
     pub used: u64,
 }
 
@@ -27,7 +28,7 @@ impl Group {
     {
         let group = BlockGroup {
             used: self.used,
-            chunk_objectid: 256,
+            chunk_objectid: FIRST_CHUNK_TREE_OBJECTID,
             flags: chunk_kind(self.chunk.role),
         };
         group.to_bytes()

@@ -3,7 +3,7 @@ ghost use Rattle.btr_tree.specs.btr_node.NodeSize.{IsNodeSize};
 ghost use Rattle.btr_tree.specs.Counting.{Counted};
 ghost use Rattle.btr_tree.specs.Roots.{lengths_of};
 ghost use Rattle.unit_plan.specs.Chunks.{AreChunks, FitsVolume};
-ghost use Rattle.unit_plan.specs.declared.chunk.Chunk.{Chunk as ChunkOf};
+ghost use Rattle.unit_plan.specs.declared.chunk.PlannedChunk.{PlannedChunk as PlannedChunkOf};
 ghost use Rattle.space_items.specs.Extents.{extent_items};
 ghost use Rattle.space_items.specs.Nodes.{AreNodes, HasSlots, merged_nodes, nodes_at, nodes_of_tree};
 ghost use Rattle.space_items.specs.Own.{IsOwnCount, own_at, own_bound, nodes_with_own};
@@ -12,11 +12,9 @@ ghost use Rattle.space_items.specs.Stream.{ArePieces};
 use crate::extent_stream::extents;
 use crate::node::{NodeList, TreeNode};
 use btr_tree::{Counter, Memory, Slots};
+use btrfs_format::object::EXTENT_TREE;
 use std::alloc::Global;
 use unit_plan::{PieceList, Plan};
-
-/// The number of the extent tree.
-const EXTENT_TREE: u64 = 2;
 
 /// How many nodes the extent tree has: the least number x for which the tree of `others` and of its own nodes at the first
 /// x slots of `rest` has x nodes. It is counted again from none until the number describes itself.
@@ -38,10 +36,10 @@ pub fn own_nodes<P: PieceList>(
     requires nodes { AreNodes others.now }
     requires slots { AllPairs (λ a b. a < b) rest.now }
     requires few { length others.now + length rest.now < 2 ^ 44 }
-    requires enough { (chunks : List ChunkOf) → AreChunks plan.now blocks chunks → own_bound chunks (P.pieces pieces.now) others.now nodesize ≤ length rest.now }
-    ensures count { (chunks : List ChunkOf) → AreChunks plan.now blocks chunks → IfOk result (λ x. IsOwnCount chunks (P.pieces pieces.now) others.now rest.now nodesize x) }
+    requires enough { (chunks : List PlannedChunkOf) → AreChunks plan.now blocks chunks → own_bound chunks (P.pieces pieces.now) others.now nodesize ≤ length rest.now }
+    ensures count { (chunks : List PlannedChunkOf) → AreChunks plan.now blocks chunks → IfOk result (λ x. IsOwnCount chunks (P.pieces pieces.now) others.now rest.now nodesize x) }
     ensures room { IfOk result (λ x. x ≤ length rest.now) }
-    ensures bound { (chunks : List ChunkOf) → AreChunks plan.now blocks chunks → IfOk result (λ x. x ≤ own_bound chunks (P.pieces pieces.now) others.now nodesize) }
+    ensures bound { (chunks : List PlannedChunkOf) → AreChunks plan.now blocks chunks → IfOk result (λ x. x ≤ own_bound chunks (P.pieces pieces.now) others.now nodesize) }
 {
     let mut count = 0;
     loop {
@@ -71,12 +69,12 @@ pub fn with_own<P: PieceList>(
     requires units { FitsVolume plan.now blocks }
     requires pieces { ArePieces (P.pieces pieces.now) }
     requires nodes { AreNodes others.now }
-    requires own { (chunks : List ChunkOf) → AreChunks plan.now blocks chunks → IsOwnCount chunks (P.pieces pieces.now) others.now rest.now nodesize count }
+    requires own { (chunks : List PlannedChunkOf) → AreChunks plan.now blocks chunks → IsOwnCount chunks (P.pieces pieces.now) others.now rest.now nodesize count }
     requires slots { AllPairs (λ a b. a < b) rest.now }
     requires few { length others.now + length rest.now < 2 ^ 44 }
     requires enough { count ≤ length rest.now }
     ensures fit { IfOk result AreNodes }
-    ensures nodes { (chunks : List ChunkOf) → AreChunks plan.now blocks chunks → IfOk result (λ nodes. nodes ≡ nodes_with_own chunks (P.pieces pieces.now) others.now rest.now nodesize count) }
+    ensures nodes { (chunks : List PlannedChunkOf) → AreChunks plan.now blocks chunks → IfOk result (λ nodes. nodes ≡ nodes_with_own chunks (P.pieces pieces.now) others.now rest.now nodesize count) }
 {
     let leaves = with_leaves(alloc, others, rest, count)?;
     let counter = counted(alloc, plan, pieces, &leaves, blocks, nodesize)?;
@@ -193,7 +191,7 @@ fn counted<P: PieceList>(
     requires pieces { ArePieces (P.pieces pieces.now) }
     requires nodes { AreNodes nodes.now }
     ensures size { IfOk result (λ c. c.nodesize ≡ nodesize) }
-    ensures lengths { (chunks : List ChunkOf) → AreChunks plan.now blocks chunks → IfOk result (λ c. Counted c (lengths_of (extent_items chunks (P.pieces pieces.now) nodes.now nodesize))) }
+    ensures lengths { (chunks : List PlannedChunkOf) → AreChunks plan.now blocks chunks → IfOk result (λ c. Counted c (lengths_of (extent_items chunks (P.pieces pieces.now) nodes.now nodesize))) }
 {
     let mut stream = extents(alloc, plan, pieces, nodes, blocks, nodesize)?;
     let mut counter = Counter::new(nodesize);

@@ -1,4 +1,4 @@
-ghost use Rattle.std.specs.Prelude.{◌≡◌, ◌≤◌, ◌<◌, ◌+◌, ◌^◌, ◌++◌, ◌∷◌, [], length};
+ghost use Rattle.std.specs.Prelude.{◌≡◌, ◌≤◌, ◌<◌, ◌+◌, ◌*◌, ◌^◌, ◌++◌, ◌∷◌, [], length};
 ghost use Rattle.std.specs.Option.{option_to_list};
 ghost use Rattle.btr_space_items.specs.ExtentHead.{extent_head_bytes};
 ghost use Rattle.btr_space_items.specs.InlineRef.{inline_ref_bytes, inline_ref_size};
@@ -8,20 +8,22 @@ ghost use Rattle.space_items.specs.Stream.{IsSmallPiece};
 use crate::node::TreeNode;
 use btr_space_items::{ExtentHead, InlineRef};
 use btr_tree::data_ref_hash;
+use btrfs_format::flag::{EXTENT_FLAG_DATA, EXTENT_FLAG_TREE_BLOCK};
+use btrfs_format::size::{EXTENT_ITEM_SIZE, INLINE_DATA_REF_SIZE};
 use std::marker::Model;
 use unit_plan::Piece;
 
 /// The most bytes that an item of the extent tree has: an extent of two references to data.
-pub const LONGEST: usize = 82;
+pub const LONGEST: usize = EXTENT_ITEM_SIZE + 2 * INLINE_DATA_REF_SIZE;
 
 /// The body of an item of the extent tree, seen as its bytes.
 #[derive(Drop)]
-pub struct Body {
+pub struct ExtentItemBody {
     bytes: [u8; LONGEST],
     length: usize,
 }
 
-impl Model for Body {
+impl Model for ExtentItemBody {
     ghost use Rattle.std.specs.Prelude.{◌≤◌, ℕ, List, take};
 
     ghost Value = { List ℕ };
@@ -31,32 +33,32 @@ impl Model for Body {
     ghost invariant = { λ b. b.length ≤ 82 };
 }
 
-impl Body {
+impl ExtentItemBody {
     /// No bytes.
-    pub fn empty() -> Body
+    pub fn empty() -> ExtentItemBody
         ensures { result ≡ [] }
     {
-        Body {
+        ExtentItemBody {
             bytes: [0; LONGEST],
             length: 0,
         }
     }
 
     /// These bytes, of which there are at most 82.
-    pub fn of(bytes: &[u8]) -> Body
+    pub fn of(bytes: &[u8]) -> ExtentItemBody
         requires { length bytes.now ≤ 82 }
         ensures { result ≡ bytes.now }
     {
         let mut room = [0; LONGEST];
         room[..bytes.len()].copy_from_slice(bytes);
-        Body {
+        ExtentItemBody {
             bytes: room,
             length: bytes.len(),
         }
     }
 
     /// The head of an extent, before its references.
-    fn begun(refs: u64, flags: u64) -> Body
+    fn begun(refs: u64, flags: u64) -> ExtentItemBody
         ensures bytes { result ≡ extent_head_bytes (record { refs = refs; generation = 1; flags = flags }) }
         ensures length { length result ≡ 24 }
     {
@@ -65,11 +67,11 @@ impl Body {
             generation: 1,
             flags,
         };
-        Body::of(&head.to_bytes())
+        ExtentItemBody::of(&head.to_bytes())
     }
 
     /// One reference more.
-    fn with(mut self, reference: InlineRef) -> Body
+    fn with(mut self, reference: InlineRef) -> ExtentItemBody
         requires { length self + inline_ref_size reference ≤ 82 }
         ensures bytes { result ≡ self ++ inline_ref_bytes reference }
         ensures length { length result ≡ length self + inline_ref_size reference }
@@ -90,20 +92,22 @@ impl Body {
 }
 
 /// The body of a node's extent.
-pub fn node_body(node: TreeNode) -> Body
+pub fn node_body(node: TreeNode) -> ExtentItemBody
     ensures { result ≡ (node_item node).1 }
 {
-    Body::begun(1, 2).with(InlineRef::TreeBlock { root: node.owner })
+    ExtentItemBody::begun(1, EXTENT_FLAG_TREE_BLOCK).with(InlineRef::TreeBlock { root: node.owner })
 }
 
 /// The body of a piece's extent. References stand by descending hash, and of equal ones that of tree 5 stands first.
-pub fn piece_body(piece: &Piece) -> Body
+pub fn piece_body(piece: &Piece) -> ExtentItemBody
     requires { IsSmallPiece piece.now }
     ensures { result ≡ (piece_item piece.now).1 }
 {
     match (owner_ref(piece), image_ref(piece)) {
-        (None, None) => Body::begun(0, 1),
-        (Some(one), None) | (None, Some(one)) => Body::begun(1, 1).with(one),
+        (None, None) => ExtentItemBody::begun(0, EXTENT_FLAG_DATA),
+        (Some(one), None) | (None, Some(one)) => ExtentItemBody::begun(1, EXTENT_FLAG_DATA).with(
+            one,
+        ),
         (Some(owner), Some(image)) => two_refs(owner, image),
     }
 }
@@ -127,11 +131,11 @@ fn image_ref(piece: &Piece) -> Option<InlineRef>
 }
 
 /// The body of an extent of data with two references, by descending hash. Of equal hashes the first one stands first.
-fn two_refs(first: InlineRef, other: InlineRef) -> Body
-    requires { inline_ref_size first + inline_ref_size other ≤ 58 }
-    ensures { result ≡ extent_body 1 (put_ref first (other ∷ [])) }
+fn two_refs(first: InlineRef, other: InlineRef) -> ExtentItemBody
+    requires { inline_ref_size first + inline_ref_size other ≤ 2 * INLINE_DATA_REF_SIZE }
+    ensures { result ≡ extent_body EXTENT_FLAG_DATA (put_ref first (other ∷ [])) }
 {
-    let body = Body::begun(2, 1);
+    let body = ExtentItemBody::begun(2, EXTENT_FLAG_DATA);
     if hash_of(first) < hash_of(other) {
         body.with(other).with(first)
     } else {

@@ -1,6 +1,6 @@
 ghost use Rattle.std.specs.Prelude.{◌≡◌, ◌≤◌, ◌<◌, ◌*◌, ◌^◌, ◌++◌, ◌∷◌, [], drop, slice_range, length, All, AllPairs, IfOk, OnOk};
 ghost use Rattle.btr_item_list.specs.Inodes.{inode_item, ref_item};
-ghost use Rattle.space_items.specs.Roots.{AreBefore, root_items, root_item, root_body, root_inode, root_dirid, tree_uuid, other_root_items, saved_ref, default_item};
+ghost use Rattle.space_items.specs.Roots.{AreBefore, root_items, tree_root_item, root_body, root_inode, root_dirid, tree_uuid, other_root_items, saved_ref, default_item};
 
 use crate::node::{RootList, TreeRoot};
 use btr_item_list::{
@@ -8,16 +8,19 @@ use btr_item_list::{
 };
 use btr_space_items::{RootItem, RootRef};
 use btr_tree::{DirEntry, Ids, Inode, InodeRef, Key, Memory, name_hash};
+use btrfs_format::flag::FT_DIR;
+use btrfs_format::key::{DIR_ITEM, ROOT_BACKREF, ROOT_ITEM, ROOT_REF};
+use btrfs_format::object::{
+    CONV_IMAGE_SUBVOL, FIRST_FREE_OBJECTID, FS_TREE, ROOT_TREE_DIR_OBJECTID,
+};
 use std::alloc::Global;
+use vol_block::DIRECTORY_MODE;
 
 /// The entry of tree 5's root that names the subvolume with the image.
 const SAVED: &[u8] = b"reiserfs_saved";
 
 /// The entry that names the tree to mount.
 const DEFAULT: &[u8] = b"default";
-
-/// The mode of a directory that only its owner may write.
-const DIRECTORY: u32 = 0o40755;
 
 /// The items of the root tree. `list` has the other trees, ascending by number, `index` is that of tree 5's entry
 /// `reiserfs_saved`, and `now` is the time of the conversion in seconds since the start of 1970, below 2^63.
@@ -39,7 +42,7 @@ pub fn roots(
     let mut next = 0;
     for i in 0..list.len() {
         let root = list.get(i);
-        let key = key_of(root.tree, 132, 0);
+        let key = key_of(root.tree, ROOT_ITEM, 0);
         next = add_before(&mut items, &others, next, key)?;
         add_root(&mut items, ids, nodesize, root)?;
     }
@@ -79,11 +82,11 @@ fn add_rest(items: &mut ItemList, others: &ItemList, first: usize) -> Result<(),
 /// Appends a root item.
 fn add_root(items: &mut ItemList, ids: &Ids, nodesize: u32, root: TreeRoot) -> Result<(), Memory>
     requires { nodesize * root.root.nodes < 2 ^ 64 }
-    ensures { OnOk result (items.new ≡ items.old ++ root_item ids.now nodesize root ∷ []) }
+    ensures { OnOk result (items.new ≡ items.old ++ tree_root_item ids.now nodesize root ∷ []) }
 {
     let mut body = [0; RootItem::SIZE];
     root_body(ids, nodesize, root).write(&mut body);
-    items.add(key_of(root.tree, 132, 0), &body)
+    items.add(key_of(root.tree, ROOT_ITEM, 0), &body)
 }
 
 /// What a root item has.
@@ -124,14 +127,22 @@ fn root_body(ids: &Ids, nodesize: u32, root: TreeRoot) -> RootItem
 fn uuid_of(ids: &Ids, tree: u64) -> [u8; 16]
     ensures { result ≡ tree_uuid ids.now tree }
 {
-    if tree == 256 { ids.subvolume } else { [0; 16] }
+    if tree == CONV_IMAGE_SUBVOL {
+        ids.subvolume
+    } else {
+        [0; 16]
+    }
 }
 
 /// The inode of the root directory of a tree that holds files, as tree 5 and those from 256 on; 0 for others.
 fn root_dirid(tree: u64) -> u64
     ensures { result ≡ root_dirid tree }
 {
-    if tree == 5 || tree >= 256 { 256 } else { 0 }
+    if tree == FS_TREE || tree >= FIRST_FREE_OBJECTID {
+        FIRST_FREE_OBJECTID
+    } else {
+        0
+    }
 }
 
 /// A root item has the inode of a directory in it, of which a kernel reads nothing.
@@ -143,7 +154,7 @@ fn root_inode(nodesize: u32) -> Inode
         transid: 0,
         size: 3,
         nbytes: nodesize as u64,
-        mode: DIRECTORY,
+        mode: DIRECTORY_MODE,
         ..new_inode()
     }
 }
@@ -156,15 +167,25 @@ fn other_items(alloc: Global, index: u64, now: u64) -> Result<ItemList, Memory>
     let mut items = ItemList::new(alloc);
     let mut body = Vec::new(alloc);
     let saved = saved_ref(index);
-    items.add(key_of(5, 156, 256), &saved)?;
-    add_inode(&mut items, 6, &inode_made(now, DIRECTORY, 0, 0, 0))?;
+    items.add(key_of(FS_TREE, ROOT_REF, CONV_IMAGE_SUBVOL), &saved)?;
+    add_inode(
+        &mut items,
+        ROOT_TREE_DIR_OBJECTID,
+        &inode_made(now, DIRECTORY_MODE, 0, 0, 0),
+    )?;
     let up = InodeRef {
         index: 0,
         name: b"..",
     };
-    add_ref(&mut items, &mut body, 6, 6, &up)?;
+    add_ref(
+        &mut items,
+        &mut body,
+        ROOT_TREE_DIR_OBJECTID,
+        ROOT_TREE_DIR_OBJECTID,
+        &up,
+    )?;
     add_default(&mut items, &mut body)?;
-    items.add(key_of(256, 144, 5), &saved)?;
+    items.add(key_of(CONV_IMAGE_SUBVOL, ROOT_BACKREF, FS_TREE), &saved)?;
     Ok(items)
 }
 
@@ -173,7 +194,7 @@ fn saved_ref(index: u64) -> [u8; 32]
     ensures { result ≡ saved_ref index }
 {
     let name = RootRef {
-        dirid: 256,
+        dirid: FIRST_FREE_OBJECTID,
         sequence: index,
         name: SAVED,
     };
@@ -187,13 +208,16 @@ fn add_default(items: &mut ItemList, body: &mut Vec<u8>) -> Result<(), Memory>
     ensures { OnOk result (items.new ≡ items.old ++ default_item ∷ []) }
 {
     let entry = DirEntry {
-        location: key_of(5, 132, u64::MAX),
+        location: key_of(FS_TREE, ROOT_ITEM, u64::MAX),
         transid: 1,
         data_length: 0,
-        kind: 2,
+        kind: FT_DIR,
         name: DEFAULT,
     };
     body.clear();
     put_dir_entry(body, &entry)?;
-    items.add(key_of(6, 84, name_hash(DEFAULT) as u64), body)
+    items.add(
+        key_of(ROOT_TREE_DIR_OBJECTID, DIR_ITEM, name_hash(DEFAULT) as u64),
+        body,
+    )
 }

@@ -9,11 +9,10 @@ ghost use Rattle.space_items.specs.Sums.{block_sum, sum_items, sums_item};
 
 use btr_item_list::key_of;
 use btr_tree::{Block, BlockSource, Fault, Key, Memory, SumKind, kind_sum, kind_width};
+use btrfs_format::key::EXTENT_CSUM;
+use btrfs_format::object::EXTENT_CSUM_OBJECTID;
 use std::alloc::Global;
 use unit_plan::{Piece, PieceList, sums_in_item};
-
-/// The object of all checksums of data.
-const SUMS: u64 = u64::MAX - 9;
 
 /// The items of the checksum tree, one after the other, ascending by key.
 ///
@@ -73,7 +72,7 @@ fn put_sum(body: &mut Vec<u8>, at: usize, sums: SumKind, block: &Block)
 }
 
 impl SumStream {
-    ghost use Rattle.space_items.specs.Stream.{ComesTo, IsAsBefore, IsTaken, sum_standing, taken};
+    ghost use Rattle.space_items.specs.Stream.{ComesTo, IsAsBefore, IsPieceTaken, sum_standing, blocks_taken};
 
     /// Goes to the next item, which stands then; false after the last one. After an error it is spent.
     pub fn advance<S: BlockSource, P: PieceList>(
@@ -110,13 +109,13 @@ impl SumStream {
         ensures kept { S.kept src.old src.new }
         ensures cause { HasCause (S.faults src.old) (S.faults src.new) result }
         ensures spent { self.new.spent ≡ self.old.spent }
-        ensures taken { OnOk result (IsTaken self.old self.new piece) }
-        ensures stands { OverTold S.tells (S.blocks src.old) (λ image. OnOk result (sum_standing self.new ≡ sums_item self.old.sums image (piece.place + self.old.done) (taken self.old piece))) }
+        ensures taken { OnOk result (IsPieceTaken self.old self.new piece) }
+        ensures stands { OverTold S.tells (S.blocks src.old) (λ image. OnOk result (sum_standing self.new ≡ sums_item self.old.sums image (piece.place + self.old.done) (blocks_taken self.old piece))) }
     {
         let first = piece.place + self.done;
         let count = (piece.count - self.done).min(sums_in_item(self.sums));
         self.fill(src, first, count)?;
-        self.key = key_of(SUMS, 128, 4096 * first);
+        self.key = key_of(EXTENT_CSUM_OBJECTID, EXTENT_CSUM, 4096 * first);
         self.done += count;
         if self.done == piece.count {
             self.piece += 1;

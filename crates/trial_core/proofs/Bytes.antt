@@ -1,16 +1,6 @@
 -- The blocks of a volume that hold bytes, and the mark of the used ones.
-use Rattle.std.proofs.Common.{◌≡◌, ℕ, ◌<◌, Bool, true, false, List, [], ◌∷◌, Contains, refl, ◌∙◌, ap}
-use Rattle.std.specs.Prelude.{slice_index}
-use Rattle.fs_rows.specs.Mark.{mark_of}
-use Rattle.reiser_volume.specs.reiser_volume_contents.Laws.{SameUsed}
-use Rattle.reiser_bitmap.specs.outside.History.{Image, block_at}
-use Rattle.reiser_bitmap.specs.Bits.{has, used_blocks}
+use Rattle.trial_core.proofs.Imports.{◌≡◌, ℕ, ◌<◌, Bool, true, false, List, [], ◌∷◌, Contains, refl, ◌∙◌, ap, slice_index, mark_of, SameUsed, Image, block_at, has, used_blocks, contains_head, contains_tail, used_of, HasBytes, numbered, used_mark, FreeAreBytes, UsedAreBytes}
 use Rattle.reiser_bitmap.proofs.MoreLaws.{used_had}
-use Rattle.reiser_bitmap.proofs.Ranges.{contains_head, contains_tail}
-use Rattle.reiser_volume.specs.Volume.{used_of}
-use Rattle.convert_core.specs.convert_trees_laws.Rows.{HasBytes}
-use Rattle.trial_core.specs.Parts.{numbered, used_mark}
-use Rattle.trial_core.specs.Round.{FreeAreBytes, UsedAreBytes}
 
 pub all_bytes : (image : Image) → UsedAreBytes image → FreeAreBytes image → HasBytes image
 all_bytes image used free b i = by (has (used_of image) b) refl

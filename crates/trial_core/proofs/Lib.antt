@@ -1,4 +1,5 @@
 pub mod Bytes
+pub mod Imports
 pub mod Marking
 pub mod Reading
 pub mod Refusing

@@ -1,13 +1,5 @@
 -- The used blocks of a volume, each with its number.
-use Rattle.std.proofs.Common.{◌≡◌, ℕ, ◌+◌, ◌<◌, Bool, true, false, List, [], ◌∷◌, ◌++◌, length, sym, ◌∙◌, ap, subst, arith, inl, inr, true≢false}
-use Rattle.std.specs.Prelude.{filter, slice_index}
-use Rattle.std.specs.List.{range_with_len}
-use Rattle.std.proofs.lemmas.Bool.{cases_lt}
-use Rattle.std.proofs.lemmas.List.{map-append}
-use Rattle.reiser_bitmap.specs.outside.History.{Image, block_at}
-use Rattle.reiser_bitmap.specs.Bits.{has, used_blocks}
-use Rattle.reiser_bitmap.proofs.Ranges.{filter_more_yes, filter_more_no}
-use Rattle.trial_core.specs.Parts.{numbered}
+use Rattle.trial_core.proofs.Imports.{◌≡◌, ℕ, ◌+◌, ◌<◌, Bool, true, false, List, [], ◌∷◌, ◌++◌, length, sym, ◌∙◌, ap, subst, arith, inl, inr, true≢false, filter, slice_index, range_with_len, cases_lt, map-append, Image, block_at, has, used_blocks, filter_more_yes, filter_more_no, numbered}
 
 -- the used ones before a block
 abbrev pub before : Image → List Bool → ℕ → List (ℕ × List ℕ)

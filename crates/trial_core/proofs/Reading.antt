@@ -1,6 +1,5 @@
 -- What an element that was read is.
-use Rattle.std.proofs.Common.{◌≡◌, ℕ, zero, suc, List, [], ◌∷◌, get_or, Some}
-use Rattle.std.specs.Prelude.{slice_get}
+use Rattle.trial_core.proofs.Imports.{◌≡◌, ℕ, zero, suc, List, [], ◌∷◌, get_or, Some, slice_get}
 
 pub got : {X : Type 0} (xs : List X) (i : ℕ) (x d : X) → slice_get xs i ≡ Some x → get_or xs i d ≡ x
 got [] i x d is = absurd (cc is)

@@ -1,29 +1,18 @@
 -- The answers of the steps, as those of a round and of a trial.
-use Rattle.std.proofs.Common.{◌≡◌, inl, inr, refl, sym, ◌∙◌, subst, None, Some}
-use Rattle.std.specs.Prelude.{◌≢◌}
-use Rattle.reiser_bitmap.specs.outside.History.{History, Image}
+use Rattle.trial_core.proofs.Imports.{◌≡◌, inl, inr, refl, sym, ◌∙◌, subst, None, Some, ◌≢◌, History, Image, Answer, HasBtrfsRows, IsRowsRefusal, RefusesBtrfsRows, has_log, unreadable, RefusesConvert, FrontsAreJudged, RefusalsBreakRules, IsAccepted, RefusedCanNotGoBack, CanGoBack, IsTrialReadAnswer, IsStop, LeavesRound, RefusesRound, StopsUnless, by_step, FreeAreBytes, plain}
 use Rattle.convert_core.specs.command_answers.Answers.{of_btrfs, of_volume}
-use Rattle.convert_core.specs.command_answers.declared.answer.Answer.{Answer}
-use Rattle.convert_core.specs.command_answers.declared.answer.Answer.TheVariants as answer
 use Rattle.reiser_bitmap.specs.refusals.declared.answer.BtrAnswer.{BtrAnswer}
-use Rattle.reiser_bitmap.specs.refusals.declared.answer.BtrAnswer.TheVariants as of_btr
 use Rattle.reiser_bitmap.specs.refusals.declared.answer.VolAnswer.{VolAnswer}
-use Rattle.reiser_bitmap.specs.refusals.declared.answer.VolAnswer.TheVariants as of_reiser
 use Rattle.reiser_bitmap.specs.refusals.declared.refusal.BtrRefusal.{BtrRefusal}
 use Rattle.reiser_bitmap.specs.vol_block.declared.format.Format.TheVariants.{Btrfs, Reiser}
-use Rattle.btr_reader.specs.Parts.{HasBtrfsRows, IsRowsRefusal, RefusesBtrfsRows, has_log, unreadable}
-use Rattle.convert_core.specs.Answers.{RefusesConvert}
 use Rattle.reiser_volume.specs.reiser_volume_contents.Answers.{IsFaultOrMemory}
 use Rattle.reiser_volume.specs.Answers.{RefusesVolume}
 use Rattle.reiser_volume.specs.Front.{RefusesFront}
-use Rattle.reiser_volume.specs.Laws.{FrontsAreJudged, RefusalsBreakRules}
-use Rattle.reiser_volume.specs.Volume.{IsAccepted}
 use Rattle.rollback_core.specs.RecoveryLaws.{InOrderHasFormat}
 use Rattle.rollback_core.specs.RollbackAnswers.{IsRollbackAnswer, RefusesRollback}
-use Rattle.rollback_core.specs.RollbackLaws.{RefusalsAreOfTouched}
-use Rattle.rollback_core.specs.volume_state.Untouched.{IsUntouched}
-use Rattle.trial_core.specs.Answers.{IsReadAnswer, IsStop, LeavesRound, RefusesRound, StopsUnless, by_step}
-use Rattle.trial_core.specs.Round.{FreeAreBytes, plain}
+use Rattle.convert_core.specs.command_answers.declared.answer.Answer.TheVariants as answer
+use Rattle.reiser_bitmap.specs.refusals.declared.answer.BtrAnswer.TheVariants as of_btr
+use Rattle.reiser_bitmap.specs.refusals.declared.answer.VolAnswer.TheVariants as of_reiser
 
 -- ---- of a conversion
 
@@ -43,13 +32,13 @@ convert_leaves old new _ same = tt
 
 -- ---- of a rollback
 
-pub rollback_refused : RefusalsAreOfTouched → (disk : Image) (e : Answer) → RefusesRollback disk e → StopsUnless (IsUntouched disk) (by_step e)
-rollback_refused touched disk (answer.NoSpace needed free run_needed longest) refused = absurd refused
-rollback_refused touched disk answer.Fault refused = inl (inl refl)
-rollback_refused touched disk answer.Memory refused = inl (inr refl)
-rollback_refused touched disk e refused = inr (refl, touched disk e refused (λ is. absurd (cc is)) (λ is. absurd (cc is)))
+pub rollback_refused : RefusedCanNotGoBack → (disk : Image) (e : Answer) → RefusesRollback disk e → StopsUnless (CanGoBack disk) (by_step e)
+rollback_refused can_not disk (answer.NoSpace needed free run_needed longest) refused = absurd refused
+rollback_refused can_not disk answer.Fault refused = inl (inl refl)
+rollback_refused can_not disk answer.Memory refused = inl (inr refl)
+rollback_refused can_not disk e refused = inr (refl, can_not disk e refused (λ is. absurd (cc is)) (λ is. absurd (cc is)))
 
-pub rollback_known : (e : Answer) → IsRollbackAnswer e → IsReadAnswer (by_step e)
+pub rollback_known : (e : Answer) → IsRollbackAnswer e → IsTrialReadAnswer (by_step e)
 rollback_known (answer.NoSpace needed free run_needed longest) known = absurd known
 rollback_known answer.Fault known = inl (inl refl)
 rollback_known answer.Memory known = inl (inr refl)
@@ -93,7 +82,7 @@ pub unless_refuses : {H : Type 0} (image : Image) (e : Answer) → StopsUnless H
 unless_refuses image e (inl stop) holds = stop_refuses image e stop
 unless_refuses image e (inr both) holds = subst (RefusesRound image) (sym both.0) (refl, λ free. both.1 (holds free))
 
-pub read_leaves : (old new : History) (e : Answer) → IsReadAnswer e → LeavesRound old new e
+pub read_leaves : (old new : History) (e : Answer) → IsTrialReadAnswer e → LeavesRound old new e
 read_leaves old new e (inl (inl is)) = subst (LeavesRound old new) (sym is) tt
 read_leaves old new e (inl (inr is)) = subst (LeavesRound old new) (sym is) tt
 read_leaves old new e (inr is) = subst (LeavesRound old new) (sym is) tt

@@ -1,28 +1,11 @@
 -- A conversion and a rollback, from the laws on each of them.
-use Rattle.std.proofs.Common.{◌≡◌, inl, inr, Result, Ok, Err, ℕ, ◌<◌, ◌^◌, Bool, true, List, map, refl, sym, ◌∙◌, ap, subst}
-use Rattle.std.specs.Prelude.{IfErr}
-use Rattle.std.specs.Result.{MatchResult}
-use Rattle.reiser_bitmap.specs.vol_block.declared.ids.Ids.{Ids}
-use Rattle.convert_core_laws.specs.going_back.Back.{ConvertedVolumesGoBack, GoesBack}
+use Rattle.trial_core.proofs.Imports.{◌≡◌, inl, inr, Result, Ok, Err, ℕ, ◌<◌, ◌^◌, Bool, true, List, map, refl, sym, ◌∙◌, ap, subst, IfErr, MatchResult, Ids, ConvertedVolumesGoBack, GoesBack, ListsBtrfs, IsConverted, WholeRow, row_of, Row, SameUsed, History, Image, Answer, has, used_of, summary_of, used_mark, TrialSummary, IsTrialReadAnswer, LeavesRound, RefusesRound, StopsUnless, AreReiser, FreeAreBytes, IsKnownVolume, IsRound, IsTrialSummary, UsedAreBytes, plain}
 use Rattle.btr_reader.specs.btr_node.NodeSize.{IsNodeSize}
 use Rattle.btr_reader.specs.Laws.{BtrfsRowsAreOne}
-use Rattle.btr_reader.specs.Parts.{ListsBtrfs}
-use Rattle.convert_core.specs.Converted.{IsConverted}
-use Rattle.fs_rows.specs.Rows.{WholeRow, row_of}
-use Rattle.fs_rows.specs.declared.row.Row.{Row}
-use Rattle.reiser_volume.specs.reiser_volume_contents.Laws.{SameUsed}
 use Rattle.convert_core_laws.specs.opening.Opens.{ConvertedVolumesOpen, OpensAsBefore}
-use Rattle.reiser_bitmap.specs.outside.History.{History, Image}
-use Rattle.convert_core.specs.command_answers.declared.answer.Answer.{Answer}
-use Rattle.reiser_bitmap.specs.Bits.{has}
-use Rattle.reiser_volume.specs.Volume.{used_of}
 use Rattle.rollback_core.specs.RolledBack.{IsRolledBack}
 use Rattle.convert_core.specs.space_items.Laws.{AreIds}
-use Rattle.trial_core.specs.Parts.{summary_of, used_mark}
-use Rattle.trial_core.specs.declared.summary.TrialSummary.{TrialSummary}
-use Rattle.trial_core.specs.Answers.{IsReadAnswer, LeavesRound, RefusesRound, StopsUnless}
-use Rattle.trial_core.specs.Round.{AreReiser, FreeAreBytes, IsKnown, IsRound, IsSummary, UsedAreBytes, plain}
-use Rattle.trial_core.specs.declared.known.Known.{Known}
+use Rattle.trial_core.specs.declared.known_volume.KnownVolume.{KnownVolume}
 use Rattle.trial_core.proofs.Bytes.{all_bytes, same_mark}
 use Rattle.trial_core.proofs.Refusing.{read_leaves, unless_refuses}
 
@@ -60,7 +43,7 @@ restored image between other goes rolled b used =
 -- ---- the steps
 
 -- on the way there
-pub there : ConvertedVolumesOpen → ConvertedVolumesGoBack → (ids : Ids) (now : ℕ) (image between : Image) (known : Known) → now < 2 ^ 63 → AreIds ids → IsKnown image known → IsConverted plain ids now image between
+pub there : ConvertedVolumesOpen → ConvertedVolumesGoBack → (ids : Ids) (now : ℕ) (image between : Image) (known : KnownVolume) → now < 2 ^ 63 → AreIds ids → IsKnownVolume image known → IsConverted plain ids now image between
     → (result : Result (Unit {0}) Answer) → MatchResult result (λ _. ListsBtrfs between known.rows) (StopsUnless (ListsBtrfs between known.rows))
     → MatchResult result (λ _. IsConverted plain ids now image between × ListsBtrfs between known.rows × (FreeAreBytes image → GoesBack image between)) (RefusesRound image)
 there opens back ids now image between known low are is c (Ok x) rows = (c, rows, λ free. gone_back ids now image between low are c is.bytes free back)
@@ -68,7 +51,7 @@ there opens back ids now image between known low are is c (Err e) rows =
     unless_refuses image e rows (λ free. has_rows image between known.rows is.rows (opened ids now image between low are c is.bytes free opens))
 
 -- and back
-pub back : (image between other : Image) (known : Known) → IsKnown image known → (FreeAreBytes image → GoesBack image between) → IsRolledBack between other
+pub back : (image between other : Image) (known : KnownVolume) → IsKnownVolume image known → (FreeAreBytes image → GoesBack image between) → IsRolledBack between other
     → (result : Result (Unit {0}) Answer) → MatchResult result (λ _. used_mark known.used other ≡ known.mark) (StopsUnless (used_mark known.used other ≡ known.mark))
     → MatchResult result (λ _. IsRolledBack between other × (used_mark (used_of image) other ≡ used_mark (used_of image) image)) (RefusesRound image)
 back image between other known is goes rolled (Ok x) mark = (rolled, ap (λ (u : List Bool). used_mark u other) (sym is.used) ∙ (mark ∙ is.mark))
@@ -77,13 +60,13 @@ back image between other known is goes rolled (Err e) mark =
     (λ free. ap (λ (u : List Bool). used_mark u other) is.used ∙ (same_mark (used_of image) image other (restored image between other (goes free) rolled) ∙ sym is.mark))
 
 -- what only reads leaves all of it
-pub reading_leaves : (old new : History) (result : Result (Unit {0}) Answer) → IfErr result IsReadAnswer → IfErr result (LeavesRound old new)
+pub reading_leaves : (old new : History) (result : Result (Unit {0}) Answer) → IfErr result IsTrialReadAnswer → IfErr result (LeavesRound old new)
 reading_leaves old new (Ok x) known = tt
 reading_leaves old new (Err e) known = read_leaves old new e known
 
 -- all of it
-pub round : (ids : Ids) (now : ℕ) (image between other : Image) (known : Known) (told : TrialSummary) → IsKnown image known → IsConverted plain ids now image between → ListsBtrfs between known.rows → IsRolledBack between other
-    → used_mark (used_of image) other ≡ used_mark (used_of image) image → told ≡ summary_of known.rows → IsRound ids now image other × IsSummary image told
+pub round : (ids : Ids) (now : ℕ) (image between other : Image) (known : KnownVolume) (told : TrialSummary) → IsKnownVolume image known → IsConverted plain ids now image between → ListsBtrfs between known.rows → IsRolledBack between other
+    → used_mark (used_of image) other ≡ used_mark (used_of image) image → told ≡ summary_of known.rows → IsRound ids now image other × IsTrialSummary image told
 round ids now image between other known told is c rows rolled blocks same = (
   record {
     between = between;

@@ -1,36 +1,17 @@
 -- A trial, from what is said of its steps.
-use Rattle.std.proofs.Common.{◌≡◌, inl, inr, ⊎_elim, Result, Ok, Err, ℕ, ◌<◌, ◌≤◌, false, ◌&&◌, List, length, map, sym, ◌∙◌, ap, subst, arith, true≢false}
-use Rattle.std.specs.Prelude.{IfErr, IsTrue, nat_lt, slice_index}
-use Rattle.std.specs.Result.{MatchResult}
-use Rattle.std.proofs.lemmas.Bool.{and_parts}
+use Rattle.trial_core.proofs.Imports.{◌≡◌, inl, inr, ⊎_elim, Result, Ok, Err, ℕ, ◌<◌, ◌≤◌, false, ◌&&◌, List, length, map, sym, ◌∙◌, ap, subst, arith, true≢false, IfErr, IsTrue, nat_lt, slice_index, MatchResult, and_parts, Ids, ConvertedVolumesGoBack, History, Image, IsSettled, WritesOnly, after, block_at, reads, synced, Answer, WholeRow, row_of, Row, has, RowsAreOne, used_of, RollbackKeeps, HasBytes, summary_of, TrialSummary, IsMakeAnswer, LeavesRefused, LeavesRound, RefusesRound, RefusesScratch, RefusesTrial, FreeAreBytes, IsRound, IsTrialSummary, IsSampleMade, IsScratch, IsTried, KeepsFree, needed_by, sample_on, trial_summary, synced_now}
 use Rattle.std.proofs.lemmas.Bool.Decides.{Decides-ltb}
-use Rattle.reiser_bitmap.specs.vol_block.declared.ids.Ids.{Ids}
-use Rattle.convert_core_laws.specs.going_back.Back.{ConvertedVolumesGoBack}
-use Rattle.reiser_bitmap.specs.outside.History.{History, Image, IsSettled, WritesOnly, after, block_at, reads, synced}
-use Rattle.convert_core.specs.command_answers.declared.answer.Answer.{Answer}
-use Rattle.convert_core.specs.command_answers.declared.answer.Answer.TheVariants as answer
 use Rattle.reiser_bitmap.proofs.outside.Crash.{reads_only}
-use Rattle.fs_rows.specs.Rows.{WholeRow, row_of}
-use Rattle.fs_rows.specs.declared.row.Row.{Row}
-use Rattle.reiser_bitmap.specs.Bits.{has}
 use Rattle.reiser_make.specs.Layout.{IsUsed}
 use Rattle.reiser_make.specs.Maker.{usage_of}
 use Rattle.reiser_make.specs.Places.{is_taken}
 use Rattle.reiser_make.specs.Rows.{sample_rows}
 use Rattle.reiser_make.specs.Shape.{shape}
-use Rattle.reiser_volume.specs.Laws.{RowsAreOne}
-use Rattle.reiser_volume.specs.Volume.{used_of}
-use Rattle.rollback_core.specs.RollbackLaws.{RollbackKeeps}
-use Rattle.convert_core.specs.convert_trees_laws.Rows.{HasBytes}
 use Rattle.reiser_make_laws.specs.Laws.{SamplesMarkUsed}
 use Rattle.reiser_make_laws.specs.Rows.{IsAsDescribed, SamplesAreAsDescribed}
-use Rattle.trial_core.specs.Parts.{summary_of}
-use Rattle.trial_core.specs.declared.summary.TrialSummary.{TrialSummary}
-use Rattle.trial_core.specs.Answers.{IsMakeAnswer, LeavesRefused, LeavesRound, RefusesRound, RefusesScratch, RefusesTrial}
 use Rattle.trial_core.specs.Laws.{TriesKeep}
-use Rattle.trial_core.specs.Round.{FreeAreBytes, IsRound, IsSummary}
-use Rattle.trial_core.specs.Trial.{IsMade, IsScratch, IsTried, KeepsFree, needed_by, sample_on, summary}
 use Rattle.trial_core.proofs.Rounds.{gone_back, restored}
+use Rattle.convert_core.specs.command_answers.declared.answer.Answer.TheVariants as answer
 
 -- ---- what was made
 
@@ -52,10 +33,10 @@ synced_settled : (h : History) → IsSettled (after synced h)
 synced_settled h = λ b bytes waits. waits
 
 pub made_whole : SamplesAreAsDescribed → SamplesMarkUsed → (number : ℕ) (old mid new : History) → number ≤ 4000 → needed_by number ≤ 65536 → 65536 ≤ length (reads old) → reads mid ≡ sample_on number (reads old)
-    → WritesOnly (λ b _. IsUsed (usage_of (shape number false) 65536) b) old mid → new ≡ after synced mid → IsMade number old new
+    → WritesOnly (λ b _. IsUsed (usage_of (shape number false) 65536) b) old mid → new ≡ after synced mid → IsSampleMade number old new
 made_whole described marks number old mid new few room long written only settled =
     let is = described number false 65536 (reads old) (record { number_low = few; needed_low = room; blocks_low = omega arith; inside = long }) in
-    subst (IsMade number old) (sym settled)
+    subst (IsSampleMade number old) (sym settled)
     (record {
       written = written;
       settled = synced_settled mid;
@@ -63,12 +44,12 @@ made_whole described marks number old mid new few room long written only settled
       free = free_kept marks number old mid few room long written only;
     })
 
-pub free_bytes : (number : ℕ) (old new : History) → IsMade number old new → HasBytes (reads old) → FreeAreBytes (reads new)
+pub free_bytes : (number : ℕ) (old new : History) → IsSampleMade number old new → HasBytes (reads old) → FreeAreBytes (reads new)
 free_bytes number old new made bytes b free i = subst (λ (block : List ℕ). slice_index block i < 256) (sym (made.free b free)) (bytes b i)
 
 -- ---- what is told
 
-pub told_number : RowsAreOne → (number : ℕ) (old new : History) (told : TrialSummary) → IsMade number old new → IsSummary (reads new) told → told ≡ summary number
+pub told_number : RowsAreOne → (number : ℕ) (old new : History) (told : TrialSummary) → IsSampleMade number old new → IsTrialSummary (reads new) told → told ≡ trial_summary number
 told_number one number old new told made (rows, are, is) =
     is ∙ ap (λ (rs : List Row). summary_of rs) (are.2 ∙ ap (λ (whole : List WholeRow). map row_of whole) (one (reads new) made.described.accepted are.0 (sample_rows number) are.1 made.described.rows))
 
@@ -86,7 +67,7 @@ make_refuses number disk answer.Fault scratch known = tt
 make_refuses number disk answer.Memory scratch known = tt
 make_refuses number disk _ scratch known = absurd known
 
-module _ (number : ℕ) (old mid : History) (scratch : IsScratch (reads old)) (room : needed_by number ≤ 65536) (made : IsMade number old mid) where
+module _ (number : ℕ) (old mid : History) (scratch : IsScratch (reads old)) (room : needed_by number ≤ 65536) (made : IsSampleMade number old mid) where
   pub round_refuses : (e : Answer) → RefusesRound (reads mid) e → RefusesTrial number (reads old) e
   round_refuses (answer.Volume r) refused = (scratch.format, inr (refused.0, scratch.long, λ bytes. refused.1 (free_bytes number old mid made bytes)))
   round_refuses (answer.NoSpace needed free run_needed longest) refused =
@@ -95,17 +76,17 @@ module _ (number : ℕ) (old mid : History) (scratch : IsScratch (reads old)) (r
   round_refuses answer.Memory refused = tt
   round_refuses _ refused = absurd refused
 
-  pub round_leaves : (new : History) (e : Answer) → RefusesRound (reads mid) e → LeavesRound mid new e → LeavesRefused number old new e
+  pub round_leaves : (new : History) (e : Answer) → RefusesRound (reads mid) e → LeavesRound (synced_now mid) new e → LeavesRefused number old new e
   round_leaves new (answer.Volume r) refused leaves = (λ short. absurd (omega (arith, short, scratch.long)), λ bytes. absurd (refused.1 (free_bytes number old mid made bytes)))
   round_leaves new (answer.NoSpace needed free run_needed longest) refused leaves =
-      (λ many. absurd (omega (arith, many, room)), λ few. (ap reads leaves ∙ made.written, subst IsSettled (sym leaves) made.settled))
+      (λ many. absurd (omega (arith, many, room)), λ few. (ap reads leaves ∙ made.written, subst IsSettled (sym leaves) (synced_settled mid)))
   round_leaves new answer.Fault refused leaves = tt
   round_leaves new answer.Memory refused leaves = tt
   round_leaves new _ refused leaves = absurd refused
 
 -- ---- what is left
 
-pub tried : (number : ℕ) (ids : Ids) (now : ℕ) (old mid : History) (other : Image) → IsScratch (reads old) → needed_by number ≤ 65536 → IsMade number old mid → IsRound ids now (reads mid) other → IsTried number ids now (reads old) other
+pub tried : (number : ℕ) (ids : Ids) (now : ℕ) (old mid : History) (other : Image) → IsScratch (reads old) → needed_by number ≤ 65536 → IsSampleMade number old mid → IsRound ids now (reads mid) other → IsTried number ids now (reads old) other
 tried number ids now old mid other scratch room made round = record {
   scratch = scratch;
   room = room;
@@ -119,7 +100,7 @@ kept back keeps described number ids now disk other t few low are bytes =
     let is = described number false 65536 disk (record { number_low = few; needed_low = t.room; blocks_low = omega arith; inside = t.scratch.long }) in
     let free : FreeAreBytes sample = λ b free i. subst (λ (block : List ℕ). slice_index block i < 256) (sym (t.free b free)) (bytes b i) in
     let goes = gone_back ids now sample t.round.between low are t.round.converted t.round.bytes free back in
-    let volume = keeps.back t.round.between other t.round.rolled_back.untouched t.round.rolled_back.back in
+    let volume = keeps.back t.round.between other t.round.rolled_back.can t.round.rolled_back.back in
     record {
       accepted = volume.accepted;
       rows = (volume.rows (sample_rows number)).0 ((goes.volume.rows (sample_rows number)).0 is.rows);
@@ -128,13 +109,13 @@ kept back keeps described number ids now disk other t few low are bytes =
 
 -- ---- the end
 
-module _ (number : ℕ) (ids : Ids) (now : ℕ) (old mid new : History) (scratch : IsScratch (reads old)) (room : needed_by number ≤ 65536) (made : IsMade number old mid) where
-  pub tried_result : RowsAreOne → (result : Result TrialSummary Answer) → MatchResult result (λ told. IsRound ids now (reads mid) (reads new) × IsSummary (reads mid) told) (RefusesRound (reads mid))
-      → MatchResult result (λ told. IsTried number ids now (reads old) (reads new) × (told ≡ summary number)) (RefusesTrial number (reads old))
+module _ (number : ℕ) (ids : Ids) (now : ℕ) (old mid new : History) (scratch : IsScratch (reads old)) (room : needed_by number ≤ 65536) (made : IsSampleMade number old mid) where
+  pub tried_result : RowsAreOne → (result : Result TrialSummary Answer) → MatchResult result (λ told. IsRound ids now (reads mid) (reads new) × IsTrialSummary (reads mid) told) (RefusesRound (reads mid))
+      → MatchResult result (λ told. IsTried number ids now (reads old) (reads new) × (told ≡ trial_summary number)) (RefusesTrial number (reads old))
   tried_result one (Ok told) right = (tried number ids now old mid (reads new) scratch room made right.0, told_number one number old mid told made right.1)
   tried_result one (Err e) right = round_refuses number old mid scratch room made e right
 
-  pub leaves_result : (result : Result TrialSummary Answer) → MatchResult result (λ told. IsRound ids now (reads mid) (reads new) × IsSummary (reads mid) told) (RefusesRound (reads mid)) → IfErr result (LeavesRound mid new)
+  pub leaves_result : (result : Result TrialSummary Answer) → MatchResult result (λ told. IsRound ids now (reads mid) (reads new) × IsTrialSummary (reads mid) told) (RefusesRound (reads mid)) → IfErr result (LeavesRound (synced_now mid) new)
       → IfErr result (LeavesRefused number old new)
   leaves_result (Ok told) right leaves = tt
   leaves_result (Err e) right leaves = round_leaves number old mid scratch room made new e right leaves

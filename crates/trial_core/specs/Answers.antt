@@ -1,5 +1,6 @@
 -- What a trial and its steps may answer.
 use Rattle.std.specs.Prelude.{◌≡◌, ◌≢◌, ◌⊎◌, ◌≤◌, ◌<◌, ℕ, length}
+use Rattle.btrfs_format.specs.declared.block.TheConstants.{SUPER_BLOCK}
 use Rattle.reiser_bitmap.specs.outside.Format.{format_in}
 use Rattle.reiser_bitmap.specs.outside.History.{History, Image, IsSettled, reads}
 use Rattle.convert_core.specs.command_answers.declared.answer.Answer.{Answer}
@@ -18,7 +19,7 @@ use Rattle.trial_core.specs.Trial.{IsScratch, needed_by, sample_on}
 
 -- what is read is not what was written
 abbrev pub changed : Answer
-changed = answer.Volume (Damaged 16 Reread)
+changed = answer.Volume (Damaged SUPER_BLOCK Reread)
 
 abbrev pub by_step : Answer → Answer
 by_step (answer.NoSpace needed free run_needed longest) = answer.NoSpace needed free run_needed longest
@@ -38,8 +39,8 @@ abbrev pub IsStop : Answer → Type 0
 IsStop e = (e ≡ answer.Fault) ⊎ (e ≡ answer.Memory)
 
 -- what may be answered of what is only read, whatever the disk gives
-abbrev pub IsReadAnswer : Answer → Type 0
-IsReadAnswer e = IsStop e ⊎ (e ≡ changed)
+abbrev pub IsTrialReadAnswer : Answer → Type 0
+IsTrialReadAnswer e = IsStop e ⊎ (e ≡ changed)
 
 -- a call failed or memory was short, or this is not so of the volume that is read
 abbrev pub StopsUnless : Type 0 → Answer → Type 0
@@ -50,7 +51,7 @@ StopsUnless Holds e = IsStop e ⊎ ((e ≡ changed) × ¬ Holds)
 -- The answer where an accepted volume is not converted and rolled back: it has too little space. It is called changed only where one of the
 -- blocks that it leaves free tells no bytes.
 abbrev pub RefusesRound : Image → Answer → Type 0
-RefusesRound image (answer.Volume r) = (r ≡ Damaged 16 Reread) × ¬ FreeAreBytes image
+RefusesRound image (answer.Volume r) = (r ≡ Damaged SUPER_BLOCK Reread) × ¬ FreeAreBytes image
 RefusesRound image (answer.NoSpace needed free run_needed longest) = LacksSpace image plain needed free run_needed longest
 RefusesRound image answer.Fault = Unit {0}
 RefusesRound image answer.Memory = Unit {0}
@@ -58,7 +59,7 @@ RefusesRound image _ = ⊥
 
 -- what may be answered of a round whatever the disk gives
 abbrev pub IsRoundAnswer : Answer → Type 0
-IsRoundAnswer (answer.Volume r) = r ≡ Damaged 16 Reread
+IsRoundAnswer (answer.Volume r) = r ≡ Damaged SUPER_BLOCK Reread
 IsRoundAnswer (answer.NoSpace needed free run_needed longest) = Unit {0}
 IsRoundAnswer answer.Fault = Unit {0}
 IsRoundAnswer answer.Memory = Unit {0}
@@ -107,7 +108,7 @@ LacksRoom number disk needed free run_needed longest =
 -- It is called changed only where it tells blocks that are no bytes.
 abbrev pub RefusesTrial : ℕ → Image → Answer → Type 0
 RefusesTrial number disk (answer.Volume r) =
-    (format_in disk ≡ Neither) × (((r ≡ Short 65536 (length disk)) × (length disk < 65536)) ⊎ ((r ≡ Damaged 16 Reread) × (65536 ≤ length disk) × ¬ HasBytes disk))
+    (format_in disk ≡ Neither) × (((r ≡ Short 65536 (length disk)) × (length disk < 65536)) ⊎ ((r ≡ Damaged SUPER_BLOCK Reread) × (65536 ≤ length disk) × ¬ HasBytes disk))
 RefusesTrial number disk (answer.NoSpace needed free run_needed longest) = IsScratch disk × LacksRoom number disk needed free run_needed longest
 RefusesTrial number disk answer.WrongFormat = format_in disk ≢ Neither
 RefusesTrial number disk answer.Fault = Unit {0}
@@ -116,14 +117,14 @@ RefusesTrial number disk _ = ⊥
 
 -- what may be answered whatever the disk gives
 abbrev pub IsTrialAnswer : Answer → Type 0
-IsTrialAnswer (answer.Volume r) = ((device : ℕ) × (r ≡ Short 65536 device)) ⊎ (r ≡ Damaged 16 Reread)
+IsTrialAnswer (answer.Volume r) = ((device : ℕ) × (r ≡ Short 65536 device)) ⊎ (r ≡ Damaged SUPER_BLOCK Reread)
 IsTrialAnswer (answer.NoSpace needed free run_needed longest) = Unit {0}
 IsTrialAnswer answer.WrongFormat = Unit {0}
 IsTrialAnswer answer.Fault = Unit {0}
 IsTrialAnswer answer.Memory = Unit {0}
 IsTrialAnswer _ = ⊥
 
--- What a refusal leaves. Where the disk has a volume or too few blocks, and where the sample is too large for the volume, nothing was
+-- What a refusal leaves, by the history behind the first sync. Where the disk has a volume or too few blocks, and where the sample is too large for the volume, nothing was
 -- written. Where the sample leaves too little space for a conversion it stays, and has reached the device. After a failed call or want of
 -- memory any block may have been written.
 abbrev pub LeavesRefused : ℕ → History → History → Answer → Type 0

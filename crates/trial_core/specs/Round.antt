@@ -15,7 +15,7 @@ use Rattle.convert_options.specs.declared.options.UuidChoice.TheVariants as Uuid
 use Rattle.reiser_bitmap.specs.vol_block.declared.ids.Ids.{Ids}
 use Rattle.trial_core.specs.Parts.{summary_of, used_mark}
 use Rattle.trial_core.specs.declared.summary.TrialSummary.{TrialSummary}
-use Rattle.trial_core.specs.declared.known.Known.{Known}
+use Rattle.trial_core.specs.declared.known_volume.KnownVolume.{KnownVolume}
 
 -- a conversion for which nothing is asked
 abbrev pub plain : Options
@@ -58,7 +58,7 @@ pub record IsRound (ids : Ids) (now : ℕ) (image other : Image) : Type 0 where
 -- ---- what is known of the volume before
 
 -- its rows, its used blocks and their mark
-pub record IsKnown (image : Image) (known : Known) : Type 0 where
+pub record IsKnownVolume (image : Image) (known : KnownVolume) : Type 0 where
   pub rows : AreReiser image known.rows
   pub used : known.used ≡ used_of image
   pub mark : known.mark ≡ used_mark (used_of image) image
@@ -67,5 +67,5 @@ pub record IsKnown (image : Image) (known : Known) : Type 0 where
 -- ---- what is told
 
 -- what is told of a volume
-abbrev pub IsSummary : Image → TrialSummary → Type 0
-IsSummary image told = (rows : List Row) × AreReiser image rows × (told ≡ summary_of rows)
+abbrev pub IsTrialSummary : Image → TrialSummary → Type 0
+IsTrialSummary image told = (rows : List Row) × AreReiser image rows × (told ≡ summary_of rows)

@@ -34,7 +34,7 @@ abbrev pub KeepsFree : Image → Image → Type 0
 KeepsFree disk image = (b : ℕ) → has (used_of image) b ≡ false → block_at image b ≡ block_at disk b
 
 -- The sample was made, and has reached the disk. It is an accepted volume with the rows of its number, and no other block was written.
-pub record IsMade (number : ℕ) (old new : History) : Type 0 where
+pub record IsSampleMade (number : ℕ) (old new : History) : Type 0 where
   pub written : reads new ≡ sample_on number (reads old)
   pub settled : IsSettled new
   pub described : IsAsDescribed number (reads new)
@@ -48,5 +48,5 @@ pub record IsTried (number : ℕ) (ids : Ids) (now : ℕ) (disk other : Image) :
   pub round : IsRound ids now (sample_on number disk) other
 
 -- what is told of the trial of a number
-abbrev pub summary : ℕ → TrialSummary
-summary number = summary_of (map row_of (sample_rows number))
+abbrev pub trial_summary : ℕ → TrialSummary
+trial_summary number = summary_of (map row_of (sample_rows number))

@@ -8,7 +8,7 @@
 
 mod answers;
 mod between;
-mod known;
+mod known_volume;
 mod laws;
 mod making;
 mod marks;

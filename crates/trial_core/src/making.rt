@@ -1,8 +1,9 @@
 // The sample of a trial.
 ghost use Rattle.std.specs.Prelude.{◌≡◌, ◌≤◌, Some, IfErr, IsTrue, OnOk};
 ghost use Rattle.reiser_bitmap.specs.outside.Fault.{HasCauseOf};
+ghost use Rattle.first_sync.specs.Synced.{GoesOn};
 ghost use Rattle.trial_core.specs.Answers.{IsMakeAnswer, LeavesRound};
-ghost use Rattle.trial_core.specs.Trial.{IsMade, needed_by};
+ghost use Rattle.trial_core.specs.Trial.{IsSampleMade, needed_by};
 
 use crate::answers::make_answer;
 use crate::scratch::BLOCKS;
@@ -19,8 +20,9 @@ pub fn make_sample<D: Disk>(alloc: Global, number: u32, disk: &mut D) -> Result<
     requires inside { 65536 ≤ D.size disk.old }
     ensures open { D.opened disk.new ≡ D.opened disk.old }
     ensures size { D.size disk.new ≡ D.size disk.old }
+    ensures grows { IsTrue D.tells → GoesOn (D.history disk.old) (D.history disk.new) }
     ensures enough { OnOk result (needed_by number ≤ 65536) }
-    ensures made { IsTrue D.tells → OnOk result (IsMade number (D.history disk.old) (D.history disk.new)) }
+    ensures made { IsTrue D.tells → OnOk result (IsSampleMade number (D.history disk.old) (D.history disk.new)) }
     ensures leaves { IsTrue D.tells → IfErr result (LeavesRound (D.history disk.old) (D.history disk.new)) }
     ensures cause { HasCauseOf Answer.Fault (D.faults disk.old) (D.faults disk.new) result }
     ensures answers { IfErr result (IsMakeAnswer number) }

@@ -1,19 +1,9 @@
 -- No plan has more chunks than the bound.
-use Rattle.std.proofs.Common.{◌≡◌, ℕ, ◌+◌, ◌-◌, ◌*◌, ◌%◌, ◌^◌, ◌<◌, ◌≤◌, ◌&&◌, ◌||◌, ltb, leb, eqb, not, Bool, true, false, List, length, take, drop, get_or, refl, sym, ◌∙◌, ap, subst, arith, ⊎_elim}
-use Rattle.std.specs.Prelude.{Contains}
-use Rattle.std.specs.List.{filter, range_with_len}
-use Rattle.std.specs.Int.{div_ceil}
-use Rattle.std.proofs.lemmas.Bool.{cases_Bool, cases_lt, cases_eq, and_parts, and_from, and_left, or_cases, or_left, or_right, not-true, not_from_false, both_ways, eq-eqb, lt-ltb, le-leb, ltb-true, leb-true}
-use Rattle.std.proofs.lemmas.List.{length-map}
-use Rattle.reiser_bitmap.specs.Units.{is_free_unit, unit_count}
-use Rattle.reiser_bitmap.specs.Runs.{begins_run, run_from, maximal_runs, free_runs}
-use Rattle.reiser_bitmap.proofs.FreeUnits.{past_units}
-use Rattle.reiser_bitmap.proofs.Ranges.{range_contains, contains_range}
-use Rattle.unit_plan.specs.Choice.{holds_data, is_among, is_in, is_other, others, lowest_long, volume_units}
-use Rattle.unit_plan.proofs.Enough.{IsLowest, lowest_is, part_of, IsOther, other_is}
+use Rattle.unit_plan.proofs.Imports.{◌≡◌, ℕ, ◌+◌, ◌-◌, ◌*◌, ◌%◌, ◌^◌, ◌<◌, ◌≤◌, ◌&&◌, ◌||◌, ltb, leb, eqb, not, Bool, true, false, List, length, take, drop, get_or, refl, sym, ◌∙◌, ap, subst, arith, ⊎_elim, Contains, filter, range_with_len, div_ceil, cases_Bool, cases_lt, cases_eq, and_parts, and_from, and_left, or_cases, or_left, or_right, not-true, not_from_false, both_ways, eq-eqb, lt-ltb, le-leb, ltb-true, leb-true, length-map, is_free_unit, unit_count, begins_run, run_from, maximal_runs, free_runs, past_units, range_contains, contains_range, holds_data, is_among, is_in, is_other, others, usable_units}
+use Rattle.unit_plan.proofs.Enough.{IsLowest, part_of, IsOther, other_is}
 use Rattle.unit_plan.proofs.Sound.{others_ascend}
 use Rattle.unit_plan.proofs.Starts.{among_contains, contains_among, rank, ranked, rank_next, in_part, part_rank, free_no_data, data_there, odd_unit}
-use Rattle.unit_plan.proofs.Tallies.{tally, tally-is, tally_implied, tally_either, tally_one, tally_multiples, tally_from_one, tally_within, tally-zero, ends_run, tally_ends}
+use Rattle.unit_plan.proofs.Tallies.{tally, tally-is, tally_either, tally_one, tally_multiples, tally_from_one, tally_within, tally-zero, ends_run, tally_ends}
 
 -- the tests of a plan's lists
 abbrev pub role : List Bool → List ℕ → List ℕ → List ℕ → ℕ → Bool
@@ -225,22 +215,61 @@ module _ (used : List Bool) (first n m r : ℕ) (lowest : IsLowest used n first)
       and_off true b f = f
       and_off false b f = refl
 
-run_count : (used : List Bool) → tally (begins_run (is_free_unit used)) 0 (volume_units used) ≡ length (free_runs used)
+  -- behind a unit of the chunk tree or of the other trees stands one that no list of these has
+  pub behind : (v : ℕ) → is_among sys (v + 1) ≡ false → is_among meta (v + 1) ≡ false → (is_among sys v || is_among meta v) ≡ true → is_free_unit used v ≡ true → reason used first n next (v + 1) ≡ true
+  behind v no_system no_metadata t free' =
+      ⊎_elim
+      (λ (free : is_free_unit used (v + 1) ≡ true).
+      let inside : v + 1 < unit_count used = ⊎_elim (λ (h : v + 1 < unit_count used). h) (λ (past : unit_count used ≤ v + 1). absurd (both_ways (is_free_unit used (v + 1)) (past_units used (v + 1) past) free)) (cases_lt (v + 1) (unit_count used)) in
+      let out : is_in first n (v + 1) ≡ false =
+      ⊎_elim
+      (λ (on : is_in first n (v + 1) ≡ true).
+      let parts = and_parts (leb first (v + 1)) (ltb (v + 1) (first + n)) on in
+      absurd (both_ways (is_among sys (v + 1)) no_system (to_sys (v + 1) (leb-true first (v + 1) parts.0) (ltb-true (v + 1) (first + n) parts.1))))
+      (λ (off : is_in first n (v + 1) ≡ false). off)
+      (cases_Bool (is_in first n (v + 1))) in
+      ⊎_elim
+      (λ (system : is_among sys v ≡ true).
+      let range = in_sys v system in
+      let taken : is_in first n v ≡ true = and_from (leb first v) (ltb v (first + n)) (le-leb first v range.0) (lt-ltb v (first + n) range.1) in
+      single used first n next (v + 1) (is_end first n next (v + 1) (behind_system used first n v taken out)))
+      (λ (metadata : is_among meta v ≡ true).
+      let there = in_meta v metadata in
+      let passes = before used first n (v + 1) free out in
+      let place = rank_in used first n 0 m v there in
+      let follows : rank (is_other used first n) (v + 1) ≡ rank (is_other used first n) v + 1 = rank_next (is_other used first n) v (other_free used first n 0 m v there).passes in
+      ⊎_elim
+      (λ (lower : rank (is_other used first n) (v + 1) < 0 + m).
+      absurd (both_ways (is_among meta (v + 1)) no_metadata (to_meta (v + 1) (put_in used first n 0 m (v + 1) inside passes (omega arith) lower))))
+      (λ (last : 0 + m ≤ rank (is_other used first n) (v + 1)).
+      let at : rank (is_other used first n) (v + 1) ≡ m = omega (arith, last, place.1, follows) in
+      single used first n next (v + 1)
+      (is_next first n next (v + 1) (sym (sym (ap (λ (k : ℕ). get_or (others used first n) k 0) at) ∙ rank_at used first n (v + 1) inside passes))))
+      (cases_lt (rank (is_other used first n) (v + 1)) (0 + m)))
+      (or_cases (is_among sys v) (is_among meta v) t))
+      (λ (taken : is_free_unit used (v + 1) ≡ false).
+      let back : v + 1 - 1 ≡ v = omega arith in
+      or_right (eqb ((v + 1) % 1024) 0) _ (or_right (begins_run (is_free_unit used) (v + 1)) _ (or_left (ends_run (is_free_unit used) (v + 1)) _
+      (and_from (ltb 0 (v + 1) && is_free_unit used (v + 1 - 1)) (not (is_free_unit used (v + 1)))
+      (and_from (ltb 0 (v + 1)) (is_free_unit used (v + 1 - 1)) (lt-ltb 0 (v + 1) (omega arith)) (ap (is_free_unit used) back ∙ free')) (not_from_false _ taken)))))
+      (cases_Bool (is_free_unit used (v + 1)))
+
+run_count : (used : List Bool) → tally (begins_run (is_free_unit used)) 0 (usable_units used) ≡ length (free_runs used)
 unfolding free_runs maximal_runs
 run_count used =
-    tally_within (begins_run (is_free_unit used)) (unit_count used) (volume_units used) (omega arith) (λ u past. and_left (is_free_unit used u) _ (past_units used u past))
+    tally_within (begins_run (is_free_unit used)) (unit_count used) (usable_units used) (omega arith) (λ u past. and_left (is_free_unit used u) _ (past_units used u past))
     ∙ (tally-is (begins_run (is_free_unit used)) 0 (unit_count used)
     ∙ sym (length-map (filter (begins_run (is_free_unit used)) (range_with_len 0 (unit_count used))) (run_from (is_free_unit used) (unit_count used))))
 
-few_reasons : (used : List Bool) (first n next : ℕ) → 1 ≤ volume_units used
-    → tally (reason used first n next) 1 (volume_units used - 1) ≤ 2 * length (free_runs used) + 6 + div_ceil (length used) (2 ^ 18)
+few_reasons : (used : List Bool) (first n next : ℕ) → 1 ≤ usable_units used
+    → tally (reason used first n next) 1 (usable_units used - 1) ≤ 2 * length (free_runs used) + 6 + div_ceil (length used) (2 ^ 18)
 few_reasons used first n next some =
-    let t : ℕ = volume_units used in
+    let t : ℕ = usable_units used in
     let m : ℕ = t - 1 in
     let free = is_free_unit used in
     let multiple : ℕ → Bool = λ u. eqb (u % 1024) 0 in
     let cuts : tally multiple 1 m ≤ div_ceil t 1024 = omega (arith, tally_from_one multiple t some, tally_multiples t) in
-    let whole : div_ceil t 1024 ≡ div_ceil (length used) 262144 = omega arith in
+    let whole : div_ceil t 1024 ≤ div_ceil (length used) 262144 = omega arith in
     omega (
       arith,
       cuts,
@@ -266,11 +295,11 @@ few_reasons used first n next some =
     )
 
 -- every start of a chunk of a plan has a reason
-pub reasons_few : (used : List Bool) (first n next : ℕ) → tally (reason used first n next) 1 (volume_units used - 1) ≤ 2 * length (free_runs used) + 8 + div_ceil (length used) (2 ^ 18)
+pub reasons_few : (used : List Bool) (first n next : ℕ) → tally (reason used first n next) 1 (usable_units used - 1) ≤ 2 * length (free_runs used) + 8 + div_ceil (length used) (2 ^ 18)
 reasons_few used first n next =
     ⊎_elim
-    (λ (some : 0 < volume_units used). omega (arith, few_reasons used first n next some))
-    (λ (none : volume_units used ≤ 0).
-    let no_units : volume_units used - 1 ≡ 0 = omega arith in
+    (λ (some : 0 < usable_units used). omega (arith, few_reasons used first n next some))
+    (λ (none : usable_units used ≤ 0).
+    let no_units : usable_units used - 1 ≡ 0 = omega arith in
     omega (arith, ap (tally (reason used first n next) 1) no_units, tally-zero (reason used first n next) 1))
-    (cases_lt 0 (volume_units used))
+    (cases_lt 0 (usable_units used))

@@ -1,14 +1,6 @@
 -- Chunks, one after the other.
-use Rattle.std.proofs.Common.{◌≡◌, ◌≢◌, ◌⊎◌, ℕ, zero, suc, ◌+◌, ◌-◌, ◌*◌, ◌/◌, ◌%◌, ◌<◌, ◌≤◌, min, List, [], ◌∷◌, ◌++◌, length, get_or, Option, Some, None, inl, inr, refl, sym, ◌∙◌, ap, subst, arith, ⊎_elim}
-use Rattle.std.specs.Prelude.{All, AllPairs, Any, MatchOption}
-use Rattle.std.proofs.lemmas.Bool.{cases_eq, cases_lt}
-use Rattle.std.proofs.lemmas.List.{get_or_append_left, length_push}
-use Rattle.std.proofs.lemmas.List.Elements.{All-push}
+use Rattle.unit_plan.proofs.Imports.{◌≡◌, ◌≢◌, ◌⊎◌, ℕ, zero, suc, ◌+◌, ◌-◌, ◌*◌, ◌/◌, ◌%◌, ◌<◌, ◌≤◌, min, List, [], ◌∷◌, ◌++◌, length, get_or, Option, Some, None, inl, inr, refl, sym, ◌∙◌, ap, subst, arith, ⊎_elim, All, AllPairs, Any, MatchOption, cases_eq, cases_lt, get_or_append_left, length_push, All-push, PlannedChunk, Role, IsChunk, HoldsUnit, AreChunksBy, IsJoined, AreBegun, IsWithChunk, chunk_from}
 use Rattle.std.proofs.lemmas.List.Quantifiers.{all_pairs_push, Any-push}
-use Rattle.unit_plan.specs.declared.chunk.Chunk.{Chunk}
-use Rattle.unit_plan.specs.declared.chunk.Role.{Role}
-use Rattle.unit_plan.specs.Chunks.{IsChunk, HoldsUnit, AreChunksBy}
-use Rattle.unit_plan.specs.Dividing.{IsJoined, AreBegun, IsWithChunk, chunk_from}
 
 some_not_none : {X : Type 0} (x : X) → Some x ≡ None → ⊥
 some_not_none x e = subst (λ o. MatchOption o ⊥ (λ _. Unit {0})) e tt
@@ -38,7 +30,7 @@ module _ (role : ℕ → Option Role) (usable : ℕ) (inside : (u : ℕ) (r : Ro
       let at : v ≡ first + (v - first) = omega arith in
       ap role at ∙ same_role first (v - first) (λ w l h. joined w l (omega arith))
 
-  pub begun : (chunks : List Chunk) → chunks ≡ [] → AreBegun role usable 0 1 chunks
+  pub begun : (chunks : List PlannedChunk) → chunks ≡ [] → AreBegun role usable 0 1 chunks
   begun chunks none = subst (AreBegun role usable 0 1) (sym none) (record {
     each = λ k d h. absurd (omega arith);
     ascending = λ i j d l h. absurd (omega arith);
@@ -49,7 +41,7 @@ module _ (role : ℕ → Option Role) (usable : ℕ) (inside : (u : ℕ) (r : Ro
     apart = λ j. j.uncut refl;
   })
 
-  pub goes_on : (first u : ℕ) (chunks : List Chunk) → AreBegun role usable first u chunks → IsJoined role u → AreBegun role usable first (u + 1) chunks
+  pub goes_on : (first u : ℕ) (chunks : List PlannedChunk) → AreBegun role usable first u chunks → IsJoined role u → AreBegun role usable first (u + 1) chunks
   goes_on first u chunks so_far next = record {
     each = so_far.each;
     ascending = so_far.ascending;
@@ -60,7 +52,7 @@ module _ (role : ℕ → Option Role) (usable : ℕ) (inside : (u : ℕ) (r : Ro
     apart = so_far.apart;
   }
 
-  module _ (first u : ℕ) (chunks : List Chunk) (so_far : AreBegun role usable first u chunks) (ends : IsJoined role u → ⊥) where
+  module _ (first u : ℕ) (chunks : List PlannedChunk) (so_far : AreBegun role usable first u chunks) (ends : IsJoined role u → ⊥) where
     within : first < u
     within = so_far.within
 
@@ -68,7 +60,7 @@ module _ (role : ℕ → Option Role) (usable : ℕ) (inside : (u : ℕ) (r : Ro
     all_one v low high = one_role first u v so_far.joined low high
 
     module _ (r : Role) (is : role first ≡ Some r) where
-      abbrev c : Chunk
+      abbrev c : PlannedChunk
       c = chunk_from usable first u r
 
       here : 256 * first < usable
@@ -150,14 +142,14 @@ module _ (role : ℕ → Option Role) (usable : ℕ) (inside : (u : ℕ) (r : Ro
       apart = ends;
     }
 
-    pub ended : (new : List Chunk) → IsWithChunk chunks (role first) first u usable new → AreBegun role usable u (u + 1) new
+    pub ended : (new : List PlannedChunk) → IsWithChunk chunks (role first) first u usable new → AreBegun role usable u (u + 1) new
     ended new added =
         ⊎_elim
         (λ some. subst (AreBegun role usable u (u + 1)) (sym (subst (λ o. IsWithChunk chunks o first u usable new) some.1 added)) (with_chunk some.0 some.1))
         (λ none. subst (AreBegun role usable u (u + 1)) (sym (subst (λ o. IsWithChunk chunks o first u usable new) none added)) (without_chunk none))
         (cases_Option (role first))
 
-  pub divided : (first u units : ℕ) (chunks : List Chunk) → AreBegun role usable first u chunks → u ≡ units + 1 → usable ≤ 256 * units → AreChunksBy role usable chunks
+  pub divided : (first u units : ℕ) (chunks : List PlannedChunk) → AreBegun role usable first u chunks → u ≡ units + 1 → usable ≤ 256 * units → AreChunksBy role usable chunks
   divided first u units chunks so_far end past = record {
     each = so_far.each;
     ascending = so_far.ascending;

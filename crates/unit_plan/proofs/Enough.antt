@@ -1,18 +1,6 @@
 -- Where the units of a plan lie.
-use Rattle.std.proofs.Common.{◌≡◌, ℕ, ◌+◌, ◌-◌, ◌<◌, ◌≤◌, max, Bool, true, false, List, [], ◌∷◌, take, drop, get_or, cond, refl, sym, ◌∙◌, ap, subst, arith, ⊎_elim}
-use Rattle.std.specs.Prelude.{All, Contains}
-use Rattle.std.specs.List.{fold, filter, range_with_len}
-use Rattle.std.proofs.lemmas.Bool.{cases_Bool, cases_lt, leb-true, leb-false, both_ways}
-use Rattle.std.proofs.lemmas.List.{get_or-take, get_or-drop, length-take, length-drop}
-use Rattle.std.proofs.lemmas.List.FromFn.{length-range_with_len, get_or-range_with_len}
-use Rattle.std.proofs.lemmas.List.Elements.{Contains-get_or, All-contains}
-use Rattle.reiser_bitmap.specs.declared.runs.Run.{Run}
-use Rattle.reiser_bitmap.specs.Runs.{IsMaximalRun, AreMaximalRuns, free_runs}
-use Rattle.reiser_bitmap.specs.Units.{is_free_unit, unit_count}
-use Rattle.reiser_bitmap.proofs.FreeUnits.{past_units}
-use Rattle.reiser_bitmap.proofs.MaximalRuns.{runs_are_maximal}
-use Rattle.reiser_bitmap.proofs.Ranges.{filter_contains, range_contains}
-use Rattle.unit_plan.specs.Choice.{longest_run, is_long, lowest_long, is_other, others, volume_units}
+use Rattle.unit_plan.proofs.Imports.{◌≡◌, ℕ, ◌+◌, ◌-◌, ◌<◌, ◌≤◌, Bool, true, false, List, [], ◌∷◌, take, drop, get_or, cond, refl, sym, ◌∙◌, ap, subst, arith, ⊎_elim, All, Contains, fold, filter, range_with_len, cases_Bool, cases_lt, leb-true, leb-false, both_ways, get_or-take, get_or-drop, length-take, length-drop, length-range_with_len, get_or-range_with_len, Contains-get_or, All-contains, Run, IsMaximalRun, AreMaximalRuns, free_runs, is_free_unit, unit_count, past_units, runs_are_maximal, filter_contains, range_contains, longest_run, is_long, lowest_long, is_other, others, usable_units}
+use Rattle.std.proofs.Common.{max}
 
 abbrev none : Run
 none = record { first = 0; count = 0 }
@@ -86,14 +74,14 @@ other_is used first n u h =
     let kept = filter_contains (is_other used first n) (range_with_len 0 (unit_count used)) u h in
     record { inside = omega (arith, (range_contains 0 (unit_count used) u kept.0).1); passes = kept.1 }
 
-units_reach : (used : List Bool) → unit_count used ≤ volume_units used
+units_reach : (used : List Bool) → unit_count used ≤ usable_units used
 units_reach used = omega arith
 
 pub range_below : (first n m : ℕ) → first + n ≤ m → All (λ u. u < m) (range_with_len first n)
 range_below first n m inside = λ k d h.
     let few : k < n = omega (arith, h, length-range_with_len first n) in omega (arith, get_or-range_with_len first n k d few)
 
-pub others_below : (used : List Bool) (first n skip wanted : ℕ) → All (λ u. u < volume_units used) (take wanted (drop skip (others used first n)))
+pub others_below : (used : List Bool) (first n skip wanted : ℕ) → All (λ u. u < usable_units used) (take wanted (drop skip (others used first n)))
 others_below used first n skip wanted = λ k d h.
     let units : List ℕ = take wanted (drop skip (others used first n)) in
     let there : Contains units (get_or units k d) = Contains-get_or units k d h in

@@ -1,13 +1,5 @@
 -- Sets of units.
-use Rattle.std.proofs.Common.{◌≡◌, ℕ, ◌+◌, ◌<◌, ◌≤◌, ◌&&◌, ◌||◌, eqb, leb, ltb, Bool, true, false, List, length, take, set, get_or, replicate, refl, sym, ◌∙◌, ap, arith, ⊎_elim}
-use Rattle.std.specs.Prelude.{◌==◌}
-use Rattle.std.proofs.lemmas.Bool.{cases_eq, cases_lt, ne_eqb, eq-eqb, and_left, and_right, lt-ltb, le-ltb, le-leb, lt-leb}
-use Rattle.std.proofs.lemmas.List.{get_or-set_same, get_or-set_other, get_or-replicate, get_or_past, length-replicate}
-use Rattle.std.proofs.lemmas.List.Folds.{list_any_more}
-use Rattle.reiser_bitmap.specs.Bits.{has}
-use Rattle.reiser_bitmap.specs.declared.runs.Run.{Run}
-use Rattle.unit_plan.specs.Choice.{is_in, is_among, is_chosen}
-use Rattle.unit_plan.specs.Chunks.{is_in_runs}
+use Rattle.unit_plan.proofs.Imports.{◌≡◌, ℕ, ◌+◌, ◌<◌, ◌≤◌, ◌&&◌, ◌||◌, eqb, leb, ltb, Bool, true, false, List, length, take, set, get_or, replicate, refl, sym, ◌∙◌, ap, arith, ⊎_elim, ◌==◌, cases_eq, cases_lt, ne_eqb, eq-eqb, and_left, and_right, lt-ltb, le-ltb, le-leb, lt-leb, get_or-set_same, get_or-set_other, get_or-replicate, get_or_past, length-replicate, list_any_more, has, Run, is_in, is_among, is_chosen, is_in_runs}
 
 -- one unit more in a set
 pub has-insert : (xs : List Bool) (b u : ℕ) → b < length xs → has (set xs b true) u ≡ (has xs u || eqb b u)

@@ -1,20 +1,8 @@
 -- A plan has free units, and none twice.
-use Rattle.std.proofs.Common.{◌≡◌, ℕ, zero, suc, ◌+◌, ◌-◌, ◌<◌, ◌≤◌, ◌&&◌, leb, ltb, not, Bool, true, false, List, [], ◌++◌, length, take, drop, get_or, refl, sym, ◌∙◌, ap, subst, arith}
-use Rattle.std.specs.Prelude.{AllPairs}
-use Rattle.std.specs.List.{filter, range_with_len}
-use Rattle.std.proofs.lemmas.Bool.{and_parts, and_from, and_left, and_right, not-true, le-leb, lt-leb, lt-ltb, le-ltb, both_ways}
-use Rattle.std.proofs.lemmas.List.{get_or-take, get_or-drop, length-take, length-drop}
-use Rattle.std.proofs.lemmas.List.Elements.{filter-append}
-use Rattle.std.proofs.lemmas.List.Kept.{AllPairs-filter}
-use Rattle.std.proofs.lemmas.List.FromFn.{length-range_with_len, get_or-range_with_len}
+use Rattle.unit_plan.proofs.Imports.{◌≡◌, ℕ, zero, suc, ◌+◌, ◌-◌, ◌<◌, ◌≤◌, ◌&&◌, leb, ltb, not, Bool, true, false, List, [], ◌++◌, length, take, drop, get_or, refl, sym, ◌∙◌, ap, subst, arith, ⊎_elim, AllPairs, Contains, filter, range_with_len, and_parts, and_from, and_left, and_right, or_left, not-true, le-leb, lt-leb, lt-ltb, le-ltb, both_ways, cases_lt, ltb-true, get_or-take, get_or-drop, length-take, length-drop, filter-append, All-filter, All-contains, length-range_with_len, get_or-range_with_len, IsFreeUnit, is_free_unit, free_units, unit_count, AreMaximalRuns, IsInRun, IsMaximalRun, free_runs, Run, decides_free_unit, runs_are_maximal, range_cut, range_contains, contains_filter, all_from_contains, filter_range_same, filter_range_none, is_in, is_other, others, lowest_long, is_spare, spare_runs, usable_units, AreFreeUnits, AreLongRuns, AreUnitsApart, PlansAreSound, units_in, stays, staying}
 use Rattle.std.proofs.lemmas.List.{length-append}
-use Rattle.reiser_bitmap.specs.Units.{IsFreeUnit, is_free_unit, free_units, unit_count}
-use Rattle.reiser_bitmap.specs.Runs.{AreMaximalRuns, free_runs}
-use Rattle.reiser_bitmap.proofs.FreeUnits.{decides_free_unit}
-use Rattle.reiser_bitmap.proofs.MaximalRuns.{runs_are_maximal}
-use Rattle.reiser_bitmap.proofs.Ranges.{range_cut, range_contains, all_from_contains, filter_range_same, filter_range_none}
-use Rattle.unit_plan.specs.Choice.{is_in, is_other, others, lowest_long, is_unallocated, unallocated_runs, volume_units}
-use Rattle.unit_plan.specs.Laws.{AreFreeUnits, AreApart, PlansAreSound}
+use Rattle.std.proofs.lemmas.List.Kept.{AllPairs-filter}
+use Rattle.unit_plan.proofs.RunSums.{ascending_few, few_stay}
 use Rattle.unit_plan.proofs.Enough.{IsLowest, lowest_is, part_of, other_is}
 
 range_ascends : (a n : ℕ) → AllPairs (λ u v. u < v) (range_with_len a n)
@@ -100,7 +88,7 @@ part_free used first n skip wanted enough = record {
       (λ u h. let other = other_is used first n u (part_of skip wanted (others used first n) u h) in (decides_free_unit used u).0 (and_parts (is_free_unit used u) (not (is_in first n u)) other.passes).0);
 }
 
-system_apart : (used : List Bool) (first n skip wanted : ℕ) → AreApart (range_with_len first n) (take wanted (drop skip (others used first n)))
+system_apart : (used : List Bool) (first n skip wanted : ℕ) → AreUnitsApart (range_with_len first n) (take wanted (drop skip (others used first n)))
 system_apart used first n skip wanted = λ u a b.
     let other = other_is used first n u (part_of skip wanted (others used first n) u b) in
     let inside = range_contains first n u a in
@@ -108,7 +96,7 @@ system_apart used first n skip wanted = λ u a b.
     both_ways (is_in first n u) off (and_from (leb first u) (ltb u (first + n)) (le-leb first u inside.0) (lt-ltb u (first + n) inside.1))
 
 -- two parts of one ascending list, one behind the other
-parts_apart : (xs : List ℕ) (m r : ℕ) → AllPairs (λ u v. u < v) xs → AreApart (take m xs) (take r (drop m xs))
+parts_apart : (xs : List ℕ) (m r : ℕ) → AllPairs (λ u v. u < v) xs → AreUnitsApart (take m xs) (take r (drop m xs))
 parts_apart xs m r all = λ u a b.
     let i : ℕ = a.0 in
     let j : ℕ = b.0 in
@@ -120,11 +108,83 @@ parts_apart xs m r all = λ u a b.
     let apart : get_or xs i u < get_or xs (m + j) u = all i (m + j) u (omega arith) inside in
     omega (arith, low, high, apart)
 
-unallocated_past : (used : List Bool) (system metadata data_ : List ℕ) (u : ℕ) → volume_units used ≤ u → is_unallocated used system metadata data_ u ≡ false
-unallocated_past used system metadata data_ u past = and_right (ltb 0 u) _ (and_left (ltb u (volume_units used)) _ (le-ltb u (volume_units used) past))
+-- maximal runs that share a number are one
+record Meets (r s : Run) (u : ℕ) : Type 0 where
+  here : IsInRun r u
+  there : IsInRun s u
+
+none_before : (p : ℕ → Bool) (r s : Run) (u : ℕ) → IsMaximalRun p r → IsMaximalRun p s → Meets r s u → r.first ≤ s.first
+none_before p r s u one two at =
+    ⊎_elim
+    (λ (earlier : s.first < r.first).
+    absurd (both_ways (p (r.first - 1)) (one.before (r.first - 1) (omega (arith, earlier))) (two.all (r.first - 1) (omega (arith, earlier), omega (arith, earlier, at.here.0, at.there.1)))))
+    (λ (later : r.first ≤ s.first). later)
+    (cases_lt s.first r.first)
+
+none_behind : (p : ℕ → Bool) (r s : Run) (u : ℕ) → IsMaximalRun p r → IsMaximalRun p s → Meets r s u → s.first + s.count ≤ r.first + r.count
+none_behind p r s u one two at =
+    ⊎_elim
+    (λ (further : r.first + r.count < s.first + s.count).
+    absurd (both_ways (p (r.first + r.count)) one.behind (two.all (r.first + r.count) (omega (arith, at.here.1, at.there.0), further))))
+    (λ (short : s.first + s.count ≤ r.first + r.count). short)
+    (cases_lt (r.first + r.count) (s.first + s.count))
+
+one_run : (p : ℕ → Bool) (r s : Run) (u : ℕ) → IsMaximalRun p r → IsMaximalRun p s → IsInRun r u → IsInRun s u → s ≡ r
+one_run p r s u one two here there =
+    let at : Meets r s u = record { here = here; there = there } in
+    let back : Meets s r u = record { here = there; there = here } in
+    let first : s.first ≡ r.first = omega (arith, none_before p r s u one two at, none_before p s r u two one back) in
+    let count : s.count ≡ r.count = omega (arith, first, none_behind p r s u one two at, none_behind p s r u two one back) in
+    ap (λ (f : ℕ). let run : Run = record { first = f; count = s.count } in run) first ∙ ap (λ (c : ℕ). let run : Run = record { first = r.first; count = c } in run) count
+
+spare_past : (used : List Bool) (system metadata data_ : List ℕ) (u : ℕ) → usable_units used ≤ u → is_spare used system metadata data_ u ≡ false
+spare_past used system metadata data_ u past = and_right (ltb 0 u) _ (and_left (ltb u (usable_units used)) _ (le-ltb u (usable_units used) past))
+
+-- the runs of spare units
+module _ (used : List Bool) (system metadata data_ : List ℕ) where
+  abbrev spare : ℕ → Bool
+  spare = is_spare used system metadata data_
+
+  abbrev runs : List Run
+  runs = spare_runs used system metadata data_
+
+  pub spare_maximal : AreMaximalRuns spare runs
+  unfolding spare_runs
+  spare_maximal = runs_are_maximal spare (usable_units used) (spare_past used system metadata data_)
+
+  pub spare_inside : (r : Run) → IsMaximalRun spare r → r.first + r.count ≤ usable_units used
+  spare_inside r run =
+      let last : ℕ = r.first + r.count - 1 in
+      let t = run.all last (omega (arith, run.not_empty), omega (arith, run.not_empty)) in
+      let low : last < usable_units used = ltb-true last (usable_units used) (and_parts (ltb last (usable_units used)) _ (and_parts (ltb 0 last) _ t).1).0 in
+      omega (arith, low, run.not_empty)
+
+  pub spare_ascend : AllPairs (λ r s. r.first < s.first) runs
+  spare_ascend = λ i j d before h. let apart = spare_maximal.ascending i j d before h in omega (arith, apart)
+
+  pub spare_few : units_in runs ≤ usable_units used
+  spare_few =
+      let all : units_in runs ≤ usable_units used - 0 =
+      ascending_few runs 0 (usable_units used) spare_maximal.ascending (λ k d h. omega arith) (λ k d h. spare_inside (get_or runs k d) (spare_maximal.each k d h)) in
+      omega (arith, all)
+
+  few_runs : units_in runs ≤ 1024 → AreMaximalRuns spare (staying runs)
+  few_runs few = subst (AreMaximalRuns spare) (sym (few_stay runs (λ k d h. (spare_maximal.each k d h).not_empty) few)) spare_maximal
+
+  long_runs : AreLongRuns spare (staying runs)
+  unfolding staying
+  long_runs = record {
+    each = All-filter (stays runs) (IsMaximalRun spare) runs spare_maximal.each;
+    ascending = AllPairs-filter (λ r s. r.first + r.count < s.first) (stays runs) runs spare_maximal.ascending;
+    long = λ r run enough.
+        let found = spare_maximal.whole r.first (run.all r.first (omega arith, omega (arith, run.not_empty))) in
+        let s : Run = found.1 in
+        let there : Contains runs s = (found.0, found.2, found.3) in
+        let same : s ≡ r = one_run spare r s r.first run (All-contains (IsMaximalRun spare) runs s spare_maximal.each there) (omega arith, omega (arith, run.not_empty)) found.4 in
+        contains_filter (stays runs) runs r (or_left (leb 256 r.count) _ (le-leb 256 r.count enough)) (subst (λ (t : Run). Contains runs t) same there);
+  }
 
 pub plans_sound : PlansAreSound
-unfolding unallocated_runs
 plans_sound = λ used need plan enough is.
     let n : ℕ = need.system in
     let first : ℕ = lowest_long n (free_runs used) in
@@ -137,7 +197,6 @@ plans_sound = λ used need plan enough is.
       system_metadata = rw (is.system, is.metadata) (system_apart used first n 0 need.metadata);
       system_data = rw (is.system, is.data_) (system_apart used first n need.metadata need.data_);
       metadata_data = rw (is.metadata, is.data_) (parts_apart (others used first n) need.metadata need.data_ (others_ascend used first n));
-      unallocated =
-          subst (AreMaximalRuns (is_unallocated used plan.system plan.metadata plan.data_)) (sym is.unallocated)
-          (runs_are_maximal (is_unallocated used plan.system plan.metadata plan.data_) (volume_units used) (unallocated_past used plan.system plan.metadata plan.data_));
+      unallocated = subst (AreLongRuns (is_spare used plan.system plan.metadata plan.data_)) (sym is.unallocated) (long_runs used plan.system plan.metadata plan.data_);
+      few = λ few. subst (AreMaximalRuns (is_spare used plan.system plan.metadata plan.data_)) (sym is.unallocated) (few_runs used plan.system plan.metadata plan.data_ few);
     }

@@ -1,18 +1,6 @@
 -- Why a chunk begins at a unit, and how often that can be.
-use Rattle.std.proofs.Common.{◌≡◌, ◌⊎◌, ℕ, suc, ◌+◌, ◌-◌, ◌*◌, ◌/◌, ◌<◌, ◌≤◌, ◌&&◌, ltb, eqb, not, Bool, true, false, List, [], ◌∷◌, ◌++◌, length, take, drop, get_or, inl, inr, refl, sym, ◌∙◌, ap, arith, length-append, ⊎_elim}
-use Rattle.std.specs.Prelude.{Contains, AllPairs}
-use Rattle.std.specs.List.{filter, range_with_len, list_any, list_all}
-use Rattle.std.proofs.lemmas.Bool.{cases_Bool, cases_lt, and_parts, and_from, and_cases, and_left, not-true, not_from_false, both_ways, eqb-true, eq-eqb, lt-ltb}
-use Rattle.std.proofs.lemmas.List.{get_or_at, get_or-take, get_or-drop, get_or_default, get_or_past, length-take, length-drop}
-use Rattle.std.proofs.lemmas.List.Elements.{filter-append}
-use Rattle.std.proofs.lemmas.List.Folds.{Any-from_list_any, list_any_at, list_any_none}
-use Rattle.reiser_bitmap.specs.vol_block.Volume.{IsReserved, is_reserved}
+use Rattle.unit_plan.proofs.Imports.{◌≡◌, ◌⊎◌, ℕ, suc, ◌+◌, ◌-◌, ◌*◌, ◌/◌, ◌<◌, ◌≤◌, ◌&&◌, ltb, eqb, not, Bool, true, false, List, [], ◌∷◌, ◌++◌, length, take, drop, get_or, inl, inr, refl, sym, ◌∙◌, ap, arith, length-append, ⊎_elim, Contains, AllPairs, filter, range_with_len, list_any, list_all, cases_Bool, cases_lt, and_parts, and_from, and_cases, and_left, not-true, not_from_false, both_ways, eqb-true, eq-eqb, lt-ltb, get_or_at, get_or-take, get_or-drop, get_or_default, get_or_past, length-take, length-drop, filter-append, Any-from_list_any, list_any_at, list_any_none, IsReserved, is_reserved, has, IsFreeUnit, is_free_block, are_free_blocks, is_free_unit, decides_free_unit, range_cut, range_contains, all_from_contains, is_data, holds_data, is_among}
 use Rattle.reiser_bitmap.proofs.vol_block.Reserved.{decides_reserved}
-use Rattle.reiser_bitmap.specs.Bits.{has}
-use Rattle.reiser_bitmap.specs.Units.{IsFreeUnit, is_free_block, are_free_blocks, is_free_unit}
-use Rattle.reiser_bitmap.proofs.FreeUnits.{decides_free_unit}
-use Rattle.reiser_bitmap.proofs.Ranges.{range_cut, range_contains, all_from_contains}
-use Rattle.unit_plan.specs.Choice.{is_data, holds_data, is_among}
 
 -- lists and their test
 pub among_contains : (xs : List ℕ) (u : ℕ) → is_among xs u ≡ true → Contains xs u

@@ -1,11 +1,5 @@
 -- How many numbers of a range pass a test.
-use Rattle.std.proofs.Common.{◌≡◌, ℕ, zero, suc, ◌+◌, ◌-◌, ◌%◌, ◌<◌, ◌≤◌, ◌&&◌, ◌||◌, ltb, eqb, not, Bool, true, false, List, [], ◌∷◌, ◌++◌, length, cond, refl, ◌∙◌, ap, arith, length-append, ⊎_elim}
-use Rattle.std.specs.List.{filter, range_with_len}
-use Rattle.std.specs.Int.{div_ceil}
-use Rattle.std.proofs.lemmas.Bool.{cases_Bool, cases_eq, eq-eqb, ne_eqb, lt-ltb}
-use Rattle.std.proofs.lemmas.List.Elements.{filter-append}
-use Rattle.reiser_bitmap.specs.Runs.{begins_run}
-use Rattle.reiser_bitmap.proofs.Ranges.{range_cut, filter_range_none}
+use Rattle.unit_plan.proofs.Imports.{◌≡◌, ℕ, zero, suc, ◌+◌, ◌-◌, ◌%◌, ◌<◌, ◌≤◌, ◌&&◌, ◌||◌, ltb, eqb, not, Bool, true, false, List, [], ◌∷◌, ◌++◌, length, cond, refl, ◌∙◌, ap, arith, length-append, ⊎_elim, filter, range_with_len, div_ceil, cases_Bool, cases_eq, eq-eqb, ne_eqb, lt-ltb, filter-append, begins_run, range_cut, filter_range_none}
 
 unfoldable pub tally : (ℕ → Bool) → ℕ → ℕ → ℕ
 tally p a n = length (filter p (range_with_len a n))

@@ -1,13 +1,5 @@
 -- What the sets of a plan's units tell.
-use Rattle.std.proofs.Common.{◌≡◌, ℕ, ◌*◌, ◌<◌, ◌&&◌, ◌||◌, ltb, not, Bool, true, false, List, replicate, Some, Option, refl, sym, ◌∙◌, ap, subst}
-use Rattle.std.specs.Prelude.{MatchOption}
-use Rattle.std.proofs.lemmas.Bool.{and_parts, ltb-true}
-use Rattle.reiser_bitmap.specs.Bits.{has}
-use Rattle.unit_plan.specs.declared.chunk.Role.{Role}
-use Rattle.unit_plan.specs.Chunks.{role_by, role_of, has_role, usable_end, is_in_runs}
-use Rattle.unit_plan.specs.Choice.{is_among}
-use Rattle.unit_plan.specs.Roles.{RoleSets, role_in}
-use Rattle.unit_plan.specs.declared.plan.Plan.{Plan}
+use Rattle.unit_plan.proofs.Imports.{◌≡◌, ℕ, ◌*◌, ◌<◌, ◌&&◌, ◌||◌, ltb, not, Bool, true, false, List, replicate, Some, Option, refl, sym, ◌∙◌, ap, subst, MatchOption, and_parts, ltb-true, has, Role, role_by, role_of, has_role, usable_end, is_in_runs, is_among, RoleSets, role_in, Plan}
 use Rattle.unit_plan.proofs.Sets.{empty_has}
 
 by_role : (r : Role) (b s m : Bool) → role_by b s m ≡ Some r → b ≡ true

@@ -1,5 +1,5 @@
 -- Which units of 1 MiB a conversion takes, and which stay without use.
-use Rattle.std.specs.Prelude.{◌≡◌, ℕ, ◌+◌, ◌*◌, ◌≤◌, ◌<◌, ◌^◌, max, nat_lt, nat_le, ◌==◌, Bool, not, ◌&&◌, ◌||◌, List, length, take, drop, slice_index_or}
+use Rattle.std.specs.Prelude.{◌≡◌, ℕ, ◌+◌, ◌*◌, ◌/◌, ◌≤◌, ◌<◌, ◌^◌, max, nat_lt, nat_le, ◌==◌, Bool, not, ◌&&◌, ◌||◌, List, length, take, drop, slice_index_or}
 use Rattle.std.specs.List.{fold, filter, list_any, range_with_len}
 use Rattle.std.specs.Int.{div_ceil}
 use Rattle.reiser_bitmap.specs.vol_block.Volume.{is_reserved}
@@ -7,6 +7,7 @@ use Rattle.reiser_bitmap.specs.declared.runs.Run.{Run}
 use Rattle.reiser_bitmap.specs.Bits.{has}
 use Rattle.reiser_bitmap.specs.Units.{is_free_unit, free_units, unit_count}
 use Rattle.reiser_bitmap.specs.Runs.{free_runs, maximal_runs}
+use Rattle.unit_plan.specs.Staying.{staying}
 use Rattle.unit_plan.specs.declared.need.Need.{Need}
 use Rattle.unit_plan.specs.declared.plan.Plan.{Plan}
 use Rattle.unit_plan.specs.declared.plan.PlanAnswer.{PlanAnswer}
@@ -40,9 +41,13 @@ is_other used first n u = is_free_unit used u && not (is_in first n u)
 unfoldable pub others : List Bool → ℕ → ℕ → List ℕ
 others used first n = filter (is_other used first n) (range_with_len 0 (unit_count used))
 
--- the units that a volume reaches into
-abbrev pub volume_units : List Bool → ℕ
-volume_units used = div_ceil (length used) 256
+-- Where the blocks end that a chunk may hold: those behind the last multiple of 64 KiB are reserved.
+abbrev pub usable_end : ℕ → ℕ
+usable_end blocks = 16 * (blocks / 16)
+
+-- how many units have such blocks
+abbrev pub usable_units : List Bool → ℕ
+usable_units used = div_ceil (usable_end (length used)) 256
 
 abbrev pub is_data : List Bool → ℕ → Bool
 is_data used b = has used b && not (is_reserved b (length used))
@@ -58,22 +63,22 @@ is_among units u = list_any (λ v. v == u) units
 unfoldable pub is_chosen : List ℕ → List ℕ → List ℕ → ℕ → Bool
 is_chosen system metadata data_ u = is_among system u || (is_among metadata u || is_among data_ u)
 
--- Unit 0 is reserved. Any other unit of the volume that is neither chosen nor holds data has no use.
-abbrev pub is_unallocated : List Bool → List ℕ → List ℕ → List ℕ → ℕ → Bool
-is_unallocated used system metadata data_ u =
-    nat_lt 0 u && (nat_lt u (volume_units used) && not (is_chosen system metadata data_ u || holds_data used u))
+-- A spare unit has no use: it is neither chosen nor holds data. Unit 0 is reserved, and so is no spare one.
+abbrev pub is_spare : List Bool → List ℕ → List ℕ → List ℕ → ℕ → Bool
+is_spare used system metadata data_ u =
+    nat_lt 0 u && (nat_lt u (usable_units used) && not (is_chosen system metadata data_ u || holds_data used u))
 
--- the maximal runs of units without use
-unfoldable pub unallocated_runs : List Bool → List ℕ → List ℕ → List ℕ → List Run
-unallocated_runs used system metadata data_ = maximal_runs (is_unallocated used system metadata data_) (volume_units used)
+-- the maximal runs of spare units
+unfoldable pub spare_runs : List Bool → List ℕ → List ℕ → List ℕ → List Run
+spare_runs used system metadata data_ = maximal_runs (is_spare used system metadata data_) (usable_units used)
 
 -- The plan whose units for the chunk tree begin at a first one: of the other free units the first are for metadata and the
--- next for data, and the rest has no use unless it holds data.
+-- next for data. The spare units stay unallocated where they lie in a run that stays, and are for data elsewhere.
 pub record IsPlanAt (used : List Bool) (need : Need) (first : ℕ) (plan : Plan) : Type 0 where
   pub system : plan.system ≡ range_with_len first need.system
   pub metadata : plan.metadata ≡ take need.metadata (others used first need.system)
   pub data_ : plan.data_ ≡ take need.data_ (drop need.metadata (others used first need.system))
-  pub unallocated : plan.unallocated ≡ unallocated_runs used plan.system plan.metadata plan.data_
+  pub unallocated : plan.unallocated ≡ staying (spare_runs used plan.system plan.metadata plan.data_)
 
 -- The plan for a volume: the units for the chunk tree are the first ones of the lowest run that is long enough.
 abbrev pub IsPlan : List Bool → Need → Plan → Type 0
@@ -92,7 +97,7 @@ IsAnswer used need (NoSpace needed free run_needed longest) = TellsSpace used ne
 IsAnswer used need Memory = Unit {0}
 
 -- numbers of units that can be added
-pub record IsSmall (need : Need) : Type 0 where
+pub record IsSmallNeed (need : Need) : Type 0 where
   pub system : need.system < 2 ^ 60
   pub metadata : need.metadata < 2 ^ 60
   pub data_ : need.data_ < 2 ^ 60

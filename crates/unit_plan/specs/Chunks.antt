@@ -1,19 +1,16 @@
 -- The chunks that a plan makes of a volume, by the plan and the number of blocks alone.
-use Rattle.std.specs.Prelude.{◌≡◌, ◌≢◌, ◌⊎◌, ℕ, ◌+◌, ◌-◌, ◌*◌, ◌/◌, ◌%◌, ◌≤◌, ◌<◌, ◌==◌, nat_lt, nat_le, min, Bool, not, ◌&&◌, ◌||◌, if◌then◌else◌, List, length, Option, Some, None, All, AllPairs, Any}
+use Rattle.std.specs.Prelude.{◌≡◌, ◌≢◌, ◌⊎◌, ℕ, ◌+◌, ◌*◌, ◌%◌, ◌≤◌, ◌<◌, nat_lt, min, Bool, not, ◌&&◌, ◌||◌, if◌then◌else◌, List, length, Option, Some, None, All, AllPairs, Any}
 use Rattle.std.specs.List.{list_any}
 use Rattle.reiser_bitmap.specs.Runs.{free_runs}
 use Rattle.reiser_bitmap.specs.declared.runs.Run.{Run}
-use Rattle.unit_plan.specs.declared.chunk.Chunk.{Chunk}
+use Rattle.unit_plan.specs.declared.chunk.PlannedChunk.{PlannedChunk}
 use Rattle.unit_plan.specs.declared.chunk.Role.{Role}
 use Rattle.unit_plan.specs.declared.chunk.Role.TheVariants.{System, Metadata, Data}
 use Rattle.unit_plan.specs.declared.need.Need.{Need}
 use Rattle.unit_plan.specs.declared.plan.Plan.{Plan}
-use Rattle.unit_plan.specs.Choice.{HasEnoughSpace, IsPlan, is_in, is_among, holds_data, volume_units}
+pub use Rattle.unit_plan.specs.Choice.{usable_end}
+use Rattle.unit_plan.specs.Choice.{HasEnoughSpace, IsPlan, is_in, is_among, holds_data, is_spare}
 use Rattle.unit_plan.specs.Needed.{chunk_bound}
-
--- Where the blocks end that a chunk may hold: those behind the last multiple of 64 KiB are reserved.
-abbrev pub usable_end : ℕ → ℕ
-usable_end blocks = 16 * (blocks / 16)
 
 -- a unit of one of the runs
 abbrev pub is_in_runs : List Run → ℕ → Bool
@@ -32,7 +29,7 @@ role_of plan blocks u = role_by (has_role plan blocks u) (is_among plan.system u
 
 -- A chunk: units from a first one to before an end, all of one role. It begins at a multiple of 1024 units or behind a unit
 -- of another role, and ends before one; where the usable blocks end within its last unit, it ends with them.
-pub record IsChunk (role : ℕ → Option Role) (usable : ℕ) (c : Chunk) : Type 0 where
+pub record IsChunk (role : ℕ → Option Role) (usable : ℕ) (c : PlannedChunk) : Type 0 where
   pub first : ℕ
   pub end : ℕ
   pub some : first < end
@@ -45,17 +42,17 @@ pub record IsChunk (role : ℕ → Option Role) (usable : ℕ) (c : Chunk) : Typ
   pub behind : (end % 1024 ≡ 0) ⊎ (role end ≢ Some c.role)
 
 -- the unit's first block lies in the chunk
-pub record HoldsUnit (c : Chunk) (u : ℕ) : Type 0 where
+pub record HoldsUnit (c : PlannedChunk) (u : ℕ) : Type 0 where
   pub low : c.start ≤ 256 * u
   pub high : 256 * u < c.start + c.length
 
 -- Chunks ascend and do not overlap, and each unit that has a role lies in one.
-pub record AreChunksBy (role : ℕ → Option Role) (usable : ℕ) (chunks : List Chunk) : Type 0 where
+pub record AreChunksBy (role : ℕ → Option Role) (usable : ℕ) (chunks : List PlannedChunk) : Type 0 where
   pub each : All (IsChunk role usable) chunks
   pub ascending : AllPairs (λ c d. c.start + c.length ≤ d.start) chunks
   pub whole : (u : ℕ) (r : Role) → role u ≡ Some r → Any (λ c. HoldsUnit c u) chunks
 
-abbrev pub AreChunks : Plan → ℕ → List Chunk → Type 0
+abbrev pub AreChunks : Plan → ℕ → List PlannedChunk → Type 0
 AreChunks plan blocks = AreChunksBy (role_of plan blocks) (usable_end blocks)
 
 -- the units of a plan begin on a volume of so many blocks
@@ -68,12 +65,16 @@ pub record FitsVolume (plan : Plan) (blocks : ℕ) : Type 0 where
 abbrev pub is_data_unit : List Bool → Plan → ℕ → Bool
 is_data_unit used plan u = is_among plan.data_ u || holds_data used u
 
+-- the unit is spare, and stays in no unallocated run
+abbrev pub is_filler : List Bool → Plan → ℕ → Bool
+is_filler used plan u = is_spare used plan.system plan.metadata plan.data_ u && not (is_in_runs plan.unallocated u)
+
 -- what a unit from unit 1 on is used for, by the lists that name it
 abbrev pub use_of : List Bool → Plan → ℕ → Option Role
 use_of used plan u =
-    if is_among plan.system u then Some System else if is_among plan.metadata u then Some Metadata else if is_data_unit used plan u then Some Data else None
+    if is_among plan.system u then Some System else if is_among plan.metadata u then Some Metadata else if is_data_unit used plan u || is_filler used plan u then Some Data else None
 
--- a plan's runs without use leave exactly the units that a list names or that hold data
+-- a unit that a list names or that holds data has that use, and the spare units of runs that do not stay are for data
 abbrev pub RolesAreUses : Type 0
 RolesAreUses =
     (used : List Bool) (need : Need) (plan : Plan) → HasEnoughSpace used need → IsPlan used need plan
@@ -82,7 +83,7 @@ RolesAreUses =
 -- there are no more chunks than the bound has that the needed space was counted with
 abbrev pub ChunksAreFew : Type 0
 ChunksAreFew =
-    (used : List Bool) (need : Need) (plan : Plan) (chunks : List Chunk) → HasEnoughSpace used need → IsPlan used need plan
+    (used : List Bool) (need : Need) (plan : Plan) (chunks : List PlannedChunk) → HasEnoughSpace used need → IsPlan used need plan
     → AreChunks plan (length used) chunks → length chunks ≤ chunk_bound (length (free_runs used)) (length used)
 
 -- the units of a plan lie on its volume

@@ -11,4 +11,5 @@ pub mod Needed
 pub mod Pieces
 pub mod Places
 pub mod Roles
+pub mod Staying
 pub mod Sums

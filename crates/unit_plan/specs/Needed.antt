@@ -2,6 +2,7 @@
 -- by the counts alone.
 use Rattle.std.specs.Prelude.{ℕ, ◌+◌, ◌*◌, ◌/◌, ◌^◌, ◌<◌}
 use Rattle.std.specs.Int.{div_ceil}
+use Rattle.unit_plan.specs.declared.item_bytes.TheConstants.{BLOCK_GROUP_BYTES, CHUNK_BYTES, DEVICE_BYTES, DEV_EXTENT_BYTES, EXTENT_BYTES, FILE_EXTENT_BYTES, HEAD_BYTES, IMAGE_ROOM, INLINE_BYTES, INODE_BYTES, NAME_BYTES, NAME_COPIES, NODE_BYTES, RELOCATION_ROOM, ROOT_DIRECTORY_ROOM, ROOT_TREE_ROOM}
 use Rattle.btr_tree.specs.csum_kinds.declared.kind.SumKind.{SumKind}
 use Rattle.btr_tree.specs.csum_kinds.Kind.{kind_width}
 use Rattle.btr_tree.specs.Counting.{node_bound}
@@ -21,36 +22,37 @@ chunk_bound runs blocks = 2 * runs + 8 + div_ceil blocks (2 ^ 18)
 
 -- inodes, names and file extents of the tree of files
 abbrev pub file_tree_bytes : Counts → ℕ
-file_tree_bytes c = 400 + 185 * c.objects + 153 * c.names + 3 * c.letters + 78 * c.pieces + 46 * c.inlines + c.inline_bytes
+file_tree_bytes c =
+    ROOT_DIRECTORY_ROOM + INODE_BYTES * c.objects + NAME_BYTES * c.names + NAME_COPIES * c.letters + FILE_EXTENT_BYTES * c.pieces + INLINE_BYTES * c.inlines
+    + c.inline_bytes
 
 -- the tree of the saved image
 abbrev pub image_tree_bytes : Counts → ℕ
-image_tree_bytes c = 1000 + 78 * c.pieces
+image_tree_bytes c = IMAGE_ROOM + FILE_EXTENT_BYTES * c.pieces
 
 -- a checksum for each block of data; an item for each piece, and one more where an item is full
 abbrev pub checksum_tree_bytes : SumKind → Counts → ℕ
-checksum_tree_bytes sums c = kind_width sums * c.piece_blocks + 25 * (c.pieces + c.piece_blocks / sums_in_item sums)
+checksum_tree_bytes sums c = kind_width sums * c.piece_blocks + HEAD_BYTES * (c.pieces + c.piece_blocks / sums_in_item sums)
 
 -- trees whose size goes by the number of chunks
 abbrev pub device_tree_bytes : ℕ → ℕ
-device_tree_bytes chunks = 73 * chunks
+device_tree_bytes chunks = DEV_EXTENT_BYTES * chunks
 
 abbrev pub chunk_tree_bytes : ℕ → ℕ
-chunk_tree_bytes chunks = 105 * chunks + 123
+chunk_tree_bytes chunks = CHUNK_BYTES * chunks + DEVICE_BYTES
 
 abbrev pub chunk_nodes : Options → Counts → ℕ
 chunk_nodes o c = node_bound (chunk_tree_bytes (chunk_bound c.runs c.blocks)) o.nodesize
 
--- the nodes of all trees but the chunk tree and the extent tree; the root tree has 8192 bytes at most, and the tree for
--- relocation 1000
+-- the nodes of all trees but the chunk tree and the extent tree
 abbrev pub other_nodes : Options → Counts → ℕ
 other_nodes o c =
     node_bound (file_tree_bytes c) o.nodesize + node_bound (image_tree_bytes c) o.nodesize + node_bound (checksum_tree_bytes o.sums c) o.nodesize
-    + node_bound (device_tree_bytes (chunk_bound c.runs c.blocks)) o.nodesize + node_bound 8192 o.nodesize + node_bound 1000 o.nodesize
+    + node_bound (device_tree_bytes (chunk_bound c.runs c.blocks)) o.nodesize + node_bound ROOT_TREE_ROOM o.nodesize + node_bound RELOCATION_ROOM o.nodesize
 
 -- an extent for each piece and each node of the other trees, and a block group for each chunk
 abbrev pub extent_tree_bytes : Options → Counts → ℕ
-extent_tree_bytes o c = 107 * c.pieces + 49 * chunk_bound c.runs c.blocks + 58 * (other_nodes o c + chunk_nodes o c)
+extent_tree_bytes o c = EXTENT_BYTES * c.pieces + BLOCK_GROUP_BYTES * chunk_bound c.runs c.blocks + NODE_BYTES * (other_nodes o c + chunk_nodes o c)
 
 -- the extent tree has extents of its own nodes too
 abbrev pub extent_nodes : Options → Counts → ℕ

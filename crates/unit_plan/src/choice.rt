@@ -1,8 +1,9 @@
 ghost use Rattle.std.specs.Prelude.{◌≡◌, ◌≤◌, ◌<◌, ◌+◌, ◌-◌, ◌/◌, ◌^◌, ◌++◌, ◌∷◌, [], nat_le, nat_lt, ◌&&◌, length, take, drop, max, IfOk, IfErr, OnOk, if◌then◌else◌};
 ghost use Rattle.std.specs.List.{fold, range_with_len};
-ghost use Rattle.unit_plan.specs.Choice.{HasEnoughSpace, IsPlan, IsPlanAt, IsAnswer, IsSmall, lowest_long, others, is_other};
+ghost use Rattle.unit_plan.specs.Choice.{HasEnoughSpace, IsPlan, IsPlanAt, IsAnswer, IsSmallNeed, lowest_long, others, is_other};
 
-use crate::unused::unallocated;
+use crate::spare::spare_runs;
+use crate::staying::staying;
 use crate::{Need, Plan, PlanAnswer, Units};
 use reiser_bitmap::{Bitmap, Memory, Run, Runs};
 use std::alloc::Global;
@@ -16,7 +17,7 @@ const BLOCKS_IN_UNIT: u64 = 256;
 /// ascending order the first are for metadata, and the next for data. NoSpace comes exactly where too few units are free,
 /// or no run is long enough.
 pub fn choose(alloc: Global, map: &Bitmap, need: &Need) -> Result<Plan, PlanAnswer>
-    requires { IsSmall need.now }
+    requires { IsSmallNeed need.now }
     ensures ok { IfOk result (IsPlan map.now need.now) }
     ensures enough { IfOk result (λ _. HasEnoughSpace map.now need.now) }
     ensures err { IfErr result (IsAnswer map.now need.now) }
@@ -62,7 +63,7 @@ fn first_long(runs: &Runs, count: u64) -> u64
 
 /// The plan whose units for the chunk tree begin at `first`.
 fn plan_at(alloc: Global, map: &Bitmap, need: &Need, first: u64) -> Result<Plan, Memory>
-    requires small { IsSmall need.now }
+    requires small { IsSmallNeed need.now }
     requires inside { first + need.now.system ≤ length map.now / 256 }
     ensures { IfOk result (IsPlanAt map.now need.now first) }
 {
@@ -74,7 +75,8 @@ fn plan_at(alloc: Global, map: &Bitmap, need: &Need, first: u64) -> Result<Plan,
     let system = consecutive(alloc, taken)?;
     let metadata = free_others(alloc, map, units, taken, 0, need.metadata)?;
     let data_ = free_others(alloc, map, units, taken, need.metadata, need.data_)?;
-    let unallocated = unallocated(alloc, map, &system, &metadata, &data_)?;
+    let spare = spare_runs(alloc, map, &system, &metadata, &data_)?;
+    let unallocated = staying(alloc, &spare)?;
     Ok(Plan {
         system,
         metadata,

@@ -13,7 +13,7 @@ pub enum Role {
 
 /// A range of blocks that are used for the same. It begins with a unit.
 #[derive(Clone, Copy, Debug, PartialEq, Eq)]
-pub struct Chunk {
+pub struct PlannedChunk {
     /// Its first block, a multiple of 256.
     pub start: BlockNo,
     /// How many blocks it has.
@@ -23,4 +23,4 @@ pub struct Chunk {
 }
 
 /// The chunks of a volume, as a list.
-pub type Chunks = CopyList<Chunk>;
+pub type Chunks = CopyList<PlannedChunk>;

@@ -4,7 +4,7 @@ ghost use Rattle.unit_plan.specs.Dividing.{AreBegun, IsJoined, IsWithChunk};
 ghost use Rattle.unit_plan.specs.Roles.{role_in};
 
 use crate::Plan;
-use crate::chunk::{Chunk, Chunks};
+use crate::chunk::{Chunks, PlannedChunk};
 use crate::roles::Roles;
 use reiser_bitmap::Memory;
 use std::alloc::Global;
@@ -72,7 +72,7 @@ fn add_chunk(
         return Ok(());
     };
     let start = BLOCKS_IN_UNIT * first;
-    chunks.add(Chunk {
+    chunks.add(PlannedChunk {
         start,
         length: usable.min(BLOCKS_IN_UNIT * end) - start,
         role,

@@ -3,13 +3,15 @@ ghost use Rattle.unit_plan.specs.Laws.{PlansAreSound};
 ghost use Rattle.unit_plan.specs.Places.{PlacesServe};
 ghost use Rattle.unit_plan.specs.Chunks.{ChunksAreFew, PlansFit, RolesAreUses};
 
-/// A plan has as many units as are needed. Each list ascends, its units are free, and no unit is in two lists. The runs
-/// without use are maximal.
+/// A plan has as many units as are needed. Each list ascends, its units are free, and no unit is in two lists. The
+/// unallocated runs are maximal runs of units without use, among them each of at least 256 units, and all of them where at
+/// most 1024 units have no use.
 pub fn plans_are_sound()
     ensures { PlansAreSound }
 {}
 
-/// The runs without use of a plan leave exactly the units that one of its lists names, or that hold data.
+/// A unit that one of the plan's lists names, or that holds data, has that use. Any other unit is for data, unless it lies in
+/// an unallocated run.
 pub fn roles_are_uses()
     ensures { RolesAreUses }
 {}

@@ -2,7 +2,7 @@ ghost use Rattle.std.specs.Prelude.{◌≡◌, ◌+◌, ◌*◌, ◌≤◌, ◌<
 ghost use Rattle.btr_tree.specs.btr_node.NodeSize.{IsNodeSize};
 ghost use Rattle.btr_tree.specs.Counting.{node_bound};
 ghost use Rattle.btr_tree.specs.csum_kinds.Kind.{kind_width};
-ghost use Rattle.unit_plan.specs.Choice.{IsSmall};
+ghost use Rattle.unit_plan.specs.Choice.{IsSmallNeed};
 ghost use Rattle.unit_plan.specs.Needed.{
   AreSmall,
   need,
@@ -17,6 +17,11 @@ ghost use Rattle.unit_plan.specs.Needed.{
 };
 
 use crate::Counts;
+use crate::item_bytes::{
+    BLOCK_GROUP_BYTES, CHUNK_BYTES, DEV_EXTENT_BYTES, DEVICE_BYTES, EXTENT_BYTES,
+    FILE_EXTENT_BYTES, HEAD_BYTES, IMAGE_ROOM, INLINE_BYTES, INODE_BYTES, NAME_BYTES, NAME_COPIES,
+    NODE_BYTES, RELOCATION_ROOM, ROOT_DIRECTORY_ROOM, ROOT_TREE_ROOM,
+};
 use crate::sums::{sum_width, sums_in_item};
 use btr_tree::{SumKind, node_bound};
 use convert_options::Options;
@@ -54,7 +59,7 @@ pub fn needed(counts: &Counts, options: &Options) -> Need
     requires counts { AreSmall counts.now }
     requires size { IsNodeSize options.now.nodesize }
     ensures exact { result ≡ need counts.now options.now }
-    ensures small { IsSmall result }
+    ensures small { IsSmallNeed result }
 {
     let others = other_nodes(counts, options);
     let extents = extent_nodes(counts, options);
@@ -102,7 +107,7 @@ fn chunk_nodes(counts: &Counts, options: &Options) -> u64
     ensures exact { result ≡ chunk_nodes options.now counts.now }
     ensures small { result < 2 ^ 50 }
 {
-    nodes_for(105 * chunk_bound(counts) + 123, options)
+    nodes_for(CHUNK_BYTES * chunk_bound(counts) + DEVICE_BYTES, options)
 }
 
 /// A bound of the nodes of all trees but the chunk tree and the extent tree.
@@ -115,9 +120,9 @@ fn other_nodes(counts: &Counts, options: &Options) -> u64
     nodes_for(file_tree_bytes(counts), options)
         + nodes_for(image_tree_bytes(counts), options)
         + nodes_for(checksum_tree_bytes(counts, options.sums), options)
-        + nodes_for(73 * chunk_bound(counts), options)
-        + nodes_for(8192, options)
-        + nodes_for(1000, options)
+        + nodes_for(DEV_EXTENT_BYTES * chunk_bound(counts), options)
+        + nodes_for(ROOT_TREE_ROOM, options)
+        + nodes_for(RELOCATION_ROOM, options)
 }
 
 fn file_tree_bytes(counts: &Counts) -> u64
@@ -125,11 +130,12 @@ fn file_tree_bytes(counts: &Counts) -> u64
     ensures exact { result ≡ file_tree_bytes counts.now }
     ensures small { result < 2 ^ 60 }
 {
-    400 + 185 * counts.objects
-        + 153 * counts.names
-        + 3 * counts.letters
-        + 78 * counts.pieces
-        + 46 * counts.inlines
+    ROOT_DIRECTORY_ROOM
+        + INODE_BYTES * counts.objects
+        + NAME_BYTES * counts.names
+        + NAME_COPIES * counts.letters
+        + FILE_EXTENT_BYTES * counts.pieces
+        + INLINE_BYTES * counts.inlines
         + counts.inline_bytes
 }
 
@@ -138,7 +144,7 @@ fn image_tree_bytes(counts: &Counts) -> u64
     ensures exact { result ≡ image_tree_bytes counts.now }
     ensures small { result < 2 ^ 60 }
 {
-    1000 + 78 * counts.pieces
+    IMAGE_ROOM + FILE_EXTENT_BYTES * counts.pieces
 }
 
 fn checksum_tree_bytes(counts: &Counts, sums: SumKind) -> u64
@@ -147,7 +153,7 @@ fn checksum_tree_bytes(counts: &Counts, sums: SumKind) -> u64
     ensures small { result < 2 ^ 60 }
 {
     sums_bytes(counts.piece_blocks, sum_width(sums))
-        + 25 * (counts.pieces + counts.piece_blocks / sums_in_item(sums))
+        + HEAD_BYTES * (counts.pieces + counts.piece_blocks / sums_in_item(sums))
 }
 
 /// The bytes of so many checksums of this width.
@@ -168,6 +174,8 @@ fn extent_nodes(counts: &Counts, options: &Options) -> u64
     ensures small { result < 2 ^ 52 }
 {
     let nodes = other_nodes(counts, options) + chunk_nodes(counts, options);
-    let bytes = 107 * counts.pieces + 49 * chunk_bound(counts) + 58 * nodes;
+    let bytes = EXTENT_BYTES * counts.pieces
+        + BLOCK_GROUP_BYTES * chunk_bound(counts)
+        + NODE_BYTES * nodes;
     2 * nodes_for(bytes, options) + 16
 }

@@ -10,9 +10,10 @@ pub struct Plan {
     /// Those of all other trees.
     pub metadata: Units,
     /// Those of copies and tails. A unit that holds an unreserved used block is used for data as it is, and stands in no
-    /// list.
+    /// list. Nor does a unit without use that lies in a run that does not stay unallocated.
     pub data_: Units,
-    /// The maximal runs of units from unit 1 on that have no use.
+    /// Of the maximal runs of units from unit 1 on that have no use, those that stay so: each of at least 256 units, and
+    /// the longest ones, until they have 1024 units and a 64th of all.
     pub unallocated: Runs,
 }
 

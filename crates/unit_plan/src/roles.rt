@@ -7,7 +7,7 @@ ghost use Rattle.unit_plan.specs.Roles.{role_in};
 
 use crate::Plan;
 use crate::chunk::Role;
-use crate::unused::mark;
+use crate::spare::mark;
 use reiser_bitmap::{Bitmap, Memory, Run, Runs};
 use std::alloc::Global;
 use std::marker::Model;

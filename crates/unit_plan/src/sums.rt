@@ -11,6 +11,7 @@ pub fn sums_in_item(kind: SumKind) -> u64
 {
     match kind {
         SumKind::Crc32c => 900,
+        SumKind::Sha256 => 100,
     }
 }
 

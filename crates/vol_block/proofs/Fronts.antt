@@ -1,8 +1,6 @@
 -- Fields that are written one after the other: what stands in front of a place.
-use Rattle.std.proofs.Common.{◌≡◌, ◌≤◌, ◌<◌, ℕ, zero, suc, ◌+◌, List, [], ◌∷◌, ◌++◌, length, take, ◌∙◌, refl, ap, sym, arith, append_assoc, length-append, length-take, get_or, add-one}
-use Rattle.std.proofs.lemmas.List.{take_at, append-nil}
+use Rattle.vol_block.proofs.Imports.{◌≡◌, ◌≤◌, ◌<◌, ℕ, zero, suc, ◌+◌, List, [], ◌∷◌, ◌++◌, length, take, ◌∙◌, refl, ap, sym, arith, append_assoc, length-append, length-take, get_or, add-one, take_at, append-nil, field_width, field_bytes, fields_width, fields_bytes}
 use Rattle.vol_block.specs.declared.field.Field.{Field}
-use Rattle.vol_block.specs.Field.{field_width, field_bytes, fields_width, fields_bytes}
 
 -- a list with n new elements from a place on, up to their end
 pub front_of_new : (at n : ℕ) (bytes new rest : List ℕ) → length new ≡ n → at ≤ length bytes → take (at + n) (take at bytes ++ (new ++ rest)) ≡ take at bytes ++ new

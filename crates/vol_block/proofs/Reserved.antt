@@ -1,8 +1,8 @@
 -- The test of a reserved block tells the fact.
-use Rattle.std.proofs.Common.{ℕ, ◌*◌, ◌/◌, ◌≤◌, ◌<◌, ◌&&◌, leb, ltb, arith}
+use Rattle.vol_block.proofs.Imports.{ℕ, ◌*◌, ◌/◌, ◌≤◌, ◌<◌, ◌&&◌, leb, ltb, arith, IsReserved, is_reserved}
 use Rattle.std.specs.Bool.{Decides}
 use Rattle.std.proofs.lemmas.Bool.Decides.{Decides-and, Decides-or, Decides-ltb, nat_tests}
-use Rattle.vol_block.specs.Volume.{IsReserved, is_reserved}
+use Rattle.btrfs_format.specs.declared.block.TheConstants.{FIRST_MIRROR, FIRST_MIRROR_END, RESERVED_BLOCKS, SECOND_MIRROR, SECOND_MIRROR_END}
 
 decides_leb : (a b : ℕ) → Decides (leb a b) (a ≤ b)
 decides_leb a b = grind (arith, nat_tests)
@@ -12,6 +12,6 @@ decides_between low b high = Decides-and _ _ (decides_leb low b) (Decides-ltb b 
 
 pub decides_reserved : (b blocks : ℕ) → Decides (is_reserved b blocks) (IsReserved b blocks)
 decides_reserved b blocks =
-    Decides-or _ _ (Decides-ltb b 256)
-    (Decides-or _ _ (decides_between 16384 b 16400)
-    (Decides-or _ _ (decides_between 67108864 b 67108880) (decides_between (16 * (blocks / 16)) b blocks)))
+    Decides-or _ _ (Decides-ltb b RESERVED_BLOCKS)
+    (Decides-or _ _ (decides_between FIRST_MIRROR b FIRST_MIRROR_END)
+    (Decides-or _ _ (decides_between SECOND_MIRROR b SECOND_MIRROR_END) (decides_between (16 * (blocks / 16)) b blocks)))

@@ -1,5 +1,6 @@
 -- Blocks as lists of bytes, their fields, and the blocks that Btrfs keeps for itself.
 use Rattle.std.specs.Prelude.{◌⊎◌, ℕ, ◌*◌, ◌/◌, ◌≤◌, ◌<◌, nat_lt, nat_le, Bool, ◌&&◌, ◌||◌, List, ◌++◌, take, drop, replicate}
+use Rattle.btrfs_format.specs.declared.block.TheConstants.{FIRST_MIRROR, FIRST_MIRROR_END, RESERVED_BLOCKS, SECOND_MIRROR, SECOND_MIRROR_END}
 use Rattle.byteorder.specs.Endian.{little_number, little_bytes}
 
 -- a block of zeros
@@ -18,9 +19,9 @@ put_field n bytes at x = take at bytes ++ (little_bytes n x ++ drop n (drop at b
 -- the last multiple of 64 KiB of a volume of this many blocks.
 abbrev pub IsReserved : ℕ → ℕ → Type 0
 IsReserved b blocks =
-    (b < 256) ⊎ ((16384 ≤ b) × (b < 16400)) ⊎ ((67108864 ≤ b) × (b < 67108880)) ⊎ ((16 * (blocks / 16) ≤ b) × (b < blocks))
+    (b < RESERVED_BLOCKS) ⊎ ((FIRST_MIRROR ≤ b) × (b < FIRST_MIRROR_END)) ⊎ ((SECOND_MIRROR ≤ b) × (b < SECOND_MIRROR_END)) ⊎ ((16 * (blocks / 16) ≤ b) × (b < blocks))
 
 -- the same as a test
 abbrev pub is_reserved : ℕ → ℕ → Bool
 is_reserved b blocks =
-    nat_lt b 256 || ((nat_le 16384 b && nat_lt b 16400) || ((nat_le 67108864 b && nat_lt b 67108880) || (nat_le (16 * (blocks / 16)) b && nat_lt b blocks)))
+    nat_lt b RESERVED_BLOCKS || ((nat_le FIRST_MIRROR b && nat_lt b FIRST_MIRROR_END) || ((nat_le SECOND_MIRROR b && nat_lt b SECOND_MIRROR_END) || (nat_le (16 * (blocks / 16)) b && nat_lt b blocks)))

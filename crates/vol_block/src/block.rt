@@ -1,6 +1,10 @@
 ghost use Rattle.std.specs.Prelude.{◌≡◌, ◌↔◌, ◌*◌, ◌/◌, IsTrue};
 ghost use Rattle.vol_block.specs.Volume.{zeros, IsReserved, is_reserved};
 
+use btrfs_format::block::{
+    FIRST_MIRROR, FIRST_MIRROR_END, RESERVED_BLOCKS, SECOND_MIRROR, SECOND_MIRROR_END,
+};
+
 /// The number of a block in its volume: block b is bytes 4096·b to 4096·b + 4095.
 pub type BlockNo = u64;
 
@@ -44,8 +48,8 @@ pub fn is_reserved(block: BlockNo, blocks: u64) -> bool
     ensures fact { IsTrue result ↔ IsReserved block blocks }
     ensures test { result ≡ is_reserved block blocks }
 {
-    block < 256
-        || (16384..16400).contains(&block)
-        || (67108864..67108880).contains(&block)
+    block < RESERVED_BLOCKS
+        || (FIRST_MIRROR..FIRST_MIRROR_END).contains(&block)
+        || (SECOND_MIRROR..SECOND_MIRROR_END).contains(&block)
         || (usable_end(blocks)..blocks).contains(&block)
 }

@@ -2,6 +2,7 @@ ghost use Rattle.std.specs.Prelude.{◌≡◌, ◌≤◌};
 ghost use Rattle.vol_block.specs.Format.{format, has_bytes_at, has_reiser_magic};
 
 use crate::Block;
+use btrfs_format::block::{MAGIC, SUPER_MAGIC_OFFSET};
 
 /// The file system whose superblock a block may be.
 #[derive(Clone, Copy, Debug, PartialEq, Eq)]
@@ -21,7 +22,7 @@ pub enum Format {
 pub fn format_of(block: &Block) -> Format
     ensures { result ≡ format block.now.bytes }
 {
-    if has_magic(block, 64, b"_BHRfS_M") {
+    if has_magic(block, SUPER_MAGIC_OFFSET, MAGIC) {
         Format::Btrfs
     } else if has_reiser_magic(block) {
         Format::Reiser

@@ -1,20 +1,11 @@
 -- Which volumes are converted.
-use Rattle.std.proofs.Common.{◌≡◌, ◌∙◌, ℕ, Bool, true, false, cond, List, drop, ◌++◌, refl, sym, ap, subst, arith}
-use Rattle.std.specs.Prelude.{◌≢◌, codes}
-use Rattle.std.proofs.lemmas.Bool.Decides.{Decides-eqb}
+use Rattle.volume_app.proofs.Imports.{◌≡◌, ◌∙◌, ℕ, Bool, true, false, cond, List, drop, ◌++◌, refl, sym, ap, subst, arith, ◌≢◌, codes, Decides-eqb, SUPER_BLOCK, SUPER_MAGIC_OFFSET, has_bytes_at, has_reiser_magic, Ids, format_in, Image, block_at, IsAccepted, Options, IsConverted, IsConvertible}
 use Rattle.std.proofs.lemmas.List.{drop-drop}
 use Rattle.std.proofs.lemmas.Slice.Eq.{starts_is}
 use Rattle.byteorder.specs.Endian.{little_number}
-use Rattle.reiser_volume.specs.vol_block.Format.{has_bytes_at, has_reiser_magic}
 use Rattle.reiser_volume.specs.vol_block.Volume.{field}
-use Rattle.reiser_volume.specs.vol_block.declared.format.Format.TheVariants as formats
-use Rattle.reiser_volume.specs.vol_block.declared.ids.Ids.{Ids}
-use Rattle.reiser_volume.specs.outside.Format.{format_in}
-use Rattle.reiser_volume.specs.outside.History.{Image, block_at}
-use Rattle.reiser_volume.specs.Volume.{IsAccepted}
-use Rattle.convert_options.specs.declared.options.Options.{Options}
-use Rattle.convert_core.specs.Converted.{IsConverted, IsConvertible}
 use Rattle.convert_core.proofs.Putting.{convertible}
+use Rattle.reiser_volume.specs.vol_block.declared.format.Format.TheVariants as formats
 use Rattle.volume_app.proofs.Formats.{format_long}
 
 -- The magic of Btrfs lies where the height of a ReiserFS tree lies.
@@ -29,9 +20,9 @@ magic_by false false is = cc
 -- No tree is so high: a disk with an accepted ReiserFS volume has not the format of Btrfs.
 pub accepted_is_reiser : (disk : Image) → IsAccepted disk → format_in disk ≢ formats.Btrfs
 accepted_is_reiser disk accepted is =
-    let block : List ℕ = block_at disk 16 in
-    let magic : has_bytes_at block 64 (codes "_BHRfS_M") ≡ true =
-    magic_by (has_bytes_at block 64 (codes "_BHRfS_M")) (has_reiser_magic block) (sym (format_long disk accepted.clean.superblock.there) ∙ is) in
+    let block : List ℕ = block_at disk SUPER_BLOCK in
+    let magic : has_bytes_at block SUPER_MAGIC_OFFSET (codes "_BHRfS_M") ≡ true =
+    magic_by (has_bytes_at block SUPER_MAGIC_OFFSET (codes "_BHRfS_M")) (has_reiser_magic block) (sym (format_long disk accepted.clean.superblock.there) ∙ is) in
     let height : field 2 block 68 ≡ 21350 =
     ap (little_number 2) (sym (drop-drop 4 64 block))
     ∙ height_by_magic (drop 64 block) ((starts_is (λ a b. Decides-eqb a b) (drop 64 block) (codes "_BHRfS_M") _ refl).0 magic) in

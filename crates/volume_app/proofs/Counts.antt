@@ -1,7 +1,6 @@
 -- A number with another count of words behind it than one is no trial.
-use Rattle.std.proofs.Common.{◌≡◌, ℕ, ◌<◌, List, [], ◌∷◌, length, map, refl, arith}
+use Rattle.volume_app.proofs.Imports.{◌≡◌, ℕ, ◌<◌, List, [], ◌∷◌, length, map, refl, arith, numbered}
 use Rattle.std.specs.Prelude.{None}
-use Rattle.volume_app.specs.Command.{numbered}
 
 pub too_few : {A : Type 0} (bytes : A → List ℕ) (number : List ℕ) (words : List A) → length words < 1 → None ≡ numbered number (map bytes words)
 too_few bytes number [] few = refl

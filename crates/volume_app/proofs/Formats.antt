@@ -1,13 +1,6 @@
 -- The format of a disk, by block 16 and the disk's length, and what it comes to.
-use Rattle.std.proofs.Common.{◌≡◌, ◌<◌, ◌≤◌, Bool, true, false, cond, length, refl, ◌∙◌, arith}
-use Rattle.std.specs.Prelude.{◌≢◌, nat_le}
-use Rattle.std.proofs.lemmas.Bool.Decides.{nat_tests}
-use Rattle.reiser_volume.specs.vol_block.declared.format.Format.{Format}
+use Rattle.volume_app.proofs.Imports.{◌≡◌, ◌<◌, ◌≤◌, Bool, true, false, cond, length, refl, ◌∙◌, arith, ◌≢◌, nat_le, nat_tests, SUPER_BLOCK, Format, format, has_reiser_magic, Image, block_at, IsAccepted, format_in}
 use Rattle.reiser_volume.specs.vol_block.declared.format.Format.TheVariants as formats
-use Rattle.reiser_volume.specs.vol_block.Format.{format, has_reiser_magic}
-use Rattle.reiser_volume.specs.outside.History.{Image, block_at}
-use Rattle.reiser_volume.specs.Volume.{IsAccepted}
-use Rattle.reiser_volume.specs.outside.Format.{format_in}
 
 format_cases : (btrfs reiser : Bool) → cond btrfs formats.Btrfs (cond reiser formats.Reiser formats.Neither) ≢ formats.Btrfs → reiser ≡ true
     → cond btrfs formats.Btrfs (cond reiser formats.Reiser formats.Neither) ≡ formats.Reiser
@@ -24,19 +17,19 @@ by_length true f is = refl
 by_length false f is = cc
 
 -- a disk that has block 16 has the format of that block
-pub format_long : (disk : Image) → 16 < length disk → format_in disk ≡ format (block_at disk 16)
+pub format_long : (disk : Image) → 16 < length disk → format_in disk ≡ format (block_at disk SUPER_BLOCK)
 format_long disk long =
     let no : nat_le (length disk) 16 ≡ false = grind (arith, nat_tests) in
-    by_block (nat_le (length disk) 16) (format (block_at disk 16)) no
+    by_block (nat_le (length disk) 16) (format (block_at disk SUPER_BLOCK)) no
 
 -- and a shorter one has none
 pub format_short : (disk : Image) → length disk ≤ 16 → format_in disk ≡ formats.Neither
 format_short disk short =
     let yes : nat_le (length disk) 16 ≡ true = grind (arith, nat_tests) in
-    by_length (nat_le (length disk) 16) (format (block_at disk 16)) yes
+    by_length (nat_le (length disk) 16) (format (block_at disk SUPER_BLOCK)) yes
 
 -- an accepted volume that is not one of Btrfs has the format of ReiserFS
 pub reiser_found : (disk : Image) → IsAccepted disk → format_in disk ≢ formats.Btrfs → format_in disk ≡ formats.Reiser
 reiser_found disk accepted other =
     let long = format_long disk accepted.clean.superblock.there in
-    long ∙ format_cases _ (has_reiser_magic (block_at disk 16)) (λ is. other (long ∙ is)) accepted.clean.superblock.magic
+    long ∙ format_cases _ (has_reiser_magic (block_at disk SUPER_BLOCK)) (λ is. other (long ∙ is)) accepted.clean.superblock.magic

@@ -1,28 +1,11 @@
 -- What `inspect` answers.
-use Rattle.std.proofs.Common.{◌≡◌, refl, sym, ap, subst}
-use Rattle.std.specs.Prelude.{◌≢◌}
-use Rattle.reiser_volume.specs.vol_block.declared.format.Format.{Format}
-use Rattle.reiser_volume.specs.vol_block.declared.format.Format.TheVariants as formats
-use Rattle.reiser_volume.specs.outside.History.{Image}
-use Rattle.reiser_volume.specs.refusals.declared.answer.BtrAnswer.{BtrAnswer}
-use Rattle.reiser_volume.specs.refusals.declared.answer.BtrAnswer.TheVariants as of_btr
-use Rattle.reiser_volume.specs.refusals.declared.answer.VolAnswer.{VolAnswer}
-use Rattle.reiser_volume.specs.refusals.declared.answer.VolAnswer.TheVariants as of_reiser
-use Rattle.reiser_volume.specs.Answers.{RefusesVolume}
-use Rattle.reiser_volume.specs.Reading.{IsReadingAnswer}
-use Rattle.reiser_volume.specs.Volume.{IsAccepted}
+use Rattle.volume_app.proofs.Imports.{◌≡◌, refl, sym, ap, subst, ◌≢◌, Format, Image, BtrAnswer, VolAnswer, RefusesVolume, IsReadingAnswer, IsAccepted, Options, NamesNoLogTree, SavedImage, IsReadable, RefusesPart, summary_of, ReiserSummary, of_volume, of_btrfs, format_in, IsInspectable, IsInspectText, Inspects, InspectRefuses, IsInspectAnswer, IsReiserSummary, summary_text}
 use Rattle.volume_app.specs.declared.summary.Summary.{Summary}
-use Rattle.convert_options.specs.declared.options.Options.{Options}
-use Rattle.btr_reader.specs.Opening.{NamesNoLogTree}
-use Rattle.btr_reader.specs.Parts.{SavedImage, IsReadable, RefusesPart}
-use Rattle.volume_app.specs.Told.{summary_of}
 use Rattle.volume_app.specs.Text.{summary_text as btrfs_summary_text}
 use Rattle.volume_app.specs.declared.inspect.Inspected.TheVariants.{Reiser, Btrfs}
-use Rattle.volume_app.specs.declared.reiser.ReiserSummary.{ReiserSummary}
-use Rattle.convert_core.specs.command_answers.Answers.{of_volume, of_btrfs}
-use Rattle.reiser_volume.specs.outside.Format.{format_in}
-use Rattle.volume_app.specs.Inspect.{IsInspectable, IsInspectText, Inspects, InspectRefuses, IsInspectAnswer}
-use Rattle.volume_app.specs.Reiser.{IsReiserSummary, summary_text}
+use Rattle.reiser_volume.specs.vol_block.declared.format.Format.TheVariants as formats
+use Rattle.reiser_volume.specs.refusals.declared.answer.BtrAnswer.TheVariants as of_btr
+use Rattle.reiser_volume.specs.refusals.declared.answer.VolAnswer.TheVariants as of_reiser
 use Rattle.volume_app.proofs.Formats.{reiser_found}
 
 pub reiser_inspected : (o : Options) (disk : Image) (told : ReiserSummary) → format_in disk ≢ formats.Btrfs → IsAccepted disk → IsReiserSummary o disk told → Inspects o disk (Reiser told)

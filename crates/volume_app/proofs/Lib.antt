@@ -1,8 +1,10 @@
 pub mod Convertible
 pub mod Counts
 pub mod Formats
+pub mod Imports
 pub mod Inspecting
 pub mod Listing
+pub mod Moments
 pub mod OneText
 pub mod Outcomes
 pub mod Performing

@@ -1,23 +1,11 @@
 -- What `list` answers.
-use Rattle.std.proofs.Common.{◌≡◌, sym, ap, subst}
-use Rattle.std.specs.Prelude.{◌≢◌, List, map}
-use Rattle.reiser_volume.specs.vol_block.declared.format.Format.{Format}
-use Rattle.reiser_volume.specs.vol_block.declared.format.Format.TheVariants as formats
+use Rattle.volume_app.proofs.Imports.{◌≡◌, sym, ap, subst, ◌≢◌, Format, rows_text, Image, BtrAnswer, VolAnswer, RefusesVolume, IsReadingAnswer, AreRowsOf, IsAccepted, of_volume, of_btrfs, HasBtrfsRows, AreRowsOfBtrfs, RefusesBtrfsRows, format_in, IsListable, AreRowsIn, IsListText, Lists, ListRefuses, IsListAnswer}
+use Rattle.std.specs.Prelude.{List, map}
 use Rattle.fs_rows.specs.Rows.{WholeRow, row_of}
-use Rattle.fs_rows.specs.Text.{rows_text}
 use Rattle.fs_rows.specs.declared.row.Row.{Row}
-use Rattle.reiser_volume.specs.outside.History.{Image}
-use Rattle.reiser_volume.specs.refusals.declared.answer.BtrAnswer.{BtrAnswer}
-use Rattle.reiser_volume.specs.refusals.declared.answer.BtrAnswer.TheVariants as of_btr
-use Rattle.reiser_volume.specs.refusals.declared.answer.VolAnswer.{VolAnswer}
 use Rattle.reiser_volume.specs.refusals.declared.answer.VolAnswer.TheVariants.{Refused, Fault, Memory}
-use Rattle.reiser_volume.specs.Answers.{RefusesVolume}
-use Rattle.reiser_volume.specs.Reading.{IsReadingAnswer}
-use Rattle.reiser_volume.specs.Volume.{AreRowsOf, IsAccepted}
-use Rattle.convert_core.specs.command_answers.Answers.{of_volume, of_btrfs}
-use Rattle.btr_reader.specs.Parts.{HasBtrfsRows, AreRowsOfBtrfs, RefusesBtrfsRows}
-use Rattle.reiser_volume.specs.outside.Format.{format_in}
-use Rattle.volume_app.specs.Listing.{IsListable, AreRowsIn, IsListText, Lists, ListRefuses, IsListAnswer}
+use Rattle.reiser_volume.specs.vol_block.declared.format.Format.TheVariants as formats
+use Rattle.reiser_volume.specs.refusals.declared.answer.BtrAnswer.TheVariants as of_btr
 use Rattle.volume_app.proofs.Formats.{reiser_found}
 
 pub reiser_listed : (disk : Image) (rows : List Row) → format_in disk ≢ formats.Btrfs → IsAccepted disk → (whole : List WholeRow) × AreRowsOf disk whole × (rows ≡ map row_of whole) → Lists disk rows

@@ -1,17 +1,7 @@
 -- A disk has one text.
-use Rattle.std.proofs.Common.{◌≡◌, ◌∙◌, ℕ, List, sym, ap}
-use Rattle.reiser_volume.specs.vol_block.declared.format.Format.{Format}
+use Rattle.volume_app.proofs.Imports.{◌≡◌, ◌∙◌, ℕ, List, sym, ap, Format, format_in, Image, superblock, used_of, Survey, surveys_are_one, Options, ReiserSummary, IsInspectText, InspectTextsAreOne, IsReiserSummary, summary_text}
+use Rattle.volume_app.specs.Reiser.{summary_with}
 use Rattle.reiser_volume.specs.vol_block.declared.format.Format.TheVariants as formats
-use Rattle.reiser_volume.specs.outside.Format.{format_in}
-use Rattle.reiser_volume.specs.outside.History.{Image}
-use Rattle.reiser_volume.specs.Volume.{superblock, used_of}
-use Rattle.convert_core.specs.declared.survey.Survey.{Survey}
-use Rattle.convert_core.proofs.One.{surveys_are_one}
-use Rattle.convert_options.specs.declared.options.Options.{Options}
-use Rattle.volume_app.specs.declared.reiser.ReiserSummary.{ReiserSummary}
-use Rattle.volume_app.specs.Inspect.{IsInspectText}
-use Rattle.volume_app.specs.Laws.{InspectTextsAreOne}
-use Rattle.volume_app.specs.Reiser.{IsReiserSummary, summary_with, summary_text}
 
 summaries_are_one : (o : Options) (disk : Image) (told other : ReiserSummary) → IsReiserSummary o disk told → IsReiserSummary o disk other → told ≡ other
 summaries_are_one o disk told other a b =

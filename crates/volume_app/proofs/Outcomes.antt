@@ -1,45 +1,18 @@
 -- What an ending that is right for a disk comes to.
-use Rattle.std.proofs.Common.{◌≡◌, ◌⊎◌, inl, inr, ℕ, ◌-◌, ◌^◌, ◌<◌, List, refl, ap, subst, ⊎_elim, arith, Result, Ok, Err}
-use Rattle.std.specs.Prelude.{◌≢◌, Option, Some, None}
-use Rattle.reiser_volume.specs.vol_block.declared.format.Format.{Format}
-use Rattle.reiser_volume.specs.vol_block.declared.format.Format.TheVariants as formats
-use Rattle.reiser_volume.specs.outside.Fault.{HasCause, Rose, Takes}
-use Rattle.reiser_volume.specs.outside.History.{Image}
-use Rattle.reiser_volume.specs.outside.declared.fault.Fault as faults
-use Rattle.convert_core.specs.command_answers.declared.answer.Answer.{Answer}
-use Rattle.convert_core.specs.command_answers.declared.answer.Answer.TheVariants.{Volume, Btr, NoSpace, WrongFormat, ImageMissing, ImageMoved, ImageDamaged, ReservedUsed, Fault, Memory}
-use Rattle.volume_app.specs.declared.ending.Ending.{Ending}
-use Rattle.volume_app.specs.declared.ending.Ending.TheVariants.{Done, Usage, Failed, OutputFault}
-use Rattle.reiser_volume.specs.vol_block.declared.ids.Ids.{Ids}
+use Rattle.volume_app.proofs.Imports.{◌≡◌, ◌⊎◌, inl, inr, ℕ, ◌-◌, ◌^◌, ◌<◌, List, refl, ap, subst, ⊎_elim, arith, Result, Ok, Err, ◌≢◌, Option, Format, HasCause, Rose, Takes, Image, Answer, Volume, Btr, NoSpace, WrongFormat, ImageMissing, ImageMoved, ImageDamaged, ReservedUsed, NotSound, ImageShared, Fault, Memory, Ending, Done, Usage, Failed, OutputFault, Ids, IsConvertible, IsSurvey, Survey, LacksSpace, IsRecoverable, HasBytes, RefusesTrial, sample_on, need, Options, Asked, inspect, list, convert, recover, rollback, trial, help, version, status, IsAccepted, format_in, IsInspectable, InspectRefuses, IsListable, ListRefuses, rows_not_refused, EndsRight, HasFaults, IsDoneWith, Prints, Reports, ending_of, meaning, IsTriable}
+use Rattle.std.specs.Prelude.{Some, None}
 use Rattle.convert_core.specs.Answers.{RefusesConvert}
-use Rattle.convert_core.specs.Converted.{IsConvertible}
-use Rattle.convert_core.specs.Surveyed.{IsSurvey}
-use Rattle.convert_core.specs.declared.survey.Survey.{Survey}
-use Rattle.convert_core.specs.convert_steps.Prepared.{LacksSpace}
 use Rattle.rollback_core.specs.RecoveryAnswers.{RefusesRecover}
-use Rattle.rollback_core.specs.Recovered.{IsRecoverable}
 use Rattle.rollback_core.proofs.RecoveryKeeping.{in_order_recovers}
 use Rattle.rollback_core.specs.RollbackAnswers.{RefusesRollback}
-use Rattle.rollback_core.proofs.Refusing.{touched}
-use Rattle.convert_core.specs.convert_trees_laws.Rows.{HasBytes}
-use Rattle.volume_state.specs.Untouched.{IsUntouched}
-use Rattle.trial_core.specs.Answers.{RefusesTrial}
-use Rattle.trial_core.specs.Round as trial_round
-use Rattle.trial_core.specs.Trial.{sample_on}
-use Rattle.unit_plan.specs.Needed.{need}
-use Rattle.convert_options.specs.declared.options.Options.{Options}
-use Rattle.volume_app.specs.Command.{Asked, inspect, list, convert, recover, rollback, trial, help, version}
-use Rattle.volume_app.specs.Ending.{status}
-use Rattle.reiser_volume.specs.Volume.{IsAccepted}
+use Rattle.rollback_core.proofs.Refusing.{refused_can_not}
 use Rattle.reiser_volume.proofs.Refusals.{not_refused}
-use Rattle.reiser_volume.specs.outside.Format.{format_in}
-use Rattle.volume_app.specs.Inspect.{IsInspectable, InspectRefuses}
-use Rattle.volume_app.specs.Listing.{IsListable, ListRefuses}
-use Rattle.btr_reader.proofs.PartsRead.{rows_not_refused}
+use Rattle.volume_state.specs.GoingBack.{CanGoBack}
 use Rattle.volume_app.proofs.Convertible.{accepted_is_reiser}
 use Rattle.volume_app.proofs.Space.{missing}
-use Rattle.volume_app.specs.Outcome.{EndsRight, HasFaults, IsDoneWith, Prints, Reports, ending_of, meaning}
-use Rattle.volume_app.specs.Trying.{IsTriable}
+use Rattle.reiser_volume.specs.vol_block.declared.format.Format.TheVariants as formats
+use Rattle.reiser_volume.specs.outside.declared.fault.Fault as faults
+use Rattle.trial_core.specs.Round as trial_round
 
 -- a text that was written is that of the ending
 pub prints_text : (is_text : List ℕ → Type 0) (text old new : List ℕ) (written : Result (Unit {0}) faults.Fault) → is_text text → Takes old text written new → Prints is_text (ending_of written) old new
@@ -73,6 +46,8 @@ inspect_done disk ImageMissing disk_old disk_new done refuses device same low = 
 inspect_done disk (ImageMoved block) disk_old disk_new done refuses device same low = absurd refuses
 inspect_done disk (ImageDamaged refusal) disk_old disk_new done refuses device same low = absurd refuses
 inspect_done disk (ReservedUsed block) disk_old disk_new done refuses device same low = absurd refuses
+inspect_done disk (NotSound part address) disk_old disk_new done refuses device same low = absurd refuses
+inspect_done disk (ImageShared tree) disk_old disk_new done refuses device same low = absurd refuses
 
 -- a disk that is listed and has not the format of Btrfs is accepted
 accepted_where : (f : Format) (disk : Image) → f ≢ formats.Btrfs → IsListable f disk → IsAccepted disk
@@ -93,6 +68,8 @@ list_done disk ImageMissing disk_old disk_new done refuses device same low = abs
 list_done disk (ImageMoved block) disk_old disk_new done refuses device same low = absurd refuses
 list_done disk (ImageDamaged refusal) disk_old disk_new done refuses device same low = absurd refuses
 list_done disk (ReservedUsed block) disk_old disk_new done refuses device same low = absurd refuses
+list_done disk (NotSound part address) disk_old disk_new done refuses device same low = absurd refuses
+list_done disk (ImageShared tree) disk_old disk_new done refuses device same low = absurd refuses
 
 -- a volume that can be converted lacks no space
 lacks_none : (o : Options) (disk : Image) (needed free run_needed longest : ℕ) → IsConvertible o disk → LacksSpace disk o needed free run_needed longest → ⊥
@@ -123,6 +100,8 @@ convert_done o disk ImageMissing disk_old disk_new done refuses device same low 
 convert_done o disk (ImageMoved block) disk_old disk_new done refuses device same low = absurd refuses
 convert_done o disk (ImageDamaged refusal) disk_old disk_new done refuses device same low = absurd refuses
 convert_done o disk (ReservedUsed block) disk_old disk_new done refuses device same low = absurd refuses
+convert_done o disk (NotSound part address) disk_old disk_new done refuses device same low = absurd refuses
+convert_done o disk (ImageShared tree) disk_old disk_new done refuses device same low = absurd refuses
 
 by_recovery : (disk : Image) (answer : Answer) (disk_old disk_new : ℕ) → (answer ≡ Fault) ⊎ ((answer ≡ Memory) × (format_in disk ≡ formats.Reiser))
     → (answer ≡ Fault → Rose disk_old disk_new) → disk_new ≡ disk_old → disk_old < 2 ^ 64 - 1 → (status (Failed answer) ≡ 0) ⊎ (status (Failed answer) ≡ 4)
@@ -135,18 +114,20 @@ recover_done disk answer disk_old disk_new done refuses device same low =
     by_recovery disk answer disk_old disk_new (in_order_recovers disk answer done refuses) device same low
 
 -- what is answered of a volume that can be rolled back is no refusal
-rollback_done : (disk : Image) (answer : Answer) (disk_old disk_new : ℕ) → IsUntouched disk → RefusesRollback disk answer
+rollback_done : (disk : Image) (answer : Answer) (disk_old disk_new : ℕ) → CanGoBack disk → RefusesRollback disk answer
     → (answer ≡ Fault → Rose disk_old disk_new) → disk_new ≡ disk_old → disk_old < 2 ^ 64 - 1 → (status (Failed answer) ≡ 0) ⊎ (status (Failed answer) ≡ 4)
 rollback_done disk Fault disk_old disk_new done refuses device same low = absurd (not_risen disk_old disk_new same low (device refl))
 rollback_done disk Memory disk_old disk_new done refuses device same low = inr refl
-rollback_done disk (Volume refusal) disk_old disk_new done refuses device same low = absurd (touched disk (Volume refusal) refuses (λ is. cc) (λ is. cc) done)
-rollback_done disk (Btr refusal) disk_old disk_new done refuses device same low = absurd (touched disk (Btr refusal) refuses (λ is. cc) (λ is. cc) done)
+rollback_done disk (Volume refusal) disk_old disk_new done refuses device same low = absurd (refused_can_not disk (Volume refusal) refuses (λ is. cc) (λ is. cc) done)
+rollback_done disk (Btr refusal) disk_old disk_new done refuses device same low = absurd (refused_can_not disk (Btr refusal) refuses (λ is. cc) (λ is. cc) done)
 rollback_done disk (NoSpace needed free run_needed longest_run) disk_old disk_new done refuses device same low = absurd refuses
-rollback_done disk WrongFormat disk_old disk_new done refuses device same low = absurd (touched disk WrongFormat refuses (λ is. cc) (λ is. cc) done)
-rollback_done disk ImageMissing disk_old disk_new done refuses device same low = absurd (touched disk ImageMissing refuses (λ is. cc) (λ is. cc) done)
-rollback_done disk (ImageMoved block) disk_old disk_new done refuses device same low = absurd (touched disk (ImageMoved block) refuses (λ is. cc) (λ is. cc) done)
-rollback_done disk (ImageDamaged refusal) disk_old disk_new done refuses device same low = absurd (touched disk (ImageDamaged refusal) refuses (λ is. cc) (λ is. cc) done)
-rollback_done disk (ReservedUsed block) disk_old disk_new done refuses device same low = absurd (touched disk (ReservedUsed block) refuses (λ is. cc) (λ is. cc) done)
+rollback_done disk WrongFormat disk_old disk_new done refuses device same low = absurd (refused_can_not disk WrongFormat refuses (λ is. cc) (λ is. cc) done)
+rollback_done disk ImageMissing disk_old disk_new done refuses device same low = absurd (refused_can_not disk ImageMissing refuses (λ is. cc) (λ is. cc) done)
+rollback_done disk (ImageMoved block) disk_old disk_new done refuses device same low = absurd (refused_can_not disk (ImageMoved block) refuses (λ is. cc) (λ is. cc) done)
+rollback_done disk (ImageDamaged refusal) disk_old disk_new done refuses device same low = absurd (refused_can_not disk (ImageDamaged refusal) refuses (λ is. cc) (λ is. cc) done)
+rollback_done disk (ReservedUsed block) disk_old disk_new done refuses device same low = absurd (refused_can_not disk (ReservedUsed block) refuses (λ is. cc) (λ is. cc) done)
+rollback_done disk (NotSound part address) disk_old disk_new done refuses device same low = absurd refuses
+rollback_done disk (ImageShared tree) disk_old disk_new done refuses device same low = absurd refuses
 
 -- what is answered of a disk on which a trial has to be done is no refusal
 trial_done : (number : ℕ) (disk : Image) (answer : Answer) (disk_old disk_new : ℕ) → IsTriable number disk × HasBytes disk → RefusesTrial number disk answer
@@ -162,6 +143,8 @@ trial_done number disk ImageMissing disk_old disk_new due refuses device same lo
 trial_done number disk (ImageMoved block) disk_old disk_new due refuses device same low = absurd refuses
 trial_done number disk (ImageDamaged refusal) disk_old disk_new due refuses device same low = absurd refuses
 trial_done number disk (ReservedUsed block) disk_old disk_new due refuses device same low = absurd refuses
+trial_done number disk (NotSound part address) disk_old disk_new due refuses device same low = absurd refuses
+trial_done number disk (ImageShared tree) disk_old disk_new due refuses device same low = absurd refuses
 
 failed_done : (ids : Ids) (now : ℕ) (asked : Option Asked) (disk : Image) (answer : Answer) (disk_old disk_new : ℕ) → (meaning ids now asked).is_due disk → (meaning ids now asked).answers disk answer
     → (answer ≡ Fault → Rose disk_old disk_new) → disk_new ≡ disk_old → disk_old < 2 ^ 64 - 1 → (status (Failed answer) ≡ 0) ⊎ (status (Failed answer) ≡ 4)
@@ -215,6 +198,8 @@ failed_is ImageMissing is = other_than 1 is (λ e. absurd (omega (arith, e)), λ
 failed_is (ImageMoved block) is = other_than 1 is (λ e. absurd (omega (arith, e)), λ e. absurd (omega (arith, e)))
 failed_is (ImageDamaged refusal) is = other_than 1 is (λ e. absurd (omega (arith, e)), λ e. absurd (omega (arith, e)))
 failed_is (ReservedUsed block) is = other_than 1 is (λ e. absurd (omega (arith, e)), λ e. absurd (omega (arith, e)))
+failed_is (NotSound part address) is = other_than 1 is (λ e. absurd (omega (arith, e)), λ e. absurd (omega (arith, e)))
+failed_is (ImageShared tree) is = other_than 1 is (λ e. absurd (omega (arith, e)), λ e. absurd (omega (arith, e)))
 failed_is Fault is = other_than 3 is (λ e. absurd (omega (arith, e)), λ e. absurd (omega (arith, e)))
 failed_is Memory is = other_than 4 is (λ e. absurd (omega (arith, e)), λ e. absurd (omega (arith, e)))
 
@@ -242,6 +227,8 @@ memory_by ImageMissing is = absurd (omega (arith, is))
 memory_by (ImageMoved block) is = absurd (omega (arith, is))
 memory_by (ImageDamaged refusal) is = absurd (omega (arith, is))
 memory_by (ReservedUsed block) is = absurd (omega (arith, is))
+memory_by (NotSound part address) is = absurd (omega (arith, is))
+memory_by (ImageShared tree) is = absurd (omega (arith, is))
 memory_by Fault is = absurd (omega (arith, is))
 memory_by Memory is = refl
 

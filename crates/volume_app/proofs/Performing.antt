@@ -1,18 +1,8 @@
 -- What is said of a command that was done, or failed, from what is said of its parts.
-use Rattle.std.proofs.Common.{◌≡◌, ◌⊎◌, ⊎_elim, ℕ, Bool, List, Result, Ok, Err, refl, sym, ap, subst, arith}
-use Rattle.std.specs.Prelude.{IsTrue, Option, Some, None}
-use Rattle.reiser_volume.specs.outside.Fault.{HasCause, HasCauseOf, Takes}
-use Rattle.reiser_volume.specs.outside.History.{EachCrash, History, Image, IsSettled, reads}
-use Rattle.convert_core.specs.command_answers.declared.answer.Answer.{Answer}
-use Rattle.convert_core.specs.command_answers.declared.answer.Answer.TheVariants.{Fault, Memory}
+use Rattle.volume_app.proofs.Imports.{◌≡◌, ◌⊎◌, ⊎_elim, ℕ, Bool, false, List, Result, Ok, Err, refl, sym, ap, arith, true≢false, IsTrue, Option, HasCause, HasCauseOf, Takes, EachCrashSynced, synced_now, synced_settled, uncalled, History, Image, IsSettled, reads, Answer, Fault, Memory, Asked, status, EndsRight, HasFaults, IsDoneWith, IsQuiet, Knows, Performs, ending_of, Ending, Done, Usage, Failed, OutputFault}
+use Rattle.std.specs.Prelude.{Some, None}
+use Rattle.volume_app.specs.Meaning.{IsSame, Meaning, begun, no_command, reads_disk, says}
 use Rattle.reiser_volume.specs.outside.declared.fault.Fault as faults
-use Rattle.reiser_volume.proofs.outside.Phases.{left_unwritten}
-use Rattle.volume_app.specs.Command.{Asked}
-use Rattle.volume_app.specs.Ending.{status}
-use Rattle.volume_app.specs.Meaning.{IsSame, Meaning, no_command, reads_disk, says}
-use Rattle.volume_app.specs.Outcome.{EndsRight, HasFaults, IsDoneWith, IsQuiet, Knows, Performs, ending_of}
-use Rattle.volume_app.specs.declared.ending.Ending.{Ending}
-use Rattle.volume_app.specs.declared.ending.Ending.TheVariants.{Done, Usage, Failed, OutputFault}
 use Rattle.volume_app.proofs.Outcomes.{prints_text}
 
 -- endings differ
@@ -98,27 +88,33 @@ ok_kept found before now cause = cause.kept (λ is. ok_no_err found Fault is)
 
 -- how the disk is behind a command
 pub record Leaves (m : Meaning) (tells : Bool) (old new : History) (ending : Ending) : Type 0 where
-  pub unchanged : IsTrue tells → m.keeps (reads old) (status ending) → new ≡ old
-  pub lacking : IsTrue tells → status ending ≡ 6 → m.lacking (reads old) (reads new) × (IsSettled old → IsSettled new)
+  pub unchanged : IsTrue tells → m.keeps (reads old) (status ending) → new ≡ begun m.writes old
+  pub lacking : IsTrue tells → status ending ≡ 6 → m.lacking (reads old) (reads new) × (IsTrue m.writes → IsSettled new)
   pub starved : IsTrue tells → status ending ≡ 4 → m.starved (reads old) (reads new)
   pub changed : IsTrue tells → IsDoneWith ending → m.becomes (reads old) (reads new)
-  pub settled : IsTrue tells → IsSettled old → IsDoneWith ending → IsSettled new
-  pub crash : EachCrash tells old new (m.leaves (reads old))
+  pub settled : IsTrue tells → IsTrue m.writes → IsDoneWith ending → IsSettled new
+  pub crash : EachCrashSynced tells old new (m.leaves (reads old))
+  pub order : IsTrue tells → m.order old new
 
--- a disk that was not written is the same, and settled if it was
-pub unwritten : (old new : History) → new ≡ old → IsSame (reads old) (reads new) × (IsSettled old → IsSettled new)
-unwritten old new same = (ap reads same, λ settled. subst IsSettled (sym same) settled)
+-- a disk that was synced alone reads as before, and is settled
+pub only_synced : {W : Type 0} (old new : History) → new ≡ synced_now old → IsSame (reads old) (reads new) × (W → IsSettled new)
+only_synced old new is = (ap reads is, λ writes. synced_settled old new is)
+
+-- a command that only reads writes nothing
+no_writer : {T : Type 0} → IsTrue false → T
+no_writer writes = absurd (true≢false (sym writes))
 
 -- a command that reads leaves it as it was
 pub reading_leaves : (done : Image → Type 0) (text : Image → List ℕ → Type 0) (refuses : Image → Answer → Type 0) (known : Answer → Type 0) (tells : Bool) (old new : History) (ending : Ending)
     → (IsTrue tells → new ≡ old) → Leaves (reads_disk done text refuses known) tells old new ending
 reading_leaves done text refuses known tells old new ending same = record {
   unchanged = λ told keeps. same told;
-  lacking = λ told is. unwritten old new (same told);
+  lacking = λ told is. (ap reads (same told), λ writes. no_writer writes);
   starved = λ told is. ap reads (same told);
   changed = λ told is. ap reads (same told);
-  settled = λ told settled is. subst IsSettled (sym (same told)) settled;
-  crash = λ told settled image left. left_unwritten old new settled (same told) image left;
+  settled = λ told writes is. no_writer writes;
+  crash = λ told. uncalled old new (IsSame (reads old)) (same told);
+  order = λ told. tt;
 }
 
 -- the statuses of a command that was done are none of a refusal
@@ -174,6 +170,7 @@ module _ (m : Meaning) (tells : Bool) (old new : History) (disk_old disk_new : �
     changed = leaves.changed;
     settled = leaves.settled;
     crash = leaves.crash;
+    order = leaves.order;
     faults = printed_faults written disk_old disk_new out_old out_new same cause;
   }
 
@@ -193,6 +190,7 @@ module _ (m : Meaning) (tells : Bool) (old new : History) (disk_old disk_new : �
     changed = leaves.changed;
     settled = leaves.settled;
     crash = leaves.crash;
+    order = leaves.order;
     faults = failed_faults T answer disk_old disk_new out cause;
   }
 
@@ -208,8 +206,9 @@ no_words tells old disk out_tells taken out = record {
   lacking = λ told is. absurd (omega (arith, is));
   starved = λ told is. absurd (omega (arith, is));
   changed = λ told is. absurd is;
-  settled = λ told settled is. absurd is;
-  crash = λ told settled image left. left_unwritten old old settled refl image left;
+  settled = λ told writes is. absurd is;
+  crash = λ told. uncalled old old (IsSame (reads old)) refl;
+  order = λ told. tt;
   faults = record {
     disk_later = omega arith;
     out_later = omega arith;
@@ -228,10 +227,11 @@ said text tells old disk out_tells taken_old taken_new out_old out_new written t
     performed (says text) tells old old disk disk out_tells taken_old taken_new out_old out_new text written (λ told. tt) (λ told. refl)
     (record {
       unchanged = λ told keeps. refl;
-      lacking = λ told is. unwritten old old refl;
+      lacking = λ told is. (refl, λ writes. no_writer writes);
       starved = λ told is. refl;
       changed = λ told is. refl;
-      settled = λ told settled is. settled;
-      crash = λ told settled image left. left_unwritten old old settled refl image left;
+      settled = λ told writes is. no_writer writes;
+      crash = λ told. uncalled old old (IsSame (reads old)) refl;
+      order = λ told. tt;
     })
     refl takes cause

@@ -1,14 +1,5 @@
 -- The promise of the program, from what is said of each command.
-use Rattle.std.proofs.Common.{◌≡◌, ◌<◌, ◌^◌, ◌-◌, ℕ, Bool, List, Some, None}
-use Rattle.std.specs.Prelude.{IsTrue, Option}
-use Rattle.reiser_volume.specs.outside.History.{History, Image, IsSettled, LeftSince, clock, reads}
-use Rattle.reiser_volume.specs.vol_block.declared.ids.Ids.{Ids}
-use Rattle.volume_app.specs.Command.{Asked, inspect, list, convert, recover, rollback, trial, help, version}
-use Rattle.volume_app.specs.Ending.{status}
-use Rattle.volume_app.specs.Headline.{IsToBeDone, KeepsPromise, LeavesTree, MakesTree}
-use Rattle.volume_app.specs.Outcome.{Performs, meaning}
-use Rattle.volume_app.specs.Trees.{AreBlocks}
-use Rattle.volume_app.specs.declared.ending.Ending.{Ending}
+use Rattle.volume_app.proofs.Imports.{◌≡◌, ◌<◌, ◌^◌, ◌-◌, ℕ, Bool, List, Some, None, IsTrue, Option, turned, History, Image, reads, Ids, Asked, inspect, list, convert, recover, rollback, trial, help, version, status, IsToBeDone, KeepsPromise, LeavesTree, MakesTree, Performs, meaning, AreBlocks, Ending}
 use Rattle.volume_app.proofs.Outcomes.{done_by, done_or_memory}
 
 to_be_done : (ids : Ids) (now : ℕ) (asked : Option Asked) (disk : Image) → AreBlocks disk → IsToBeDone asked disk → (meaning ids now asked).is_due disk
@@ -46,10 +37,9 @@ leaves ids now (Some version) disk other blocks is = is
 
 pub keeps_promise : (ids : Ids) (now : ℕ) (asked : Option Asked) (tells : Bool) (old new : History) (disk_old disk_new : ℕ) (out_tells : Bool) (taken_old taken_new : List ℕ) (out_old out_new : ℕ) (ending : Ending)
     → IsTrue tells → AreBlocks (reads old) → Performs (meaning ids now asked) tells old new disk_old disk_new out_tells taken_old taken_new out_old out_new ending
-    → KeepsPromise asked (reads old) (reads new) (status ending) ((disk_new ≡ disk_old) × (disk_old < 2 ^ 64 - 1) × (out_new ≡ out_old) × (out_old < 2 ^ 64 - 1))
-    (λ left. IsSettled old × LeftSince (clock old) new left)
+    → KeepsPromise asked old new (status ending) ((disk_new ≡ disk_old) × (disk_old < 2 ^ 64 - 1) × (out_new ≡ out_old) × (out_old < 2 ^ 64 - 1))
 keeps_promise ids now asked tells old new disk_old disk_new out_tells taken_old taken_new out_old out_new ending told blocks performs = record {
   succeeds = λ done none. done_or_memory ids now asked (reads old) ending disk_old disk_new out_old out_new (to_be_done ids now asked (reads old) blocks done) (performs.right (λ asks. told)) performs.faults none.0 none.1 none.2 none.3;
   makes = λ is. makes ids now asked (reads old) (reads new) blocks (performs.changed told (done_by ending is));
-  crash = λ left is. leaves ids now asked (reads old) left blocks (performs.crash told is.0 left is.1);
+  crash = turned _ _ old new (λ left is. leaves ids now asked (reads old) left blocks is) (performs.crash told);
 }

@@ -1,18 +1,7 @@
 -- The space that a volume lacks, and the space that `inspect` tells of.
-use Rattle.std.proofs.Common.{◌≡◌, ◌∙◌, ◌≤◌, ℕ, ◌+◌, length, refl, sym, ap, subst}
-use Rattle.convert_core.proofs.One.{surveys_are_one}
-use Rattle.convert_core.specs.Surveyed.{IsSurvey}
-use Rattle.convert_core.specs.convert_steps.Prepared.{LacksSpace}
-use Rattle.convert_core.specs.declared.survey.Survey.{Survey}
-use Rattle.convert_options.specs.declared.options.Options.{Options}
-use Rattle.reiser_volume.specs.Volume.{used_of}
-use Rattle.reiser_volume.specs.outside.History.{Image}
+use Rattle.volume_app.proofs.Imports.{◌≡◌, ◌∙◌, ◌≤◌, ℕ, ◌+◌, length, refl, sym, ap, subst, surveys_are_one, IsSurvey, LacksSpace, Survey, Options, used_of, Image, need, InspectTellsSpace, IsReiserSummary, ReiserSummary}
 use Rattle.unit_plan.specs.Choice.{HasEnoughSpace, longest_run}
-use Rattle.unit_plan.specs.Needed.{need}
 use Rattle.unit_plan.specs.declared.need.Need.{Need}
-use Rattle.volume_app.specs.Laws.{InspectTellsSpace}
-use Rattle.volume_app.specs.Reiser.{IsReiserSummary}
-use Rattle.volume_app.specs.declared.reiser.ReiserSummary.{ReiserSummary}
 
 module _ (o : Options) (disk : Image) (needed free run longest : ℕ) (l : LacksSpace disk o needed free run longest) where
   -- what was counted of the volume

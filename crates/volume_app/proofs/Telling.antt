@@ -1,27 +1,20 @@
 -- What is told of a volume that was opened, and how a volume is refused.
-use Rattle.std.proofs.Common.{◌≡◌, inl, inr, ℕ, ◌-◌, ◌^◌, ◌<◌, ◌≤◌, List, [], Option, Some, None, Ok, Contains, refl, sym, ◌∙◌, ap, subst, arith}
+use Rattle.volume_app.proofs.Imports.{◌≡◌, inl, inr, ℕ, ◌-◌, ◌^◌, ◌<◌, ◌≤◌, List, [], Some, None, Ok, Contains, refl, sym, ◌∙◌, ap, subst, arith, Rose, Image, BtrAnswer, Super, opening_refusals, IsBtrfsOpened, IsAmong, own_super, own_map, way_refusals, SavedImage, IsReadable, IsBtrfsRefusal, RefusesPart, opened_super, of_disk, image_length, summary_with, summary_of}
+use Rattle.std.proofs.Common.{Option}
 use Rattle.std.specs.Option.{option_map}
-use Rattle.reiser_volume.specs.outside.Fault.{Rose}
-use Rattle.reiser_volume.specs.outside.History.{Image}
-use Rattle.reiser_volume.specs.refusals.declared.answer.BtrAnswer.{BtrAnswer}
 use Rattle.reiser_volume.specs.refusals.declared.answer.BtrAnswer.TheVariants.{Refused, Fault, Memory}
 use Rattle.reiser_volume.specs.refusals.declared.refusal.BtrRefusal.{BtrRefusal}
-use Rattle.btr_super.specs.declared.superblock.Super.{Super}
 use Rattle.btr_reader.specs.btr_reader_walk.declared.map.MapRange.{MapRange}
 use Rattle.btr_reader.specs.declared.image_map.ImageMap.{ImageMap}
 use Rattle.btr_reader.specs.Image.{ImageFile, saved_image, image_refusals}
-use Rattle.btr_reader.specs.Opening.{opening_refusals, IsOpened, IsAmong}
 use Rattle.btr_reader.specs.Pieces.{MapsImage}
 use Rattle.btr_reader.specs.Reading.{ReadsImage}
-use Rattle.btr_reader.specs.Parts.{own_super, own_map, way_refusals, SavedImage, IsReadable, IsBtrfsRefusal, RefusesPart}
-use Rattle.btr_reader.proofs.PartsRead.{opened_super, of_disk}
-use Rattle.volume_app.specs.Told.{image_length, summary_with, summary_of}
 
 -- the image of a volume that was opened, and what is wrong on the way to it
-pub file_is : (image : Image) (s : Super) (ranges : List MapRange) → IsOpened image s ranges → saved_image image s ranges ≡ saved_image image (own_super image) (own_map image)
+pub file_is : (image : Image) (s : Super) (ranges : List MapRange) → IsBtrfsOpened image s ranges → saved_image image s ranges ≡ saved_image image (own_super image) (own_map image)
 file_is image s ranges opened = of_disk image s ranges (λ t m. saved_image image s ranges ≡ saved_image image t m) opened refl
 
-pub way_is : (image : Image) (s : Super) (ranges : List MapRange) → IsOpened image s ranges → image_refusals image s ranges ≡ way_refusals image
+pub way_is : (image : Image) (s : Super) (ranges : List MapRange) → IsBtrfsOpened image s ranges → image_refusals image s ranges ≡ way_refusals image
 way_is image s ranges opened = of_disk image s ranges (λ t m. image_refusals image s ranges ≡ image_refusals image t m) opened refl
 
 none_of : (refusals : List BtrRefusal) (r : BtrRefusal) → refusals ≡ [] → Contains refusals r → ⊥
@@ -34,7 +27,7 @@ readable_if image opens way r (inl is) = none_of (opening_refusals image) r open
 readable_if image opens way r (inr is) = none_of (way_refusals image) r way is.1
 
 -- an image that was found makes the volume readable
-pub image_read : (image : Image) (s : Super) (ranges : List MapRange) (map : Option ImageMap) → IsOpened image s ranges
+pub image_read : (image : Image) (s : Super) (ranges : List MapRange) (map : Option ImageMap) → IsBtrfsOpened image s ranges
     → ReadsImage ranges (saved_image image s ranges) (image_refusals image s ranges) (Ok map) → IsReadable image SavedImage
 image_read image s ranges map opened reads = readable_if image opened.sound (sym (way_is image s ranges opened) ∙ reads.1)
 
@@ -44,7 +37,7 @@ length_is ranges None (Some f) maps = absurd maps
 length_is ranges (Some m) None maps = absurd maps
 length_is ranges (Some m) (Some f) maps = ap (λ (n : ℕ). Some n) maps.length
 
-pub summary_is : (image : Image) (s : Super) (ranges : List MapRange) (map : Option ImageMap) → IsOpened image s ranges
+pub summary_is : (image : Image) (s : Super) (ranges : List MapRange) (map : Option ImageMap) → IsBtrfsOpened image s ranges
     → ReadsImage ranges (saved_image image s ranges) (image_refusals image s ranges) (Ok map) → summary_with s (option_map (λ (m : ImageMap). m.blocks) map) ≡ summary_of image
 summary_is image s ranges map opened reads =
     let blocks : option_map (λ (m : ImageMap). m.blocks) map ≡ image_length image =
@@ -56,7 +49,7 @@ among_way image (Refused r) opens among = inr (opens, among)
 among_way image Fault opens among = tt
 among_way image Memory opens among = tt
 
-pub way_refuses : (image : Image) (s : Super) (ranges : List MapRange) (e : BtrAnswer) → IsOpened image s ranges → IsAmong (image_refusals image s ranges) e → RefusesPart image SavedImage e
+pub way_refuses : (image : Image) (s : Super) (ranges : List MapRange) (e : BtrAnswer) → IsBtrfsOpened image s ranges → IsAmong (image_refusals image s ranges) e → RefusesPart image SavedImage e
 way_refuses image s ranges e opened among =
     among_way image e opened.sound (subst (λ (z : List BtrRefusal). IsAmong z e) (way_is image s ranges opened) among)
 

@@ -1,31 +1,21 @@
 -- What commands do to the tree of files, from the laws on what they do to the blocks.
-use Rattle.std.proofs.Common.{◌≡◌, inl, inr, ⊎_elim, ◌<◌, ◌^◌, ℕ, false, sym, subst, arith}
+use Rattle.volume_app.proofs.Imports.{◌≡◌, inl, inr, ⊎_elim, ◌<◌, ◌^◌, ℕ, false, sym, subst, arith, FIRST_MIRROR, SECOND_MIRROR, Image, Ids, IsConverted, IsConvertible, IsEither, IsSomeNew, SpareBlocksDecideNothing, is_spare, IsRecovered, IsLeftByRollback, IsRolledBack, AreIds, Options, IsConvertedWhole, IsEitherWhole, AreBlocks, HasId, IsConvertedTree, KeepsTree, LeavesConvertedTree, LeavesRestoredTree}
 use Rattle.std.specs.Prelude.{length}
-use Rattle.reiser_volume.specs.outside.History.{Image}
-use Rattle.reiser_volume.specs.vol_block.declared.ids.Ids.{Ids}
 use Rattle.convert_core_laws.specs.going_back.Back.{ConvertedVolumesGoBack}
 use Rattle.convert_core_laws.proofs.going_back.Crashing.{stands}
 use Rattle.btr_reader.specs.btr_node.NodeSize.{IsNodeSize}
-use Rattle.convert_core.specs.Converted.{IsConverted, IsConvertible, IsEither, IsSomeNew}
 use Rattle.convert_core.specs.convert_steps.Switch.{IsMirror}
 use Rattle.convert_core_laws.specs.reading.Identifiers.{HasFsid}
-use Rattle.volume_state.specs.Laws.{SpareBlocksDecideNothing, is_spare}
 use Rattle.convert_core_laws.specs.opening.Opens.{ConvertedVolumesOpen}
 use Rattle.reiser_volume.specs.Laws.{UsedBlocksDecide}
 use Rattle.rollback_core.specs.RecoveryLaws.{RecoveryKeeps, RecoveryOpens}
-use Rattle.rollback_core.specs.Recovered.{IsRecovered}
-use Rattle.rollback_core.specs.Recovered as recovery
 use Rattle.rollback_core.specs.RollbackLaws.{RollbackKeeps}
-use Rattle.rollback_core.specs.RolledBack.{IsLeft, IsRolledBack}
 use Rattle.convert_core_laws.specs.soundness.Laws.{ConvertedVolumesAreSound}
-use Rattle.convert_core.specs.space_items.Laws.{AreIds}
-use Rattle.convert_options.specs.declared.options.Options.{Options}
 use Rattle.convert_options.specs.declared.options.UuidChoice.{UuidChoice}
 use Rattle.convert_options.specs.declared.options.UuidChoice.TheVariants.{New, Copy, Given}
-use Rattle.volume_app.specs.Converting.{IsConvertedWhole, IsEitherWhole}
+use Rattle.rollback_core.specs.Recovered as recovery
 use Rattle.volume_app.specs.Recovering as recovering
 use Rattle.volume_app.specs.RollingBack as rolling
-use Rattle.volume_app.specs.Trees.{AreBlocks, HasId, IsConvertedTree, KeepsTree, LeavesConvertedTree, LeavesRestoredTree}
 use Rattle.volume_app.proofs.Convertible.{converted_was}
 
 -- ---- convert
@@ -67,28 +57,28 @@ module _ (keeps : RollbackKeeps) (disk other : Image) where
   pub rolled_back_whole : IsRolledBack disk other → rolling.IsRolledBackWhole disk other
   rolled_back_whole r = record {
     rolled_back = r;
-    tree = record { restored = r.back.used; volume = keeps.back disk other r.untouched r.back };
+    tree = record { restored = r.back.used; volume = keeps.back disk other r.can r.back };
   }
 
-  restored_left : IsLeft disk other → LeavesRestoredTree disk other
+  restored_left : IsLeftByRollback disk other → LeavesRestoredTree disk other
   restored_left (inl same) = inl same
   restored_left (inr rest) =
       inr (rest.0, ⊎_elim (λ standing. inl (keeps.standing disk other rest.0 standing)) (λ back. inr (record { restored = back.used; volume = keeps.back disk other rest.0 back })) rest.1)
 
-  pub rollback_left_whole : IsLeft disk other → rolling.IsLeftWhole disk other
+  pub rollback_left_whole : IsLeftByRollback disk other → rolling.IsRollbackLeftWhole disk other
   rollback_left_whole left = record { left = left; tree = restored_left left }
 
 -- ---- recover
 
 -- the blocks of copies are reserved on every volume, and none is that of the superblock
 mirror_spare : (disk : Image) (b : ℕ) → is_spare disk b ≡ false → ¬ IsMirror b
-mirror_spare disk b spare = λ is. ⊎_elim (λ (e : b ≡ 16384). absurd (subst (λ (n : ℕ). is_spare disk n ≡ false → ⊥) (sym e) (λ is. cc) spare)) (λ (e : b ≡ 67108864). absurd (subst (λ (n : ℕ). is_spare disk n ≡ false → ⊥) (sym e) (λ is. cc) spare)) is
+mirror_spare disk b spare = λ is. ⊎_elim (λ (e : b ≡ FIRST_MIRROR). absurd (subst (λ (n : ℕ). is_spare disk n ≡ false → ⊥) (sym e) (λ is. cc) spare)) (λ (e : b ≡ SECOND_MIRROR). absurd (subst (λ (n : ℕ). is_spare disk n ≡ false → ⊥) (sym e) (λ is. cc) spare)) is
 
 module _ (keeps : RecoveryKeeps) (opens : RecoveryOpens) (spare : SpareBlocksDecideNothing) (disk other : Image) where
-  kept : recovery.IsLeft disk other → KeepsTree disk other
+  kept : recovery.IsLeftByRecover disk other → KeepsTree disk other
   kept left = record {
     opens = λ f rows is. opens.left f disk other rows is left;
-    untouched = λ is. spare disk other is (record {
+    goes_back = λ is. spare disk other is (record {
       size = (keeps.left disk other left).size;
       others = λ b outside. (keeps.left disk other left).others b (mirror_spare disk b outside);
     });
@@ -97,5 +87,5 @@ module _ (keeps : RecoveryKeeps) (opens : RecoveryOpens) (spare : SpareBlocksDec
   pub recovered_whole : IsRecovered disk other → recovering.IsRecoveredWhole disk other
   recovered_whole r = record { recovered = r; tree = kept (keeps.recovered disk other r) }
 
-  pub recovery_left_whole : recovery.IsLeft disk other → recovering.IsLeftWhole disk other
+  pub recovery_left_whole : recovery.IsLeftByRecover disk other → recovering.IsRecoverLeftWhole disk other
   recovery_left_whole left = record { left = left; tree = kept left }

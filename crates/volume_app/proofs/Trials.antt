@@ -1,21 +1,9 @@
 -- What a trial leaves.
-use Rattle.std.proofs.Common.{◌≡◌, inl, inr, ⊎_elim, ◌≤◌, ◌<◌, ◌^◌, ℕ, ap, subst, sym, arith, Result, Ok, Err}
-use Rattle.reiser_volume.specs.outside.History.{History, Image, IsSettled, reads}
-use Rattle.convert_core.specs.command_answers.declared.answer.Answer.{Answer}
-use Rattle.convert_core.specs.command_answers.declared.answer.Answer.TheVariants.{Volume, Btr, NoSpace, WrongFormat, ImageMissing, ImageMoved, ImageDamaged, ReservedUsed, Fault, Memory}
-use Rattle.reiser_volume.specs.outside.declared.fault.Fault as faults
-use Rattle.convert_core.specs.convert_trees_laws.Rows.{HasBytes}
-use Rattle.convert_core.specs.space_items.Laws.{AreIds}
-use Rattle.trial_core.specs.Answers.{LeavesRefused, RefusesTrial}
+use Rattle.volume_app.proofs.Imports.{◌≡◌, inl, inr, ⊎_elim, ◌≤◌, ◌<◌, ◌^◌, ℕ, ap, arith, Result, Ok, Err, History, Image, IsSettled, reads, Answer, Volume, Btr, NoSpace, WrongFormat, ImageMissing, ImageMoved, ImageDamaged, ReservedUsed, NotSound, ImageShared, Fault, Memory, HasBytes, AreIds, LeavesRefused, RefusesTrial, IsTried, needed_by, Ids, status, ending_of, IsTriable, IsTriedWhole, KeepsScratch, LeavesSample, Failed, synced_now, synced_settled}
 use Rattle.trial_core.specs.Laws.{TriesKeep}
 use Rattle.trial_core.specs.Round.{plain}
-use Rattle.trial_core.specs.Trial.{IsTried, needed_by}
-use Rattle.reiser_volume.specs.vol_block.declared.ids.Ids.{Ids}
-use Rattle.volume_app.specs.Ending.{status}
-use Rattle.volume_app.specs.Outcome.{ending_of}
-use Rattle.volume_app.specs.Trying.{IsTriable, IsTriedWhole, KeepsScratch, LeavesSample}
-use Rattle.volume_app.specs.declared.ending.Ending.TheVariants.{Failed}
 use Rattle.volume_app.proofs.Convertible.{converted_was}
+use Rattle.reiser_volume.specs.outside.declared.fault.Fault as faults
 
 -- a trial was done on a disk that is one for it
 pub triable_was : (number : ℕ) (ids : Ids) (now : ℕ) (disk other : Image) → IsTried number ids now disk other → IsTriable number disk
@@ -61,21 +49,25 @@ refused_keeps number old new ImageMissing leaves is = leaves
 refused_keeps number old new (ImageMoved block) leaves is = leaves
 refused_keeps number old new (ImageDamaged refusal) leaves is = leaves
 refused_keeps number old new (ReservedUsed block) leaves is = leaves
+refused_keeps number old new (NotSound part address) leaves is = leaves
+refused_keeps number old new (ImageShared tree) leaves is = leaves
 refused_keeps number old new Fault leaves is = absurd (keeps_no_three number (reads old) is)
 refused_keeps number old new Memory leaves is = absurd (keeps_no_four number (reads old) is)
 
--- too little space leaves the disk as it was, or the sample
-pub refused_lacks : (number : ℕ) (old new : History) (answer : Answer) → RefusesTrial number (reads old) answer → LeavesRefused number old new answer → status (Failed answer) ≡ 6
-    → LeavesSample number (reads old) (reads new) × (IsSettled old → IsSettled new)
+-- too little space leaves the disk as it was, or the sample, and nothing waits
+pub refused_lacks : {W : Type 0} (number : ℕ) (old new : History) (answer : Answer) → RefusesTrial number (reads old) answer → LeavesRefused number (synced_now old) new answer → status (Failed answer) ≡ 6
+    → LeavesSample number (reads old) (reads new) × (W → IsSettled new)
 refused_lacks number old new (Volume refusal) refuses leaves is = absurd (omega (arith, is))
 refused_lacks number old new (Btr refusal) refuses leaves is = absurd (omega (arith, is))
 refused_lacks number old new (NoSpace needed free run_needed longest_run) refuses leaves is =
-    ⊎_elim (λ full. (inl (full.0, ap reads (leaves.0 full.0)), λ settled. subst IsSettled (sym (leaves.0 full.0)) settled))
-    (λ lacks. (inr (lacks.0, (leaves.1 lacks.0).0), λ settled. (leaves.1 lacks.0).1)) refuses.1
+    ⊎_elim (λ full. (inl (full.0, ap reads (leaves.0 full.0)), λ writes. synced_settled old new (leaves.0 full.0)))
+    (λ lacks. (inr (lacks.0, (leaves.1 lacks.0).0), λ writes. (leaves.1 lacks.0).1)) refuses.1
 refused_lacks number old new WrongFormat refuses leaves is = absurd (omega (arith, is))
 refused_lacks number old new ImageMissing refuses leaves is = absurd (omega (arith, is))
 refused_lacks number old new (ImageMoved block) refuses leaves is = absurd (omega (arith, is))
 refused_lacks number old new (ImageDamaged refusal) refuses leaves is = absurd (omega (arith, is))
 refused_lacks number old new (ReservedUsed block) refuses leaves is = absurd (omega (arith, is))
+refused_lacks number old new (NotSound part address) refuses leaves is = absurd (omega (arith, is))
+refused_lacks number old new (ImageShared tree) refuses leaves is = absurd (omega (arith, is))
 refused_lacks number old new Fault refuses leaves is = absurd (omega (arith, is))
 refused_lacks number old new Memory refuses leaves is = absurd (omega (arith, is))

@@ -1,5 +1,5 @@
 -- What `convert` answers, prints and writes.
-use Rattle.std.specs.Prelude.{◌≡◌, ◌⊎◌, ℕ, List, [], ◌∷◌, codes, decimal}
+use Rattle.std.specs.Prelude.{◌≡◌, ◌⊎◌, ℕ, true, List, [], ◌∷◌, codes, decimal}
 use Rattle.convert_core.specs.Answers.{IsConvertAnswer, RefusesConvert}
 use Rattle.convert_core.specs.Converted.{DiffersInFree, IsConverted, IsConvertible, IsEither}
 use Rattle.convert_core.specs.Surveyed.{IsSummary}
@@ -7,7 +7,7 @@ use Rattle.convert_core.specs.declared.summary.ConvertSummary.{ConvertSummary}
 use Rattle.reiser_volume.specs.outside.History.{Image}
 use Rattle.convert_options.specs.declared.options.Options.{Options}
 use Rattle.reiser_volume.specs.vol_block.declared.ids.Ids.{Ids}
-use Rattle.volume_app.specs.Meaning.{IsSame, Meaning}
+use Rattle.volume_app.specs.Meaning.{AnyOrder, IsSame, Meaning}
 use Rattle.volume_app.specs.Texts.{text_of_lines}
 use Rattle.volume_app.specs.Trees.{AreBlocks, IsConvertedTree, LeavesConvertedTree}
 
@@ -44,6 +44,7 @@ abbrev pub convert_meaning : Ids → ℕ → Options → Meaning
 convert_meaning ids now o = record {
   is_usage = ⊥;
   asks_disk = Unit {0};
+  writes = true;
   takes_memory = Unit {0};
   is_done = IsConvertible o;
   is_due = IsConvertible o;
@@ -55,4 +56,5 @@ convert_meaning ids now o = record {
   starved = DiffersInFree;
   becomes = IsConvertedWhole o ids now;
   leaves = IsEitherWhole o ids now;
+  order = AnyOrder;
 }

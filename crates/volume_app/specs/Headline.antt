@@ -1,13 +1,14 @@
 -- The promise of the program, in one place.
 use Rattle.std.specs.Prelude.{◌≡◌, ◌⊎◌, ℕ, Option, Some, None}
 use Rattle.convert_core.specs.Converted.{IsConvertible}
-use Rattle.reiser_volume.specs.outside.History.{Image}
+use Rattle.reiser_volume.specs.outside.History.{Image, History, reads}
 use Rattle.rollback_core.specs.Recovered.{IsRecoverable}
-use Rattle.volume_state.specs.Untouched.{IsUntouched}
+use Rattle.volume_state.specs.GoingBack.{CanGoBack}
 use Rattle.trial_core.specs.Laws.{IsSampleAgain}
 use Rattle.volume_app.specs.Command.{Asked, inspect, list, convert, recover, rollback, trial, help, version}
 use Rattle.volume_app.specs.Trees.{IsConvertedTree, IsRestoredTree, KeepsTree, LeavesConvertedTree, LeavesRestoredTree}
 use Rattle.volume_app.specs.Trying.{IsTriable}
+use Rattle.first_sync.specs.Synced.{CrashesSynced}
 
 -- A command that writes is to be done on this disk: `convert` where an accepted ReiserFS volume has the stated free space, `rollback` where
 -- the saved image is untouched, `recover` where superblock, journal and bitmap, or the superblock of Btrfs, keep their rules, `trial` where
@@ -18,7 +19,7 @@ IsToBeDone (Some (inspect o path)) disk = ⊥
 IsToBeDone (Some (list path)) disk = ⊥
 IsToBeDone (Some (convert o path)) disk = IsConvertible o disk
 IsToBeDone (Some (recover path)) disk = IsRecoverable disk
-IsToBeDone (Some (rollback path)) disk = IsUntouched disk
+IsToBeDone (Some (rollback path)) disk = CanGoBack disk
 IsToBeDone (Some (trial number path)) disk = IsTriable number disk
 IsToBeDone (Some help) disk = ⊥
 IsToBeDone (Some version) disk = ⊥
@@ -35,7 +36,7 @@ MakesTree (Some (trial number path)) disk other = IsSampleAgain number disk othe
 MakesTree (Some help) disk other = other ≡ disk
 MakesTree (Some version) disk other = other ≡ disk
 
--- what a crash at any moment of a command leaves of it: one of the two formats, with its tree. Of a trial, whose disk had no volume, nothing
+-- what a crash at any moment of a command, since its first sync, leaves of it: one of the two formats, with its tree. Of a trial, whose disk had no volume, nothing
 -- is said.
 abbrev pub LeavesTree : Option Asked → Image → Image → Type 0
 LeavesTree None disk other = other ≡ disk
@@ -48,11 +49,13 @@ LeavesTree (Some (trial number path)) disk other = Unit {0}
 LeavesTree (Some help) disk other = other ≡ disk
 LeavesTree (Some version) disk other = other ≡ disk
 
--- What is promised of a run on a disk: with its status, the disk behind it, whether no call failed, and what a crash may have left.
-pub record KeepsPromise (asked : Option Asked) (disk other : Image) (status : ℕ) (NoneFailed : Type 0) (IsLeft : Image → Type 0) : Type 0 where
+-- What is promised of a run on a disk with any history, whether or not writes from before wait on it: with the history behind the run, its
+-- status, and whether no call failed.
+pub record KeepsPromise (asked : Option Asked) (old new : History) (status : ℕ) (NoneFailed : Type 0) : Type 0 where
   -- it succeeds, unless a call failed or memory ran out
-  pub succeeds : IsToBeDone asked disk → NoneFailed → (status ≡ 0) ⊎ (status ≡ 4)
+  pub succeeds : IsToBeDone asked (reads old) → NoneFailed → (status ≡ 0) ⊎ (status ≡ 4)
   -- then the tree is what it is to be
-  pub makes : (status ≡ 0) ⊎ (status ≡ 5) → MakesTree asked disk other
-  -- and a crash at any moment leaves exactly one of the two formats, with its tree
-  pub crash : (left : Image) → IsLeft left → LeavesTree asked disk left
+  pub makes : (status ≡ 0) ⊎ (status ≡ 5) → MakesTree asked (reads old) (reads new)
+  -- Nothing is called before a sync that succeeds, so until then a crash leaves what it would have left before the run. A crash at any moment
+  -- since then leaves exactly one of the two formats, with its tree.
+  pub crash : CrashesSynced old new (LeavesTree asked (reads old))

@@ -6,7 +6,7 @@ use Rattle.reiser_volume.specs.vol_block.declared.format.Format.TheVariants as f
 use Rattle.reiser_volume.specs.outside.History.{Image}
 use Rattle.convert_options.specs.declared.options.Options.{Options}
 use Rattle.convert_core.specs.command_answers.declared.answer.Answer.{Answer}
-use Rattle.convert_core.specs.command_answers.declared.answer.Answer.TheVariants.{Volume, Btr, NoSpace, WrongFormat, ImageMissing, ImageMoved, ImageDamaged, ReservedUsed, Fault, Memory}
+use Rattle.convert_core.specs.command_answers.declared.answer.Answer.TheVariants.{Volume, Btr, NoSpace, WrongFormat, ImageMissing, ImageMoved, ImageDamaged, ReservedUsed, NotSound, ImageShared, Fault, Memory}
 use Rattle.reiser_volume.specs.Answers.{NamesVolumeRule}
 use Rattle.reiser_volume.specs.Volume.{IsAccepted, IsRefusal}
 use Rattle.btr_reader.specs.Parts.{SavedImage, IsReadable, IsBtrfsRefusal}
@@ -52,6 +52,8 @@ InspectRefuses disk ImageMissing = ⊥
 InspectRefuses disk (ImageMoved block) = ⊥
 InspectRefuses disk (ImageDamaged refusal) = ⊥
 InspectRefuses disk (ReservedUsed block) = ⊥
+InspectRefuses disk (NotSound part address) = ⊥
+InspectRefuses disk (ImageShared tree) = ⊥
 
 -- The answers that `inspect` knows, whatever the disk gives: its refusals are those of volumes, or that a block reads otherwise
 -- than before, and name no log tree.
@@ -66,6 +68,8 @@ IsInspectAnswer ImageMissing = ⊥
 IsInspectAnswer (ImageMoved block) = ⊥
 IsInspectAnswer (ImageDamaged refusal) = ⊥
 IsInspectAnswer (ReservedUsed block) = ⊥
+IsInspectAnswer (NotSound part address) = ⊥
+IsInspectAnswer (ImageShared tree) = ⊥
 
 -- what `inspect` with these options means
 abbrev pub inspect_meaning : Options → Meaning

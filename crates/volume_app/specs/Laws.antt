@@ -1,11 +1,14 @@
--- What holds of what `inspect` prints.
-use Rattle.std.specs.Prelude.{◌≡◌, ◌≤◌, ℕ, List}
+-- What holds of what `inspect` prints, and of what is promised of crashes.
+use Rattle.std.specs.Prelude.{◌≡◌, ◌⊎◌, ◌≤◌, ℕ, List, Option}
 use Rattle.convert_core.specs.convert_steps.Prepared.{LacksSpace}
 use Rattle.convert_options.specs.declared.options.Options.{Options}
 use Rattle.reiser_volume.specs.Volume.{used_of}
 use Rattle.reiser_volume.specs.outside.Format.{format_in}
-use Rattle.reiser_volume.specs.outside.History.{Image}
+use Rattle.first_sync.specs.Synced.{CrashesSynced}
+use Rattle.reiser_volume.specs.outside.History.{History, Image, IsSettled, LeftSince, MayLeave, clock, reads}
 use Rattle.unit_plan.specs.Choice.{longest_run}
+use Rattle.volume_app.specs.Command.{Asked}
+use Rattle.volume_app.specs.Headline.{LeavesTree}
 use Rattle.volume_app.specs.Inspect.{IsInspectText}
 use Rattle.volume_app.specs.Reiser.{IsReiserSummary}
 use Rattle.volume_app.specs.declared.reiser.ReiserSummary.{ReiserSummary}
@@ -22,3 +25,9 @@ pub record TellsSpaceFor (o : Options) (disk : Image) (told : ReiserSummary) : T
 
 abbrev pub InspectTellsSpace : Type 0
 InspectTellsSpace = (o : Options) (disk : Image) (told : ReiserSummary) → IsReiserSummary o disk told → TellsSpaceFor o disk told
+
+-- What the promise comes to for a crash at any moment of a command, also before its first sync. Where nothing waited when the command began
+-- the crash leaves one of the two formats, with its tree. On any other disk it does so, or leaves what a crash before could have left.
+pub record CrashesAtAnyMoment : Type 0 where
+  pub settled : (asked : Option Asked) (old new : History) → CrashesSynced old new (LeavesTree asked (reads old)) → IsSettled old → (left : Image) → LeftSince (clock old) new left → LeavesTree asked (reads old) left
+  pub any : (asked : Option Asked) (old new : History) → CrashesSynced old new (LeavesTree asked (reads old)) → (left : Image) → LeftSince (clock old) new left → MayLeave old.start old.calls left ⊎ LeavesTree asked (reads old) left

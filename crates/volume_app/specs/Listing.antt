@@ -8,7 +8,7 @@ use Rattle.fs_rows.specs.declared.row.Row.{Row}
 use Rattle.reiser_volume.specs.reiser_volume_contents.Answers.{IsChanged}
 use Rattle.reiser_volume.specs.outside.History.{Image}
 use Rattle.convert_core.specs.command_answers.declared.answer.Answer.{Answer}
-use Rattle.convert_core.specs.command_answers.declared.answer.Answer.TheVariants.{Volume, Btr, NoSpace, WrongFormat, ImageMissing, ImageMoved, ImageDamaged, ReservedUsed, Fault, Memory}
+use Rattle.convert_core.specs.command_answers.declared.answer.Answer.TheVariants.{Volume, Btr, NoSpace, WrongFormat, ImageMissing, ImageMoved, ImageDamaged, ReservedUsed, NotSound, ImageShared, Fault, Memory}
 use Rattle.reiser_volume.specs.Answers.{NamesVolumeRule}
 use Rattle.reiser_volume.specs.Volume.{AreRowsOf, IsAccepted, IsRefusal}
 use Rattle.btr_reader.specs.Parts.{HasBtrfsRows, AreRowsOfBtrfs, IsRowsRefusal}
@@ -50,6 +50,8 @@ ListRefuses disk ImageMissing = ⊥
 ListRefuses disk (ImageMoved block) = ⊥
 ListRefuses disk (ImageDamaged refusal) = ⊥
 ListRefuses disk (ReservedUsed block) = ⊥
+ListRefuses disk (NotSound part address) = ⊥
+ListRefuses disk (ImageShared tree) = ⊥
 
 -- The answers that `list` knows, whatever the disk gives.
 abbrev pub IsListAnswer : Answer → Type 0
@@ -63,6 +65,8 @@ IsListAnswer ImageMissing = ⊥
 IsListAnswer (ImageMoved block) = ⊥
 IsListAnswer (ImageDamaged refusal) = ⊥
 IsListAnswer (ReservedUsed block) = ⊥
+IsListAnswer (NotSound part address) = ⊥
+IsListAnswer (ImageShared tree) = ⊥
 
 -- what `list` means
 abbrev pub list_meaning : Meaning

@@ -1,6 +1,7 @@
 -- What a command means.
-use Rattle.std.specs.Prelude.{◌≡◌, ℕ, List, []}
-use Rattle.reiser_volume.specs.outside.History.{Image}
+use Rattle.std.specs.Prelude.{◌≡◌, ℕ, Bool, true, false, List, []}
+use Rattle.first_sync.specs.Synced.{synced_now}
+use Rattle.reiser_volume.specs.outside.History.{History, Image}
 use Rattle.convert_core.specs.command_answers.declared.answer.Answer.{Answer}
 
 -- All that is said of a command. A disk is seen as the blocks that it has when the command begins.
@@ -9,6 +10,8 @@ pub record Meaning : Type 1 where
   pub is_usage : Type 0
   -- it asks the disk; any other says the same whatever the disk is
   pub asks_disk : Type 0
+  -- it writes, and so it begins with a sync
+  pub writes : Bool
   -- it takes memory, of which there may be too little
   pub takes_memory : Type 0
   -- it is done on such a disk alone
@@ -20,14 +23,25 @@ pub record Meaning : Type 1 where
   -- it may answer so on this disk, and whatever the disk gives
   pub answers : Image → Answer → Type 0
   pub knows : Answer → Type 0
-  -- with these statuses nothing is written on this disk
+  -- with these statuses nothing is written on this disk, though a command that writes has synced it
   pub keeps : Image → ℕ → Type 0
   -- what the disk is where there is too little space, where memory ran out, and where the command is done, by what it was
   pub lacking : Image → Image → Type 0
   pub starved : Image → Image → Type 0
   pub becomes : Image → Image → Type 0
-  -- what a crash at any moment may leave
+  -- what a crash at any moment since that sync may leave
   pub leaves : Image → Image → Type 0
+  -- in which order it writes, by the history before and behind it
+  pub order : History → History → Type 0
+
+-- the history of the disk once the command has begun, where it writes or where it does not
+abbrev pub begun : Bool → History → History
+begun true h = synced_now h
+begun false h = h
+
+-- no order that is told of
+abbrev pub AnyOrder : History → History → Type 0
+AnyOrder old new = Unit {0}
 
 -- a disk that is as it was
 abbrev pub IsSame : Image → Image → Type 0
@@ -38,6 +52,7 @@ abbrev pub reads_disk : (Image → Type 0) → (Image → List ℕ → Type 0) �
 reads_disk done text refuses known = record {
   is_usage = ⊥;
   asks_disk = Unit {0};
+  writes = false;
   takes_memory = Unit {0};
   is_done = done;
   is_due = done;
@@ -49,6 +64,7 @@ reads_disk done text refuses known = record {
   starved = IsSame;
   becomes = IsSame;
   leaves = IsSame;
+  order = AnyOrder;
 }
 
 -- a command that prints this text, and asks for nothing
@@ -56,6 +72,7 @@ abbrev pub says : List ℕ → Meaning
 says text = record {
   is_usage = ⊥;
   asks_disk = ⊥;
+  writes = false;
   takes_memory = ⊥;
   is_done = λ disk. Unit {0};
   is_due = λ disk. Unit {0};
@@ -67,6 +84,7 @@ says text = record {
   starved = IsSame;
   becomes = IsSame;
   leaves = IsSame;
+  order = AnyOrder;
 }
 
 -- words that are no command

@@ -1,7 +1,8 @@
 -- What an ending means of the disk that was found, and what the sinks gained.
 use Rattle.std.specs.Prelude.{◌≡◌, ◌⊎◌, ℕ, ◌≤◌, Bool, IsTrue, List, ◌++◌, take, Option, Some, None, Result, Ok, Err}
 use Rattle.reiser_volume.specs.outside.Fault.{Rose}
-use Rattle.reiser_volume.specs.outside.History.{EachCrash, History, Image, IsSettled, reads}
+use Rattle.first_sync.specs.Synced.{EachCrashSynced}
+use Rattle.reiser_volume.specs.outside.History.{History, Image, IsSettled, reads}
 use Rattle.reiser_volume.specs.outside.declared.fault.Fault as faults
 use Rattle.convert_core.specs.command_answers.declared.answer.Answer.TheVariants.{Fault, Memory}
 use Rattle.volume_app.specs.declared.ending.Ending.{Ending}
@@ -14,7 +15,7 @@ use Rattle.volume_app.specs.Inspect.{inspect_meaning}
 use Rattle.volume_app.specs.Listing.{list_meaning}
 use Rattle.volume_app.specs.Recovering.{recover_meaning}
 use Rattle.volume_app.specs.RollingBack.{rollback_meaning}
-use Rattle.volume_app.specs.Meaning.{Meaning, says, no_command}
+use Rattle.volume_app.specs.Meaning.{Meaning, begun, says, no_command}
 use Rattle.volume_app.specs.Texts.{help_text, version_text}
 use Rattle.volume_app.specs.Trying.{trial_meaning}
 
@@ -90,7 +91,7 @@ Reports line faults_old faults_new old new =
 
 -- The status is that of an ending that the command knows, with its line on the error sink. Where the disk tells its blocks, or the
 -- command asks it nothing, the ending is right for it, and the output sink gained its text.
-pub record Runs (m : Meaning) (tells : Type 0) (disk : Image) (answer : ℕ) (out_tells : Type 0) (out_old out_new : List ℕ) (err_tells : Type 0) (faults_old faults_new : ℕ) (err_old err_new : List ℕ) : Type 0 where
+pub record RunsCommand (m : Meaning) (tells : Type 0) (disk : Image) (answer : ℕ) (out_tells : Type 0) (out_old out_new : List ℕ) (err_tells : Type 0) (faults_old faults_new : ℕ) (err_old err_new : List ℕ) : Type 0 where
   pub ending : Ending
   pub answers : answer ≡ status ending
   pub known : Knows m ending
@@ -106,10 +107,11 @@ pub record Performs (m : Meaning) (tells : Bool) (old new : History) (disk_old d
   pub printed : (m.asks_disk → IsTrue tells) → IsTrue out_tells → Prints (m.is_text (reads old)) ending taken_old taken_new
   pub quiet : IsTrue out_tells → IsQuiet ending → taken_new ≡ taken_old
   pub memory : ending ≡ Failed Memory → m.takes_memory
-  pub unchanged : IsTrue tells → m.keeps (reads old) (status ending) → new ≡ old
-  pub lacking : IsTrue tells → status ending ≡ 6 → m.lacking (reads old) (reads new) × (IsSettled old → IsSettled new)
+  pub unchanged : IsTrue tells → m.keeps (reads old) (status ending) → new ≡ begun m.writes old
+  pub lacking : IsTrue tells → status ending ≡ 6 → m.lacking (reads old) (reads new) × (IsTrue m.writes → IsSettled new)
   pub starved : IsTrue tells → status ending ≡ 4 → m.starved (reads old) (reads new)
   pub changed : IsTrue tells → IsDoneWith ending → m.becomes (reads old) (reads new)
-  pub settled : IsTrue tells → IsSettled old → IsDoneWith ending → IsSettled new
-  pub crash : EachCrash tells old new (m.leaves (reads old))
+  pub settled : IsTrue tells → IsTrue m.writes → IsDoneWith ending → IsSettled new
+  pub crash : EachCrashSynced tells old new (m.leaves (reads old))
+  pub order : IsTrue tells → m.order old new
   pub faults : HasFaults ending disk_old disk_new out_old out_new

@@ -1,8 +1,8 @@
 -- What `recover` answers, prints and writes.
-use Rattle.std.specs.Prelude.{◌≡◌, ◌⊎◌, ℕ, List, [], ◌∷◌, codes, decimal}
+use Rattle.std.specs.Prelude.{◌≡◌, ◌⊎◌, ℕ, true, List, [], ◌∷◌, codes, decimal}
 use Rattle.reiser_volume.specs.outside.History.{Image}
 use Rattle.rollback_core.specs.RecoveryAnswers.{IsRecoverAnswer, RefusesRecover}
-use Rattle.rollback_core.specs.Recovered.{IsLeft, IsRecoverable, IsRecovered, summary}
+use Rattle.rollback_core.specs.Recovered.{IsLeftByRecover, IsRecoverable, IsRecovered, RewritesBeforeCopies, recover_summary}
 use Rattle.rollback_core.specs.declared.recovery.RecoverSummary.{RecoverSummary}
 use Rattle.reiser_volume.specs.vol_block.declared.format.Format.{Format}
 use Rattle.reiser_volume.specs.vol_block.declared.format.Format.TheVariants.{Reiser, Btrfs, Neither}
@@ -27,7 +27,7 @@ recover_text told = text_of_lines (recover_lines told)
 
 -- the text for a disk: its format, and how many blocks of it are written
 abbrev pub IsRecoverText : Image → List ℕ → Type 0
-IsRecoverText disk text = text ≡ recover_text (summary disk)
+IsRecoverText disk text = text ≡ recover_text (recover_summary disk)
 
 -- the volume is recovered, and its tree is as before
 pub record IsRecoveredWhole (disk other : Image) : Type 0 where
@@ -35,8 +35,8 @@ pub record IsRecoveredWhole (disk other : Image) : Type 0 where
   pub tree : KeepsTree disk other
 
 -- the volume stands, with its tree
-pub record IsLeftWhole (disk other : Image) : Type 0 where
-  pub left : IsLeft disk other
+pub record IsRecoverLeftWhole (disk other : Image) : Type 0 where
+  pub left : IsLeftByRecover disk other
   pub tree : KeepsTree disk other
 
 -- What `recover` means. Nothing is written where the volume is refused, memory is short, or the words are no command.
@@ -44,6 +44,7 @@ abbrev pub recover_meaning : Meaning
 recover_meaning = record {
   is_usage = ⊥;
   asks_disk = Unit {0};
+  writes = true;
   takes_memory = Unit {0};
   is_done = IsRecoverable;
   is_due = IsRecoverable;
@@ -54,5 +55,6 @@ recover_meaning = record {
   lacking = IsSame;
   starved = IsSame;
   becomes = IsRecoveredWhole;
-  leaves = IsLeftWhole;
+  leaves = IsRecoverLeftWhole;
+  order = RewritesBeforeCopies;
 }

@@ -1,10 +1,10 @@
 -- What `rollback` answers, prints and writes.
-use Rattle.std.specs.Prelude.{◌≡◌, ◌⊎◌, ℕ, List, [], ◌∷◌, codes, decimal}
+use Rattle.std.specs.Prelude.{◌≡◌, ◌⊎◌, ℕ, List, [], ◌∷◌, codes, decimal, true}
 use Rattle.reiser_volume.specs.outside.History.{Image}
 use Rattle.rollback_core.specs.RollbackAnswers.{IsRollbackAnswer, RefusesRollback}
-use Rattle.rollback_core.specs.RolledBack.{IsLeft, IsRolledBack, summary}
-use Rattle.volume_state.specs.Untouched.{IsUntouched}
-use Rattle.volume_app.specs.Meaning.{IsSame, Meaning}
+use Rattle.rollback_core.specs.RolledBack.{IsLeftByRollback, IsRolledBack, rollback_summary}
+use Rattle.volume_state.specs.GoingBack.{CanGoBack}
+use Rattle.volume_app.specs.Meaning.{IsSame, Meaning, AnyOrder}
 use Rattle.volume_app.specs.Texts.{text_of_lines}
 use Rattle.volume_app.specs.Trees.{IsRestoredTree, LeavesRestoredTree}
 use Rattle.rollback_core.specs.declared.way.RollbackSummary.{RollbackSummary}
@@ -21,7 +21,7 @@ rollback_text told = text_of_lines (rollback_lines told)
 
 -- the text for a disk: how many blocks the old volume uses, and how many of them are restored
 abbrev pub IsRollbackText : Image → List ℕ → Type 0
-IsRollbackText disk text = text ≡ rollback_text (summary disk)
+IsRollbackText disk text = text ≡ rollback_text (rollback_summary disk)
 
 -- the volume is rolled back, and its tree is that of the saved image
 pub record IsRolledBackWhole (disk other : Image) : Type 0 where
@@ -29,8 +29,8 @@ pub record IsRolledBackWhole (disk other : Image) : Type 0 where
   pub tree : IsRestoredTree disk other
 
 -- the Btrfs volume or the old one stands, with its tree
-pub record IsLeftWhole (disk other : Image) : Type 0 where
-  pub left : IsLeft disk other
+pub record IsRollbackLeftWhole (disk other : Image) : Type 0 where
+  pub left : IsLeftByRollback disk other
   pub tree : LeavesRestoredTree disk other
 
 -- What `rollback` means. Nothing is written where it is refused, memory is short, or the words are no command.
@@ -38,9 +38,10 @@ abbrev pub rollback_meaning : Meaning
 rollback_meaning = record {
   is_usage = ⊥;
   asks_disk = Unit {0};
+  writes = true;
   takes_memory = Unit {0};
-  is_done = IsUntouched;
-  is_due = IsUntouched;
+  is_done = CanGoBack;
+  is_due = CanGoBack;
   is_text = IsRollbackText;
   answers = RefusesRollback;
   knows = IsRollbackAnswer;
@@ -48,5 +49,6 @@ rollback_meaning = record {
   lacking = IsSame;
   starved = IsSame;
   becomes = IsRolledBackWhole;
-  leaves = IsLeftWhole;
+  leaves = IsRollbackLeftWhole;
+  order = AnyOrder;
 }

@@ -33,7 +33,7 @@ help_text =
     ++ codes "Option of every command, before the path, and before the N of trial:" ++ 10 ∷ []
     ++ codes "  --verbose      tell on standard error what is told on a terminal" ++ 10 ∷ []
     ++ codes "Exit status:" ++ 10 ∷ []
-    ++ codes "  0 done, 1 the volume is refused, 2 the arguments are invalid, 3 device fault, 4 out of memory," ++ 10 ∷ []
+    ++ codes "  0 done, 1 refused or not confirmed, 2 the arguments are invalid, 3 device fault, 4 out of memory," ++ 10 ∷ []
     ++ codes "  5 done but the text could not be printed, 6 too little free space, 7 the program could not start" ++ 10 ∷ []
     ++ codes "Documents:" ++ 10 ∷ []
     ++ codes "  the manual page reiserconv(8), and the guide docs/HOWTO.md" ++ 10 ∷ []

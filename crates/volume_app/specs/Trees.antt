@@ -4,14 +4,14 @@ use Rattle.reiser_volume.specs.outside.History.{Image, block_at}
 use Rattle.fs_rows.specs.Rows.{WholeRow}
 use Rattle.convert_core_laws.specs.going_back.Back.{GoesBack}
 use Rattle.convert_core_laws.specs.btr_check_rules.Sound.{IsSound}
-use Rattle.volume_state.specs.Laws.{IsSameUntouched}
+use Rattle.volume_state.specs.Laws.{CanGoBackToo}
 use Rattle.reiser_volume.specs.reiser_volume_contents.Laws.{SameUsed}
 use Rattle.convert_core_laws.specs.opening.Opens.{OpensAsBefore, StandsAsBefore}
 use Rattle.reiser_volume.specs.Laws.{IsSameVolume}
 use Rattle.rollback_core.specs.Opens.{OpensAs}
 use Rattle.convert_core.specs.convert_trees_laws.Rows.{HasBytes}
 use Rattle.volume_state.specs.Saved.{image_blocks}
-use Rattle.volume_state.specs.Untouched.{IsUntouched, old_used}
+use Rattle.volume_state.specs.GoingBack.{CanGoBack, old_used}
 use Rattle.convert_options.specs.declared.options.UuidChoice.{UuidChoice}
 use Rattle.convert_options.specs.declared.options.UuidChoice.TheVariants.{New, Copy, Given}
 use Rattle.reiser_volume.specs.vol_block.declared.format.Format.{Format}
@@ -46,15 +46,15 @@ pub record IsRestoredTree (disk other : Image) : Type 0 where
   pub restored : SameUsed (old_used disk) (image_blocks disk) other
   pub volume : IsSameVolume (image_blocks disk) other
 
--- The disk is as it was; or, of one that can be rolled back, the Btrfs volume stands with its tree and the same saved image, so that it can
--- be rolled back again, or the old volume does with its tree.
+-- The disk is as it was; or, of one that can be rolled back, the Btrfs volume stands, each block that it has in use as it was: with its
+-- tree, if that can be read, and the same saved image, so that it can be rolled back again; or the old volume does with its tree.
 abbrev pub LeavesRestoredTree : Image → Image → Type 0
-LeavesRestoredTree disk other = (other ≡ disk) ⊎ (IsUntouched disk × (IsSameUntouched disk other ⊎ IsRestoredTree disk other))
+LeavesRestoredTree disk other = (other ≡ disk) ⊎ (CanGoBack disk × (CanGoBackToo disk other ⊎ IsRestoredTree disk other))
 
 -- ---- recover
 
--- A volume that opens with some rows opens as the same format with the same rows. One that can be rolled back is the same Btrfs volume, with
--- the same saved image, and can be rolled back.
+-- A volume that opens with some rows opens as the same format with the same rows. One that can be rolled back is the same Btrfs volume, each
+-- block in use as it was, with the same saved image, and can be rolled back.
 pub record KeepsTree (disk other : Image) : Type 0 where
   pub opens : (f : Format) (rows : List WholeRow) → OpensAs f disk rows → OpensAs f other rows
-  pub untouched : IsUntouched disk → IsSameUntouched disk other
+  pub goes_back : CanGoBack disk → CanGoBackToo disk other

@@ -1,15 +1,15 @@
 -- What `trial` answers, prints and writes.
-use Rattle.std.specs.Prelude.{◌≡◌, ◌⊎◌, ◌≤◌, ◌<◌, ℕ, List, [], ◌∷◌, codes, decimal}
+use Rattle.std.specs.Prelude.{◌≡◌, ◌⊎◌, ◌≤◌, ◌<◌, ℕ, true, List, [], ◌∷◌, codes, decimal}
 use Rattle.convert_core.specs.Converted.{IsConvertible}
 use Rattle.reiser_volume.specs.outside.History.{Image}
 use Rattle.convert_core.specs.convert_trees_laws.Rows.{HasBytes}
 use Rattle.trial_core.specs.Answers.{IsTrialAnswer, RefusesTrial}
 use Rattle.trial_core.specs.Laws.{IsSampleAgain}
 use Rattle.trial_core.specs.Round.{plain}
-use Rattle.trial_core.specs.Trial.{IsScratch, IsTried, needed_by, sample_on, summary}
+use Rattle.trial_core.specs.Trial.{IsScratch, IsTried, needed_by, sample_on, trial_summary}
 use Rattle.trial_core.specs.declared.summary.TrialSummary.{TrialSummary}
 use Rattle.reiser_volume.specs.vol_block.declared.ids.Ids.{Ids}
-use Rattle.volume_app.specs.Meaning.{Meaning}
+use Rattle.volume_app.specs.Meaning.{AnyOrder, Meaning}
 use Rattle.volume_app.specs.Texts.{text_of_lines}
 
 abbrev pub trial_lines : ℕ → TrialSummary → List (List ℕ × List (List ℕ))
@@ -28,7 +28,7 @@ trial_text number told = text_of_lines (trial_lines number told)
 
 -- the text for a number, whatever the disk: how many rows the sample has, and the bytes of its files
 abbrev pub IsTrialText : ℕ → Image → List ℕ → Type 0
-IsTrialText number disk text = text ≡ trial_text number (summary number)
+IsTrialText number disk text = text ≡ trial_text number (trial_summary number)
 
 -- The disk has no volume and blocks enough, and the sample has room in the volume and leaves the space for a conversion.
 pub record IsTriable (number : ℕ) (disk : Image) : Type 0 where
@@ -55,6 +55,7 @@ abbrev pub trial_meaning : Ids → ℕ → ℕ → Meaning
 trial_meaning ids now number = record {
   is_usage = ⊥;
   asks_disk = Unit {0};
+  writes = true;
   takes_memory = Unit {0};
   is_done = IsTriable number;
   is_due = λ disk. IsTriable number disk × HasBytes disk;
@@ -66,4 +67,5 @@ trial_meaning ids now number = record {
   starved = λ disk other. Unit {0};
   becomes = IsTriedWhole number ids now;
   leaves = λ disk other. Unit {0};
+  order = AnyOrder;
 }

@@ -13,7 +13,8 @@ use crate::Summary;
 use crate::ending::{Ending, printed};
 use crate::format::open_format;
 use crate::reiser::ReiserSummary;
-use convert_core::{Answer, Found};
+use btrfs_format::block::SUPER_BLOCK;
+use convert_core::{Answer, FormatFound};
 use convert_options::Options;
 use reiser_volume::{Access, Block, BlockSource, Disk, Fault, Format, Sink};
 use std::alloc::Global;
@@ -81,7 +82,7 @@ fn inspect<D: Disk>(
 
 /// Checks a volume of the format that was found.
 fn inspect_as<S: BlockSource>(
-    found: &Found,
+    found: &FormatFound,
     alloc: Global,
     options: &Options,
     source: &mut S,
@@ -122,7 +123,7 @@ fn inspect_btrfs<S: BlockSource>(
 ) -> Result<Inspected, Answer>
     ensures kept { S.kept source.old source.new }
     ensures cause { HasCauseOf Answer.Fault (S.faults source.old) (S.faults source.new) result }
-    ensures right { OverTold S.tells (S.blocks source.old) (λ image. format_in image ≡ formats.Btrfs → block.now.bytes ≡ block_at image 16 → (o : Options) → MatchResult result (Inspects o image) (InspectRefuses image)) }
+    ensures right { OverTold S.tells (S.blocks source.old) (λ image. format_in image ≡ formats.Btrfs → block.now.bytes ≡ block_at image SUPER_BLOCK → (o : Options) → MatchResult result (Inspects o image) (InspectRefuses image)) }
     ensures known { IfErr result IsInspectAnswer }
 {
     let summary = Summary::read(alloc, source, block)?;

@@ -23,6 +23,6 @@ mod trying;
 
 pub use command::{Command, CommandLine, read_words};
 pub use ending::Ending;
-pub use laws::{inspect_tells_space, inspect_texts_are_one};
+pub use laws::{crashes_at_any_moment, inspect_tells_space, inspect_texts_are_one};
 pub use summary::Summary;
 pub use top::run;

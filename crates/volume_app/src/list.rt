@@ -12,7 +12,8 @@ use crate::ending::{Ending, printed};
 use crate::format::open_format;
 use crate::reiser::reiser_rows;
 use btr_reader::Btrfs;
-use convert_core::{Answer, Found};
+use btrfs_format::block::SUPER_BLOCK;
+use convert_core::{Answer, FormatFound};
 use fs_rows::{Rows, write_rows};
 use reiser_volume::{Access, Block, BlockSource, Disk, Format, Sink};
 use std::alloc::Global;
@@ -44,7 +45,11 @@ fn list<D: Disk>(alloc: Global, path: &str, disk: &mut D) -> Result<Rows, Answer
 }
 
 /// The rows of a volume of the format that was found.
-fn list_as<S: BlockSource>(found: &Found, alloc: Global, source: &mut S) -> Result<Rows, Answer>
+fn list_as<S: BlockSource>(
+    found: &FormatFound,
+    alloc: Global,
+    source: &mut S,
+) -> Result<Rows, Answer>
     ensures kept { S.kept source.old source.new }
     ensures cause { HasCauseOf Answer.Fault (S.faults source.old) (S.faults source.new) result }
     ensures right { OverTold S.tells (S.blocks source.old) (λ image. IsFoundOn image found.now → MatchResult result (Lists image) (ListRefuses image)) }
@@ -70,7 +75,7 @@ fn list_reiser<S: BlockSource>(alloc: Global, source: &mut S) -> Result<Rows, An
 fn list_btrfs<S: BlockSource>(alloc: Global, source: &mut S, block: &Block) -> Result<Rows, Answer>
     ensures kept { S.kept source.old source.new }
     ensures cause { HasCauseOf Answer.Fault (S.faults source.old) (S.faults source.new) result }
-    ensures right { OverTold S.tells (S.blocks source.old) (λ image. format_in image ≡ formats.Btrfs → block.now.bytes ≡ block_at image 16 → MatchResult result (Lists image) (ListRefuses image)) }
+    ensures right { OverTold S.tells (S.blocks source.old) (λ image. format_in image ≡ formats.Btrfs → block.now.bytes ≡ block_at image SUPER_BLOCK → MatchResult result (Lists image) (ListRefuses image)) }
     ensures known { IfErr result IsListAnswer }
 {
     Ok(Btrfs::list(alloc, source, block)?)

@@ -5,8 +5,8 @@ ghost use Rattle.volume_app.specs.Text.{image_text, summary_text};
 
 use crate::summary::Summary;
 use reiser_volume::{Fault, Sink};
-use sink_text::Piece::{Decimal, Hyphenated, Plain};
-use sink_text::{Piece, label_piece, write_pieces};
+use sink_text::TextPart::{Decimal, Hyphenated, Plain};
+use sink_text::{TextPart, label_piece, write_pieces};
 
 impl Summary {
     /// Prints the seven lines `format`, `fsid`, `blocks`, `generation`, `nodesize`, `label` and `image`. After a fault the
@@ -35,7 +35,7 @@ impl Summary {
 }
 
 /// How the length of the saved image is printed: a dash where it is missing.
-fn image_piece(blocks: Option<u64>) -> Piece<'static>
+fn image_piece(blocks: Option<u64>) -> TextPart<'static>
     ensures { piece_text result ≡ image_text blocks }
 {
     match blocks {

@@ -9,6 +9,7 @@ ghost use Rattle.volume_app.specs.Told.{summary_with, summary_of};
 use crate::summary::Summary;
 use btr_reader::{Btrfs, ImageMap};
 use btr_super::Super;
+use btrfs_format::block::SUPER_BLOCK;
 use reiser_volume::{Block, BlockSource, BtrAnswer};
 use std::alloc::Global;
 
@@ -50,11 +51,11 @@ impl Summary {
         ensures kept { S.kept src.old src.new }
         ensures cause { HasCauseOf BtrAnswer.Fault (S.faults src.old) (S.faults src.new) result }
         ensures known { IfErr result NamesNoLogTree }
-        ensures readable { OverTold S.tells (S.blocks src.old) (λ image. block.now.bytes ≡ block_at image 16 → OnOk result (IsReadable image SavedImage)) }
-        ensures told { OverTold S.tells (S.blocks src.old) (λ image. block.now.bytes ≡ block_at image 16 → IfOk result (λ s. s ≡ summary_of image)) }
-        ensures refused { OverTold S.tells (S.blocks src.old) (λ image. block.now.bytes ≡ block_at image 16 → IfErr result (RefusesPart image SavedImage)) }
+        ensures readable { OverTold S.tells (S.blocks src.old) (λ image. block.now.bytes ≡ block_at image SUPER_BLOCK → OnOk result (IsReadable image SavedImage)) }
+        ensures told { OverTold S.tells (S.blocks src.old) (λ image. block.now.bytes ≡ block_at image SUPER_BLOCK → IfOk result (λ s. s ≡ summary_of image)) }
+        ensures refused { OverTold S.tells (S.blocks src.old) (λ image. block.now.bytes ≡ block_at image SUPER_BLOCK → IfErr result (RefusesPart image SavedImage)) }
         // Where no count rose and nothing is wrong, it is read, unless memory was short.
-        ensures complete { OverTold S.tells (S.blocks src.old) (λ image. block.now.bytes ≡ block_at image 16 → IsReadable image SavedImage
+        ensures complete { OverTold S.tells (S.blocks src.old) (λ image. block.now.bytes ≡ block_at image SUPER_BLOCK → IsReadable image SavedImage
             → S.faults src.new ≡ S.faults src.old → S.faults src.old < 2 ^ 64 - 1 → IfErr result (λ e. e ≡ BtrAnswer.Memory)) }
     {
         let volume = Btrfs::open_by(alloc, src, block)?;

@@ -1,9 +1,10 @@
 ghost use Rattle.std.specs.Prelude.{◌≡◌, ◌≢◌, None, IfErr, IsTrue, OnOk};
 ghost use Rattle.std.specs.Result.{MatchResult};
 ghost use Rattle.reiser_volume.specs.outside.Fault.{HasCause, HasCauseOf, Takes};
-ghost use Rattle.reiser_volume.specs.outside.History.{EachCrash, IsSettled, reads};
+ghost use Rattle.first_sync.specs.Synced.{EachCrashSynced, synced_now};
+ghost use Rattle.reiser_volume.specs.outside.History.{IsSettled, reads};
 ghost use Rattle.rollback_core.specs.RecoveryAnswers.{IsRecoverAnswer, RefusesRecover};
-ghost use Rattle.rollback_core.specs.Recovered.{IsLeft, IsRecovered, summary};
+ghost use Rattle.rollback_core.specs.Recovered.{IsLeftByRecover, IsRecovered, RewritesBeforeCopies, recover_summary};
 ghost use Rattle.volume_app.specs.Outcome.{Performs};
 ghost use Rattle.volume_app.specs.Recovering.{format_word, recover_meaning, recover_text};
 
@@ -11,7 +12,7 @@ use crate::ending::{Ending, printed};
 use convert_core::Answer;
 use reiser_volume::{Access, Disk, Fault, Format, Sink};
 use rollback_core::{RecoverSummary, recovery_keeps, recovery_opens};
-use sink_text::Piece::{Decimal, Plain};
+use sink_text::TextPart::{Decimal, Plain};
 use sink_text::write_pieces;
 use std::alloc::Global;
 use volume_state::spare_blocks_decide_nothing;
@@ -41,11 +42,12 @@ pub fn recover_volume<D: Disk, O: Sink>(
 fn recover<D: Disk>(alloc: Global, path: &str, disk: &mut D) -> Result<RecoverSummary, Answer>
     requires closed { D.opened disk.old ≡ None }
     requires wanted { D.wants path.now Access.Write }
-    ensures crash { EachCrash D.tells (D.history disk.old) (D.history disk.new) (IsLeft (reads (D.history disk.old))) }
-    ensures right { IsTrue D.tells → MatchResult result (λ told. IsRecovered (reads (D.history disk.old)) (reads (D.history disk.new)) × (told ≡ summary (reads (D.history disk.old))))
+    ensures crash { EachCrashSynced D.tells (D.history disk.old) (D.history disk.new) (IsLeftByRecover (reads (D.history disk.old))) }
+    ensures right { IsTrue D.tells → MatchResult result (λ told. IsRecovered (reads (D.history disk.old)) (reads (D.history disk.new)) × (told ≡ recover_summary (reads (D.history disk.old))))
         (RefusesRecover (reads (D.history disk.old))) }
-    ensures settled { IsTrue D.tells → IsSettled (D.history disk.old) → OnOk result (IsSettled (D.history disk.new)) }
-    ensures refused { IsTrue D.tells → IfErr result (λ e. e ≢ Answer.Fault → D.history disk.new ≡ D.history disk.old) }
+    ensures order { IsTrue D.tells → RewritesBeforeCopies (D.history disk.old) (D.history disk.new) }
+    ensures settled { IsTrue D.tells → OnOk result (IsSettled (D.history disk.new)) }
+    ensures refused { IsTrue D.tells → IfErr result (λ e. e ≢ Answer.Fault → D.history disk.new ≡ synced_now (D.history disk.old)) }
     ensures cause { HasCauseOf Answer.Fault (D.faults disk.old) (D.faults disk.new) result }
     ensures known { IfErr result IsRecoverAnswer }
 {

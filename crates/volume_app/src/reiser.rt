@@ -4,7 +4,7 @@ ghost use Rattle.reiser_volume.specs.outside.Fault.{HasCause, HasCauseOf, Takes}
 ghost use Rattle.reiser_volume.specs.outside.History.{OverTold};
 ghost use Rattle.reiser_volume.specs.Answers.{RefusesVolume};
 ghost use Rattle.reiser_volume.specs.Reading.{IsReadingAnswer};
-ghost use Rattle.unit_plan.specs.Choice.{IsSmall};
+ghost use Rattle.unit_plan.specs.Choice.{IsSmallNeed};
 ghost use Rattle.unit_plan.specs.btr_node.NodeSize.{IsNodeSize};
 ghost use Rattle.reiser_volume.specs.Volume.{IsAccepted};
 ghost use Rattle.sink_text.specs.Text.{piece_text};
@@ -15,8 +15,8 @@ use convert_options::Options;
 use fs_rows::Rows;
 use reiser_super::Super;
 use reiser_volume::{BlockSource, Fault, Sink, VolAnswer, Volume};
-use sink_text::Piece::{Decimal, Escaped, Hyphenated, Plain};
-use sink_text::{Piece, write_pieces};
+use sink_text::TextPart::{Decimal, Escaped, Hyphenated, Plain};
+use sink_text::{TextPart, write_pieces};
 use std::alloc::Global;
 use unit_plan::Need;
 
@@ -94,7 +94,7 @@ impl ReiserSummary {
 
 /// What is told of an opened volume.
 fn summary_of(volume: &Volume, need: &Need) -> ReiserSummary
-    requires { IsSmall need.now }
+    requires { IsSmallNeed need.now }
     ensures { result ≡ summary_with volume.now.sup volume.now.bitmap need.now }
 {
     let map = volume.bitmap();
@@ -108,7 +108,7 @@ fn summary_of(volume: &Volume, need: &Need) -> ReiserSummary
 }
 
 /// How a label is printed: a dash where it is empty.
-fn label_piece(label: &[u8]) -> Piece<'_>
+fn label_piece(label: &[u8]) -> TextPart<'_>
     ensures { piece_text result ≡ label_text label.now }
 {
     match label {

@@ -1,9 +1,11 @@
 ghost use Rattle.std.specs.Prelude.{◌≡◌, ◌≢◌, ◌↔◌, ◌<◌, ◌-◌, ◌^◌, ◌⊎◌, map, None, IfSome, IsTrue, string_bytes, option_and_then};
 ghost use Rattle.reiser_volume.specs.outside.Fault.{Rose};
-ghost use Rattle.reiser_volume.specs.outside.History.{EachCrash, IsSettled, LeftSince, clock, reads};
+ghost use Rattle.first_sync.specs.Synced.{EachCrashSynced};
+ghost use Rattle.reiser_volume.specs.outside.History.{IsSettled, reads};
 ghost use Rattle.volume_app.specs.Command.{command, opens};
 ghost use Rattle.volume_app.specs.Headline.{KeepsPromise};
-ghost use Rattle.volume_app.specs.Outcome.{Performs, Runs, meant};
+ghost use Rattle.volume_app.specs.Meaning.{begun};
+ghost use Rattle.volume_app.specs.Outcome.{Performs, RunsCommand, meant};
 ghost use Rattle.volume_app.specs.Trees.{AreBlocks};
 
 use crate::command::{Command, read_command};
@@ -46,18 +48,21 @@ pub fn run<D: Disk, O: Sink, E: Sink>(
     ensures output { result ≡ 5 → Rose (O.faults out.old) (O.faults out.new) }
     ensures output_kept { result ≢ 5 → O.faults out.new ≡ O.faults out.old }
     ensures memory { result ≡ 4 → (meant ids now (map string_bytes words.now)).takes_memory }
-    // A command that only reads writes nothing, and one that is refused has written nothing.
-    ensures unchanged { IsTrue D.tells → (meant ids now (map string_bytes words.now)).keeps (reads (D.history disk.old)) result → D.history disk.new ≡ D.history disk.old }
-    // So has one that lacks space, but for a trial whose sample does: that sample stays, and has reached the device.
-    ensures lacking { IsTrue D.tells → result ≡ 6 → (meant ids now (map string_bytes words.now)).lacking (reads (D.history disk.old)) (reads (D.history disk.new)) × (IsSettled (D.history disk.old) → IsSettled (D.history disk.new)) }
+    // A command that only reads writes nothing and syncs nothing. One that writes has done no more than its first sync where it is refused.
+    ensures unchanged { IsTrue D.tells → (meant ids now (map string_bytes words.now)).keeps (reads (D.history disk.old)) result → D.history disk.new ≡ begun (meant ids now (map string_bytes words.now)).writes (D.history disk.old) }
+    // One that lacks space has written nothing, but for a trial whose sample does: that sample stays. What there is has reached the device.
+    ensures lacking { IsTrue D.tells → result ≡ 6 → (meant ids now (map string_bytes words.now)).lacking (reads (D.history disk.old)) (reads (D.history disk.new)) × (IsTrue (meant ids now (map string_bytes words.now)).writes → IsSettled (D.history disk.new)) }
     // Where memory ran out nothing was written, but by `convert`, which may have written to free units of the volume, and by a trial.
     ensures starved { IsTrue D.tells → result ≡ 4 → (meant ids now (map string_bytes words.now)).starved (reads (D.history disk.old)) (reads (D.history disk.new)) }
     // Where the command was done the disk is what it makes of it, whether its text could be printed or not.
     ensures changed { IsTrue D.tells → (result ≡ 0) ⊎ (result ≡ 5) → (meant ids now (map string_bytes words.now)).becomes (reads (D.history disk.old)) (reads (D.history disk.new)) }
-    ensures settled { IsTrue D.tells → IsSettled (D.history disk.old) → (result ≡ 0) ⊎ (result ≡ 5) → IsSettled (D.history disk.new) }
-    // A crash at any moment leaves what the command may leave: the disk as it was, where it only reads. Of a trial nothing is said.
-    ensures crash { EachCrash D.tells (D.history disk.old) (D.history disk.new) ((meant ids now (map string_bytes words.now)).leaves (reads (D.history disk.old))) }
-    ensures ends { Runs (meant ids now (map string_bytes words.now)) (IsTrue D.tells) (reads (D.history disk.old)) result
+    ensures settled { IsTrue D.tells → IsTrue (meant ids now (map string_bytes words.now)).writes → (result ≡ 0) ⊎ (result ≡ 5) → IsSettled (D.history disk.new) }
+    // From every history of the disk: nothing is called before a sync that succeeds, and a crash at any moment since then leaves what the
+    // command may leave. Of a trial no more is said.
+    ensures crash { EachCrashSynced D.tells (D.history disk.old) (D.history disk.new) ((meant ids now (map string_bytes words.now)).leaves (reads (D.history disk.old))) }
+    // `recover` writes no copy before it has written block 16 as it stands, and synced.
+    ensures order { IsTrue D.tells → (meant ids now (map string_bytes words.now)).order (D.history disk.old) (D.history disk.new) }
+    ensures ends { RunsCommand (meant ids now (map string_bytes words.now)) (IsTrue D.tells) (reads (D.history disk.old)) result
         (IsTrue O.tells) (O.taken out.old) (O.taken out.new) (IsTrue E.tells) (E.faults err.old) (E.faults err.new) (E.taken err.old) (E.taken err.new) }
     // Also over a disk that tells nothing, a run that isn't done prints nothing.
     ensures quiet { IsTrue O.tells → result ≢ 0 → result ≢ 5 → O.taken out.new ≡ O.taken out.old }
@@ -67,11 +72,11 @@ pub fn run<D: Disk, O: Sink, E: Sink>(
         → O.faults out.new ≡ O.faults out.old → O.faults out.old < 2 ^ 64 - 1 → (result ≡ 0) ⊎ (result ≡ 4) }
     // The promise of the program: on every accepted volume with the stated free space convert succeeds, unless the device failed or memory
     // ran out, and the Btrfs tree then equals the ReiserFS tree; while the saved image is untouched, rollback restores every block that
-    // the old bitmap marks used; and a crash at any moment of convert, rollback or recover leaves exactly one of the two formats, with its tree.
+    // the old bitmap marks used; and a crash at any moment of convert, rollback or recover leaves exactly one of the two formats, with its tree,
+    // whatever waited to reach the device before: from the first call on, which is a sync.
     ensures headline { IsTrue D.tells → AreBlocks (reads (D.history disk.old))
-        → KeepsPromise (command (map string_bytes words.now)) (reads (D.history disk.old)) (reads (D.history disk.new)) result
-        ((D.faults disk.new ≡ D.faults disk.old) × (D.faults disk.old < 2 ^ 64 - 1) × (O.faults out.new ≡ O.faults out.old) × (O.faults out.old < 2 ^ 64 - 1))
-        (λ left. IsSettled (D.history disk.old) × LeftSince (clock (D.history disk.old)) (D.history disk.new) left) }
+        → KeepsPromise (command (map string_bytes words.now)) (D.history disk.old) (D.history disk.new) result
+        ((D.faults disk.new ≡ D.faults disk.old) × (D.faults disk.old < 2 ^ 64 - 1) × (O.faults out.new ≡ O.faults out.old) × (O.faults out.old < 2 ^ 64 - 1)) }
 {
     let ending = perform(alloc, words, &ids, now, disk, out);
     let _ = ending.write_line(err);

@@ -1,9 +1,10 @@
 ghost use Rattle.std.specs.Prelude.{◌≡◌, ◌≤◌, ◌<◌, ◌^◌, None, IfErr, IsTrue, OnOk};
 ghost use Rattle.std.specs.Result.{MatchResult};
 ghost use Rattle.reiser_volume.specs.outside.Fault.{HasCause, HasCauseOf, Takes};
+ghost use Rattle.first_sync.specs.Synced.{SyncsFirst, synced_now};
 ghost use Rattle.reiser_volume.specs.outside.History.{IsSettled, reads};
 ghost use Rattle.trial_core.specs.Answers.{IsTrialAnswer, LeavesRefused, RefusesTrial};
-ghost use Rattle.trial_core.specs.Trial.{IsTried, summary};
+ghost use Rattle.trial_core.specs.Trial.{IsTried, trial_summary};
 ghost use Rattle.volume_app.specs.Outcome.{Performs};
 ghost use Rattle.volume_app.specs.Trying.{trial_meaning, trial_text};
 
@@ -11,7 +12,7 @@ use crate::converting::know_ids;
 use crate::ending::{Ending, printed};
 use convert_core::Answer;
 use reiser_volume::{Access, Disk, Fault, Ids, Sink};
-use sink_text::Piece::{Decimal, Plain};
+use sink_text::TextPart::{Decimal, Plain};
 use sink_text::write_pieces;
 use std::alloc::Global;
 use trial_core::{TrialSummary, tries_keep};
@@ -54,10 +55,11 @@ fn tried<D: Disk>(
     requires wanted { D.wants path.now Access.Write }
     requires number { number ≤ 4000 }
     requires moment { now < 2 ^ 63 }
-    ensures right { IsTrue D.tells → MatchResult result (λ told. IsTried number ids.now now (reads (D.history disk.old)) (reads (D.history disk.new)) × (told ≡ summary number))
+    ensures first { IsTrue D.tells → SyncsFirst (D.history disk.old) (D.history disk.new) }
+    ensures right { IsTrue D.tells → MatchResult result (λ told. IsTried number ids.now now (reads (D.history disk.old)) (reads (D.history disk.new)) × (told ≡ trial_summary number))
         (RefusesTrial number (reads (D.history disk.old))) }
     ensures settled { IsTrue D.tells → OnOk result (IsSettled (D.history disk.new)) }
-    ensures leaves { IsTrue D.tells → IfErr result (LeavesRefused number (D.history disk.old) (D.history disk.new)) }
+    ensures leaves { IsTrue D.tells → IfErr result (LeavesRefused number (synced_now (D.history disk.old)) (D.history disk.new)) }
     ensures cause { HasCauseOf Answer.Fault (D.faults disk.old) (D.faults disk.new) result }
     ensures known { IfErr result IsTrialAnswer }
 {

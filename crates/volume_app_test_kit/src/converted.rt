@@ -1,5 +1,5 @@
 // Changes of a converted volume.
-use crate::block_access::{block, put_block};
+use crate::block_access::{block, block_count, put_block};
 use crate::broken::Broken;
 use castagnoli::crc32c;
 use outside_mem::MemDisk;
@@ -39,6 +39,39 @@ impl Node {
         Ok(())
     }
 
+    /// The byte at a place, 0 behind the end.
+    fn byte(&self, at: usize) -> u8 {
+        if at < self.bytes.len() {
+            self.bytes[at]
+        } else {
+            0
+        }
+    }
+
+    /// The number of 32 bits at a place.
+    fn number(&self, at: usize) -> usize {
+        let mut bytes = [0; 4];
+        for i in 0..4usize {
+            bytes[i] = self.byte(at.saturating_add(i));
+        }
+        u32::from_le_bytes(bytes) as usize
+    }
+
+    /// The places of the bodies of a leaf's file extents that are of this kind.
+    fn extents(&self, alloc: Global, kind: u8) -> Result<Vec<usize>, Broken> {
+        let count = self.number(96);
+        let mut places = Vec::new(alloc);
+        for i in 0..640usize {
+            let head = 101 + 25 * i;
+            let body = self.number(head + 17).saturating_add(101);
+            let is_extent = self.byte(head + 8) == 108;
+            if i < count && is_extent && self.byte(body.saturating_add(20)) == kind {
+                places.push(body)?;
+            }
+        }
+        Ok(places)
+    }
+
     /// Puts the node back, with its checksum.
     fn write(&mut self, disk: &mut MemDisk) -> Result<(), Broken> {
         if self.bytes.len() != 16384 {
@@ -68,9 +101,10 @@ fn begins_leaf(head: &Block, first: BlockNo, tree: u64) -> bool {
 
 /// The last leaf of a tree, by the numbers of their blocks.
 fn last_leaf(disk: &mut MemDisk, tree: u64) -> Result<BlockNo, Broken> {
+    let nodes = block_count(disk)? / 4;
     let mut last = 0;
-    for n in 2112..3072u64 {
-        let first = n * 4;
+    for n in 64..nodes {
+        let first = n.saturating_mul(4);
         if begins_leaf(&block(disk, first)?, first, tree) {
             last = first;
         }
@@ -148,5 +182,59 @@ pub fn move_image(alloc: Global, disk: &mut MemDisk) -> Result<(), Broken> {
     let leaf = last_leaf(disk, 256)?;
     let mut node = Node::read(alloc, disk, leaf)?;
     split_extent(alloc, &mut node)?;
+    node.write(disk)
+}
+
+/// What becomes of a file extent.
+#[derive(Clone, Copy)]
+pub enum Encoding {
+    /// It is compressed by zstd. Of a regular one the file has 128 KiB, whatever the disk extent has.
+    Compressed,
+    /// Its room is laid out, and nothing was written.
+    LaidOut,
+    /// The disk extent is this block and the next one, and the file has the latter.
+    Elsewhere(BlockNo),
+}
+
+impl Encoding {
+    /// Changes the body of a file extent of this kind, which begins here.
+    fn put(self, node: &mut Node, at: usize, kind: u8) -> Result<(), Broken> {
+        match self {
+            Encoding::Compressed => {
+                node.put(at.saturating_add(16), &[3])?;
+                if kind == 0 {
+                    return Ok(());
+                }
+                node.put(at.saturating_add(8), &131_072u64.to_le_bytes())?;
+                node.put(at.saturating_add(45), &131_072u64.to_le_bytes())
+            }
+            Encoding::LaidOut => node.put(at.saturating_add(20), &[2]),
+            Encoding::Elsewhere(block) => {
+                let first = block.saturating_mul(4096);
+                node.put(at.saturating_add(21), &first.to_le_bytes())?;
+                node.put(at.saturating_add(29), &8192u64.to_le_bytes())?;
+                node.put(at.saturating_add(37), &4096u64.to_le_bytes())
+            }
+        }
+    }
+}
+
+/// Gives the file extents of a kind in the last leaf of a converted volume's file tree another encoding: 0 is the kind of inline ones and 1 of
+/// regular ones. There have to be some.
+pub fn encode(
+    alloc: Global,
+    disk: &mut MemDisk,
+    kind: u8,
+    encoding: Encoding,
+) -> Result<(), Broken> {
+    let leaf = last_leaf(disk, 5)?;
+    let mut node = Node::read(alloc, disk, leaf)?;
+    let places = node.extents(alloc, kind)?;
+    if places.is_empty() {
+        return Err(Broken::Leaf);
+    }
+    for &at in &places {
+        encoding.put(&mut node, at, kind)?;
+    }
     node.write(disk)
 }

@@ -83,6 +83,16 @@ pub fn used_end(alloc: Global) -> Result<MemDisk, Broken> {
 /// A volume of 20,000 blocks with a file `m` of 4,096 bytes [`MARKED`], whose one pointer is this. Blocks 0 to 51 and 16384 are used, and the
 /// bytes lie in block 16384, where the first copy of a Btrfs superblock belongs.
 pub fn one_file(alloc: Global, pointer: u32) -> Result<MemDisk, Broken> {
+    with_file(alloc, pointer, 16384)
+}
+
+/// The same volume with its file in block 16400, in the same unit, and not where the copy belongs.
+pub fn file_behind_copy(alloc: Global) -> Result<MemDisk, Broken> {
+    with_file(alloc, 16400, 16400)
+}
+
+/// A volume of 20,000 blocks with a file `m` of 4,096 bytes, whose one pointer is this, and whose bytes lie in block `at`.
+fn with_file(alloc: Global, pointer: u32, at: u32) -> Result<MemDisk, Broken> {
     let object = Object(2, 4);
     let entry = Entry {
         place: r5(b"m"),
@@ -98,10 +108,10 @@ pub fn one_file(alloc: Global, pointer: u32) -> Result<MemDisk, Broken> {
     let mut leaf = root_leaf(alloc, &[entry])?;
     leaf.add(Item::of(object, Part::Stat), &stat.body(alloc)?);
     leaf.add(Item::of(object, Part::Pointers(1)), &pointer.to_le_bytes());
-    let mut disk = volume(alloc, 20000, &leaf, (16384, 16385))?;
+    let mut disk = volume(alloc, 20000, &leaf, (at, at.saturating_add(1)))?;
     let mut bytes = Block::zero();
     bytes.bytes.fill(MARKED);
-    put_block(&mut disk, 16384, &bytes)?;
+    put_block(&mut disk, u64::from(at), &bytes)?;
     Ok(disk)
 }
 

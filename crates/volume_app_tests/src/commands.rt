@@ -1,7 +1,12 @@
 // Runs of the top call over a disk in memory.
 ghost use Rattle.std.specs.Prelude.{◌≡◌, ◌≤◌, None, IfOk, length};
 
+use outside_mem::{MemDisk, MemSink};
+use sample::{changed, pointing_to, sample};
+use volume_samples::{Sample, change};
+
 mod converting;
+mod hashed;
 mod recovering;
 mod sample;
 mod trying;
@@ -9,14 +14,11 @@ mod words;
 
 use btr_keys::Stamp;
 use outside::Memory;
-use outside_mem::{MemDisk, MemSink};
-use sample::{changed, pointing_to, sample};
 use std::alloc::Global;
 use std::process::Abort;
 use std::test::Fail;
 use vol_block::Ids;
 use volume_app::run;
-use volume_samples::{Sample, change};
 
 const IDS: Ids = Ids {
     fsid: [0x11; 16],
@@ -193,6 +195,22 @@ const FOREIGN: Sample = Sample {
     ..Sample::PLAIN
 };
 
+/// A volume whose metadata stands twice, one whose second copy leaves the device, and one that got another identifier.
+const TWICE: Sample = Sample {
+    mirror: Some(40_894_464),
+    ..Sample::PLAIN
+};
+
+const TOO_FAR: Sample = Sample {
+    mirror: Some(50_327_552),
+    ..Sample::PLAIN
+};
+
+const RENAMED: Sample = Sample {
+    known_as: Some([0x55; 16]),
+    ..Sample::PLAIN
+};
+
 #[test]
 fn inspect_looks_at_no_log_tree(rt: HostRuntime) -> Result<(), Fail> {
     btrfs_ends(&rt, "inspect x", &Sample::PLAIN, 0, BTRFS, "")?;
@@ -204,6 +222,20 @@ fn inspect_looks_at_no_log_tree(rt: HostRuntime) -> Result<(), Fail> {
         1,
         "",
         "refused 13 badbtrfs 35667968 6\n",
+    )
+}
+
+#[test]
+fn second_copies_and_other_identifiers_change_no_row(rt: HostRuntime) -> Result<(), Fail> {
+    btrfs_ends(&rt, "list x", &TWICE, 0, BTRFS_ROWS, "")?;
+    btrfs_ends(&rt, "list x", &RENAMED, 0, BTRFS_ROWS, "")?;
+    btrfs_ends(
+        &rt,
+        "list x",
+        &TOO_FAR,
+        1,
+        "",
+        "refused 13 badbtrfs 35651584 3\n",
     )
 }
 

@@ -1,5 +1,6 @@
 mod copied_block;
 mod empty_volume;
+mod encoded;
 mod faults;
 mod home_volume;
 mod refused;

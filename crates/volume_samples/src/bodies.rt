@@ -4,6 +4,7 @@ ghost use Rattle.std.specs.Prelude.{◌≡◌};
 use crate::sample::{BLOCKS, CHUNK, DEVICE, FILE_LEAF, FSID, MOMENT, Origin, SYSTEM_MADE};
 use btr_keys::{DirEntry, Inode, InodeRef, Key, Stamp};
 use btr_space_items::{Chunk, Device, RootItem, Stripe};
+use btrfs_format::flag::{BLOCK_GROUP_DUP, BLOCK_GROUP_METADATA};
 
 pub fn key(objectid: u64, kind: u8, offset: u64) -> Key
     ensures { result ≡ record { objectid = objectid; kind = kind; offset = offset } }
@@ -47,15 +48,29 @@ pub fn chunk(at: u64, kind: u64) -> [u8; 80] {
         sector_size: 4096,
         num_stripes: 1,
         sub_stripes: 0,
-        stripe: Stripe {
-            devid: 1,
-            offset: at,
-            device_uuid: DEVICE,
-        },
+        stripe: stripe(at),
     };
     let mut body = [0; 80];
     chunk.write(&mut body);
     body
+}
+
+/// The same of a metadata chunk in two copies, of which the second one begins at `mirror`.
+pub fn chunk_twice(at: u64, mirror: u64) -> [u8; 112] {
+    let mut body = [0; 112];
+    body[..80].copy_from_slice(&chunk(at, BLOCK_GROUP_METADATA | BLOCK_GROUP_DUP));
+    body[44] = 2;
+    body[80..].copy_from_slice(&stripe(mirror).to_bytes());
+    body
+}
+
+/// A stripe that begins there on the device.
+fn stripe(offset: u64) -> Stripe {
+    Stripe {
+        devid: 1,
+        offset,
+        device_uuid: DEVICE,
+    }
 }
 
 /// An inode with one name.

@@ -14,8 +14,8 @@ impl Sample {
     {
         let mut disk = MemDisk::new(alloc, BLOCKS)?;
         disk.set_block(16, &superblock(self))?;
-        put_chunk_leaf(alloc, &mut disk)?;
-        put_root_leaf(alloc, &mut disk)?;
+        put_chunk_leaf(alloc, &mut disk, self)?;
+        put_root_leaf(alloc, &mut disk, self)?;
         put_file_leaf(alloc, &mut disk, self)?;
         Ok(disk)
     }

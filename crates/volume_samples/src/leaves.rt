@@ -1,7 +1,9 @@
 // The three leaves of a sample, each in its four blocks.
 ghost use Rattle.std.specs.Prelude.{◌≡◌, ◌+◌, ◌≤◌, length};
 
-use crate::bodies::{chunk, device, entry, file_name, file_root, inode, key, root_name};
+use crate::bodies::{
+    chunk, chunk_twice, device, entry, file_name, file_root, inode, key, root_name,
+};
 use crate::sample::{
     CHUNK_LEAF, CHUNK_TREE, FILE_LEAF, FSID, METADATA, MOMENT, NODE, ROOT_LEAF, SYSTEM,
     SYSTEM_MADE, Sample, SampleAnswer, USER_MADE,
@@ -14,8 +16,8 @@ use outside_mem::MemDisk;
 use std::alloc::Global;
 use vol_block::{Block, BlockNo};
 
-/// What is said of a leaf at an address that belongs to this tree.
-fn want(address: u64, owner: u64) -> Expect
+/// What is said of a leaf at an address that belongs to this tree, with a checksum of this kind.
+fn want(address: u64, owner: u64, sums: SumKind) -> Expect
     ensures { result.level ≡ 0 }
 {
     Expect {
@@ -24,7 +26,7 @@ fn want(address: u64, owner: u64) -> Expect
         owner,
         level: 0,
         generation: 1,
-        sums: SumKind::Crc32c,
+        sums,
     }
 }
 
@@ -51,28 +53,36 @@ fn put_node(disk: &mut MemDisk, first: BlockNo, node: &[u8]) -> Result<(), Memor
 }
 
 /// The chunk tree: the device and the two chunks.
-pub fn put_chunk_leaf(alloc: Global, disk: &mut MemDisk) -> Result<(), SampleAnswer>
+pub fn put_chunk_leaf(
+    alloc: Global,
+    disk: &mut MemDisk,
+    sample: &Sample,
+) -> Result<(), SampleAnswer>
     requires { length disk.old.history.start ≡ 12288 }
     ensures closed { disk.new.opened ≡ disk.old.opened }
     ensures size { length disk.new.history.start ≡ 12288 }
 {
     let mut writer = NodeWriter::new(alloc, NODE)?;
-    writer.start(&want(CHUNK_LEAF, 3), CHUNK_TREE);
+    writer.start(&want(CHUNK_LEAF, 3, sample.sums), CHUNK_TREE);
     writer.push(key(1, 216, 1), &device().to_bytes())?;
     writer.push(key(256, 228, SYSTEM), &chunk(SYSTEM, 2))?;
-    writer.push(key(256, 228, METADATA), &chunk(METADATA, 4))?;
+    let metadata = key(256, 228, METADATA);
+    match sample.mirror {
+        Some(mirror) => writer.push(metadata, &chunk_twice(METADATA, mirror))?,
+        None => writer.push(metadata, &chunk(METADATA, 4))?,
+    }
     put_node(disk, CHUNK_LEAF / 4096, writer.finish())?;
     Ok(())
 }
 
 /// The root tree: the root item of the file tree.
-pub fn put_root_leaf(alloc: Global, disk: &mut MemDisk) -> Result<(), SampleAnswer>
+pub fn put_root_leaf(alloc: Global, disk: &mut MemDisk, sample: &Sample) -> Result<(), SampleAnswer>
     requires { length disk.old.history.start ≡ 12288 }
     ensures closed { disk.new.opened ≡ disk.old.opened }
     ensures size { length disk.new.history.start ≡ 12288 }
 {
     let mut writer = NodeWriter::new(alloc, NODE)?;
-    writer.start(&want(ROOT_LEAF, 1), CHUNK_TREE);
+    writer.start(&want(ROOT_LEAF, 1, sample.sums), CHUNK_TREE);
     writer.push(key(5, 132, 0), &file_root())?;
     put_node(disk, ROOT_LEAF / 4096, writer.finish())?;
     Ok(())
@@ -85,7 +95,7 @@ pub fn put_file_leaf(alloc: Global, disk: &mut MemDisk, sample: &Sample) -> Resu
     ensures size { length disk.new.history.start ≡ 12288 }
 {
     let mut writer = NodeWriter::new(alloc, NODE)?;
-    writer.start(&want(FILE_LEAF, sample.owner), CHUNK_TREE);
+    writer.start(&want(FILE_LEAF, sample.owner, sample.sums), CHUNK_TREE);
     writer.push(
         key(256, 1, 0),
         &inode(0o40755, 2, SYSTEM_MADE, MOMENT).to_bytes(),

@@ -1,5 +1,6 @@
 use btr_keys::Stamp;
 use btr_node::Full;
+use csum_kinds::SumKind;
 use outside::Memory;
 use thiserror::Error;
 
@@ -77,6 +78,12 @@ pub struct Sample {
     pub owner: u64,
     /// When `a` was last read.
     pub atime: Stamp,
+    /// The kind of checksum of the superblock and of each node.
+    pub sums: SumKind,
+    /// Where the second copy of the metadata chunk begins on the device, in bytes, if it is to have one. Its bytes are zeros.
+    pub mirror: Option<u64>,
+    /// The identifier that the file system got later, in place of the one that its nodes have.
+    pub known_as: Option<[u8; 16]>,
 }
 
 impl Sample {
@@ -86,6 +93,9 @@ impl Sample {
         log_root: 0,
         owner: 5,
         atime: LATER,
+        sums: SumKind::Crc32c,
+        mirror: None,
+        known_as: None,
     };
 }
 

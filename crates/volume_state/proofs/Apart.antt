@@ -1,23 +1,5 @@
 -- What lies in none of some blocks, where none of these is in use.
-use Rattle.std.proofs.Common.{◌≡◌, ℕ, ◌+◌, ◌*◌, ◌/◌, ◌<◌, eqb, Bool, true, false, List, ◌∷◌, ◌++◌, length, get_or, Contains, Option, Some, None, refl, sym, ◌∙◌, ap, subst, arith, if◌then◌else◌}
-use Rattle.std.specs.Option.{option_and_then}
-use Rattle.std.proofs.lemmas.Bool.{and_parts}
-use Rattle.std.proofs.lemmas.List.{get_or_default}
-use Rattle.reiser_bitmap.specs.outside.History.{Image}
-use Rattle.btr_reader_contents.specs.Extents.{is_extent_of}
-use Rattle.btr_node.specs.btr_keys.FileExtent.{ContentValue, FileExtentValue, Inline, Prealloc, Regular, file_extent_of}
-use Rattle.btr_reader.specs.Opening.{tree_of}
-use Rattle.btr_reader.specs.Parts.{own_map, own_super}
-use Rattle.btr_super.specs.declared.superblock.Super.{Super}
-use Rattle.btr_reader_walk.specs.Events.{TreeItem, nodes_in}
-use Rattle.btr_reader_walk.specs.Map.{place}
-use Rattle.btr_reader_walk.specs.Walks.{met}
-use Rattle.btr_reader_walk.specs.declared.map.MapRange.{MapRange}
-use Rattle.btr_reader_walk.specs.declared.tree.Pointer.{Pointer}
-use Rattle.btr_reader_walk.specs.declared.tree.Tree.{Tree}
-use Rattle.btr_reader.specs.Apart.{AreExtentsApart, AreNodesApart, IsApart, IsContentApart, root_of, saved_tree}
-use Rattle.reiser_volume.proofs.fs_paths.Lists.{from_filter}
-use Rattle.volume_state.specs.Using.{HoldsExtent, HoldsNodeOf, LieIn, content_range, file_trees, item_range, named_by, numbered, tree_if}
+use Rattle.volume_state.proofs.Imports.{◌≡◌, inl, ℕ, ◌+◌, ◌*◌, ◌/◌, ◌<◌, eqb, Bool, true, false, List, ◌∷◌, ◌++◌, length, get_or, Contains, Option, Some, None, refl, sym, ◌∙◌, ap, subst, arith, if◌then◌else◌, option_and_then, and_parts, get_or_default, EXTENT_DATA, FS_TREE, Image, is_extent_of, ContentValue, FileExtentValue, Inline, Prealloc, Regular, file_extent_of, tree_of, own_map, own_super, Super, TreeItem, nodes_in, place, met, MapRange, NodePointer, Tree, AreExtentsApart, AreNodesApart, IsApart, IsContentApart, root_of, saved_tree, from_filter, HoldsExtent, HoldsNodeOf, LieIn, content_range, file_trees, item_range, named_by, numbered, tree_if}
 
 -- an element of a list by its place
 at_place : {X : Type 0} (xs : List X) (k : ℕ) (d : X) → k < length xs → Contains xs (get_or xs k d)
@@ -30,7 +12,7 @@ module _ (test : ℕ → Bool) (ranges : List MapRange) where
     where
       by : (o : Option ℕ) → place ranges (address + k) ≡ o → IsApart test o
       by None is = tt
-      by (Some a) is = outside (a / 4096) (record { k = k; within = below; at = a; place_is = is; block = refl })
+      by (Some a) is = outside (a / 4096) (record { k = k; within = below; at = a; place_is = inl is; block = refl })
 
   pub nodes_apart : (disk : Image) (t : Tree) → ((b : ℕ) → HoldsNodeOf disk ranges t b → test b ≡ false) → AreNodesApart test disk ranges t
   nodes_apart disk t outside i d below k inside =
@@ -40,14 +22,16 @@ module _ (test : ℕ → Bool) (ranges : List MapRange) where
   content_apart : (items : List TreeItem) → ((b : ℕ) → HoldsExtent items ranges b → test b ≡ false) → (i : TreeItem) → Contains items i → (c : ContentValue) → item_range i ≡ content_range c → IsContentApart test ranges c
   content_apart items outside i among (Inline bytes) is = tt
   content_apart items outside i among (Prealloc r) is = tt
-  content_apart items outside i among (Regular r) is = λ some k below.
+  content_apart items outside i among (Regular r) is = λ some k below inside.
       let range : item_range i ≡ Some r = is ∙ ap (λ (t : Bool). if t then None else Some r) some in
-      byte_apart (r.disk_bytenr + r.offset) r.num_bytes k below (λ b lies. outside b (record { item = i; among = among; range = r; range_is = range; lies = lies }))
+      let same : r.disk_bytenr + (r.offset + k) ≡ r.disk_bytenr + r.offset + k = omega arith in
+      subst (λ (a : ℕ). IsApart test (place ranges a)) same
+      (byte_apart r.disk_bytenr r.disk_num_bytes (r.offset + k) inside (λ b lies. outside b (record { item = i; among = among; range = r; range_is = range; lies = lies })))
 
   pub extents_apart : (items : List TreeItem) → ((b : ℕ) → HoldsExtent items ranges b → test b ≡ false) → AreExtentsApart test ranges items
   extents_apart items outside ino i e among read =
       let from = from_filter (is_extent_of ino) items i among in
-      let kind : eqb i.key.kind 108 ≡ true = (and_parts (eqb i.key.objectid ino) (eqb i.key.kind 108) from.1).1 in
+      let kind : eqb i.key.kind EXTENT_DATA ≡ true = (and_parts (eqb i.key.objectid ino) (eqb i.key.kind EXTENT_DATA) from.1).1 in
       let range : item_range i ≡ content_range e.content =
       ap (λ (t : Bool). if t then option_and_then (λ x. content_range x.content) (file_extent_of i.body) else None) kind ∙ ap (λ (o : Option FileExtentValue). option_and_then (λ x. content_range x.content) o) read in
       content_apart items outside i from.0 e.content range
@@ -60,13 +44,13 @@ module _ (disk : Image) where
   ranges = own_map disk
 
   -- the file tree is one of them, and that of the saved image is the other
-  pub file_tree_among : (p : Pointer) → root_of disk 5 ≡ Some p → Contains (file_trees disk s ranges) (tree_of s 5 p)
+  pub file_tree_among : (p : NodePointer) → root_of disk FS_TREE ≡ Some p → Contains (file_trees disk s ranges) (tree_of s FS_TREE p)
   file_tree_among p is =
-      subst (λ (o : Option Pointer). Contains (tree_if s 5 o ++ named_by disk s ranges o) (tree_of s 5 p)) (sym is) (0, omega arith, refl)
+      subst (λ (o : Option NodePointer). Contains (tree_if s FS_TREE o ++ named_by disk s ranges o) (tree_of s FS_TREE p)) (sym is) (0, omega arith, refl)
 
-  pub saved_tree_among : (p : Pointer) (number : ℕ) (q : Pointer) → root_of disk 5 ≡ Some p → saved_tree disk p ≡ Some number → root_of disk number ≡ Some q
+  pub saved_tree_among : (p : NodePointer) (number : ℕ) (q : NodePointer) → root_of disk FS_TREE ≡ Some p → saved_tree disk p ≡ Some number → root_of disk number ≡ Some q
       → Contains (file_trees disk s ranges) (tree_of s number q)
   saved_tree_among p number q root saved at =
-      subst (λ (o : Option Pointer). Contains (tree_if s 5 o ++ named_by disk s ranges o) (tree_of s number q)) (sym root)
-      (subst (λ (o : Option ℕ). Contains (tree_of s 5 p ∷ numbered disk s ranges o) (tree_of s number q)) (sym saved)
-      (subst (λ (o : Option Pointer). Contains (tree_of s 5 p ∷ tree_if s number o) (tree_of s number q)) (sym at) (1, omega arith, refl)))
+      subst (λ (o : Option NodePointer). Contains (tree_if s FS_TREE o ++ named_by disk s ranges o) (tree_of s number q)) (sym root)
+      (subst (λ (o : Option ℕ). Contains (tree_of s FS_TREE p ∷ numbered disk s ranges o) (tree_of s number q)) (sym saved)
+      (subst (λ (o : Option NodePointer). Contains (tree_of s FS_TREE p ∷ tree_if s number o) (tree_of s number q)) (sym at) (1, omega arith, refl)))

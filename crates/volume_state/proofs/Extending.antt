@@ -1,12 +1,6 @@
 -- One item more, of those in whose ranges reserved blocks are looked for.
-use Rattle.std.proofs.Common.{◌≡◌, ⊎_elim, ℕ, ◌+◌, List, [], ◌∷◌, ◌++◌, Contains, Option, Some, None, sym, ◌∙◌, ap, subst, arith}
-use Rattle.std.proofs.lemmas.List.Elements.{Contains-append_cases, Contains-append_left, Contains-append_right}
-use Rattle.btr_node.specs.btr_keys.declared.file_extent.DiskRange.{DiskRange}
-use Rattle.btr_reader_walk.specs.Events.{TreeItem}
-use Rattle.btr_reader_walk.specs.declared.map.MapRange.{MapRange}
-use Rattle.reiser_volume.proofs.fs_paths.Lists.{at_head, head_or_tail}
+use Rattle.volume_state.proofs.Imports.{◌≡◌, ⊎_elim, ℕ, ◌+◌, List, [], ◌∷◌, ◌++◌, Contains, Option, Some, None, sym, ◌∙◌, ap, subst, arith, Contains-append_cases, Contains-append_left, Contains-append_right, DiskRange, TreeItem, MapRange, at_head, head_or_tail, HoldsExtent, LieIn, TellsReserved, item_range}
 use Rattle.volume_state.specs.Extents.{TellsRange}
-use Rattle.volume_state.specs.Using.{HoldsExtent, LieIn, TellsReserved, item_range}
 use Rattle.volume_state.proofs.Placed.{no_some, some_is}
 
 module _ (ranges : List MapRange) (blocks : ℕ) (items : List TreeItem) (i : TreeItem) where
@@ -19,7 +13,7 @@ module _ (ranges : List MapRange) (blocks : ℕ) (items : List TreeItem) (i : Tr
     lies = holds.lies;
   }
 
-  last : (r : DiskRange) (b : ℕ) → item_range i ≡ Some r → LieIn ranges (r.disk_bytenr + r.offset) r.num_bytes b → HoldsExtent (items ++ i ∷ []) ranges b
+  last : (r : DiskRange) (b : ℕ) → item_range i ≡ Some r → LieIn ranges r.disk_bytenr r.disk_num_bytes b → HoldsExtent (items ++ i ∷ []) ranges b
   last r b is lies = record { item = i; among = Contains-append_right items (i ∷ []) i (at_head i []); range = r; range_is = is; lies = lies }
 
   only : (x : TreeItem) → Contains (i ∷ []) x → i ≡ x
@@ -40,6 +34,6 @@ module _ (ranges : List MapRange) (blocks : ℕ) (items : List TreeItem) (i : Tr
       ⊎_elim (λ before. none b reserved (record { item = holds.item; among = before; range = holds.range; range_is = holds.range_is; lies = holds.lies }))
       (λ here.
       let same : r ≡ holds.range = some_is r holds.range (sym range ∙ (ap item_range (only holds.item here) ∙ holds.range_is)) in
-      tells b reserved (subst (λ (x : DiskRange). LieIn ranges (x.disk_bytenr + x.offset) x.num_bytes b) (sym same) holds.lies))
+      tells b reserved (subst (λ (x : DiskRange). LieIn ranges x.disk_bytenr x.disk_num_bytes b) (sym same) holds.lies))
       (Contains-append_cases items (i ∷ []) holds.item holds.among)
   found_more (Some r) (Some b) range tells none = (tells.0, last r b range tells.1)

@@ -1,9 +1,6 @@
 -- The blocks of an image, each by itself.
-use Rattle.std.proofs.Common.{◌≡◌, ℕ, ◌<◌, ◌≤◌, min, length, [], Option, sym, ◌∙◌, ap, arith}
-use Rattle.std.proofs.lemmas.List.{ext_get_or}
+use Rattle.volume_state.proofs.Imports.{◌≡◌, ℕ, ◌<◌, ◌≤◌, min, length, [], Option, sym, ◌∙◌, ap, arith, ext_get_or, Image, block_at, block_or_hole, blocks_by, file_blocks, image_blocks, saved_file, saved_place}
 use Rattle.std.proofs.lemmas.List.FromFn.{get_or-map-range_with_len, length-map-range_with_len}
-use Rattle.reiser_bitmap.specs.outside.History.{Image, block_at}
-use Rattle.volume_state.specs.Saved.{block_or_hole, blocks_by, file_blocks, image_blocks, saved_file, saved_place}
 
 module _ (place : ℕ → Option ℕ) (n : ℕ) (disk : Image) where
   pub length_by : length (blocks_by place n disk) ≡ min n (length disk)

@@ -1,28 +1,8 @@
 -- What is told of the blocks that a volume uses, from its trees to the whole.
-use Rattle.std.proofs.Common.{◌≡◌, ◌≢◌, inr, ℕ, List, [], ◌∷◌, ◌++◌, length, Contains, Option, Some, None, refl, sym, ◌∙◌, subst, arith}
-use Rattle.std.proofs.lemmas.List.Elements.{All-cons, All-head, All-nil, All-tail}
-use Rattle.reiser_bitmap.specs.outside.History.{Image, block_at}
-use Rattle.reiser_bitmap.specs.refusals.declared.answer.BtrAnswer.{BtrAnswer}
-use Rattle.reiser_bitmap.specs.refusals.declared.answer.BtrAnswer.TheVariants.{Refused, Fault, Memory}
-use Rattle.reiser_bitmap.specs.refusals.declared.refusal.BtrRefusal.{BtrRefusal}
-use Rattle.reiser_bitmap.specs.refusals.declared.refusal.BtrRefusal.TheVariants.{LogPending}
-use Rattle.reiser_bitmap.specs.vol_block.Volume.{IsReserved}
-use Rattle.btr_reader_contents.proofs.ExtentLists.{none_left}
-use Rattle.btr_reader_contents.specs.Blocks.{AreInBlocks, IsInBlocks}
+use Rattle.volume_state.proofs.Imports.{◌≡◌, ◌≢◌, inr, ℕ, List, [], ◌∷◌, ◌++◌, length, Contains, Option, Some, None, refl, sym, ◌∙◌, subst, arith, All-cons, All-head, All-nil, All-tail, SUPER_BLOCK, Image, block_at, BtrAnswer, Refused, Fault, Memory, BtrRefusal, LogPending, IsReserved, none_left, AreInBlocks, IsInBlocks, no_log, of_disk, of_volume, one_log, opened_super, items_refusals, IsSuperInBounds, IsBtrfsOpened, boot_chunks, boot_list, boot_refusals, chunk_tree, map_from, or_later, root_tree, trees_refusals, way_refusals, ChunkAt, Super, IsAmong, found, met, wrong, MapRange, boot_map, HoldsNodeOf, IsInFiles, IsInUse, RefusesUse, TellsReserved, chunk_node, file_part, has_log, root_node, unreadable, later_none}
 use Rattle.btr_reader.proofs.MapBlocks.{opened_in_blocks}
 use Rattle.btr_reader.proofs.Opens.{opening_is}
-use Rattle.btr_reader.proofs.PartsRead.{no_log, of_disk, of_volume, one_log, opened_super}
 use Rattle.btr_reader.proofs.Supers.{in_bounds}
-use Rattle.btr_reader.specs.Chunks.{items_refusals}
-use Rattle.btr_reader.specs.Opening.{IsInBounds, IsOpened, boot_chunks, boot_list, boot_refusals, chunk_tree, map_from, or_later, root_tree, trees_refusals}
-use Rattle.btr_reader.specs.Parts.{way_refusals}
-use Rattle.btr_reader.specs.declared.chunk.ChunkAt.{ChunkAt}
-use Rattle.btr_super.specs.declared.superblock.Super.{Super}
-use Rattle.btr_reader_walk.specs.Walks.{IsAmong, found, met, wrong}
-use Rattle.btr_reader_walk.specs.declared.map.MapRange.{MapRange}
-use Rattle.btr_reader.specs.Apart.{boot_map}
-use Rattle.volume_state.specs.Using.{HoldsNodeOf, IsInFiles, IsInUse, RefusesUse, TellsReserved, chunk_node, file_part, has_log, root_node, unreadable}
-use Rattle.btr_reader.proofs.Stages.{later_none}
 use Rattle.volume_state.proofs.Wider.{begins, holds_early, holds_wide, met_wide, sound_wide}
 
 first_none : (early later : List BtrRefusal) → or_later early later ≡ [] → early ≡ []
@@ -33,12 +13,12 @@ early_blocks : (early late : List MapRange) → AreInBlocks (early ++ late) → 
 early_blocks [] late all = All-nil IsInBlocks
 early_blocks (r ∷ early) late all = All-cons IsInBlocks r early (All-head IsInBlocks r (early ++ late) all) (early_blocks early late (All-tail IsInBlocks r (early ++ late) all))
 
-module _ (image : Image) (s : Super) (ranges : List MapRange) (opened : IsOpened image s ranges) where
+module _ (image : Image) (s : Super) (ranges : List MapRange) (opened : IsBtrfsOpened image s ranges) where
   abbrev boot : List ChunkAt
   boot = boot_list (boot_chunks s)
 
-  pub bounds : IsInBounds s
-  bounds = in_bounds (block_at image 16) (length image) s opened.super
+  pub bounds : IsSuperInBounds s
+  bounds = in_bounds (block_at image SUPER_BLOCK) (length image) s opened.super
 
   -- nothing is wrong with the chunk tree and the root tree
   trees_sound : trees_refusals image s boot ≡ []

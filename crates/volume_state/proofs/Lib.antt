@@ -2,6 +2,7 @@ pub mod Apart
 pub mod Extending
 pub mod Faults
 pub mod Images
+pub mod Imports
 pub mod InUse
 pub mod Lying
 pub mod Mapped

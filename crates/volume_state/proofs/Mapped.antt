@@ -1,18 +1,5 @@
 -- The map that was read of an opened volume is that of its saved image.
-use Rattle.std.proofs.Common.{inl, inr, Contains, subst, arith, ◌≡◌, ℕ, List, [], Option, Some, None, Result, Ok, refl, ◌∙◌, ap}
-use Rattle.reiser_bitmap.specs.outside.History.{Image}
-use Rattle.reiser_bitmap.specs.refusals.declared.answer.BtrAnswer.{BtrAnswer}
-use Rattle.reiser_bitmap.specs.refusals.declared.refusal.BtrRefusal.{BtrRefusal}
-use Rattle.btr_reader.proofs.PartsRead.{of_disk}
-use Rattle.btr_reader.specs.Image.{ImageFile, image_refusals, saved_image}
-use Rattle.btr_reader.specs.Opening.{IsOpened, opening_refusals}
-use Rattle.btr_reader.specs.Parts.{IsBtrfsRefusal, SavedImage, own_map, way_refusals}
-use Rattle.btr_reader.specs.Pieces.{MapsImage, map_place}
-use Rattle.btr_reader.specs.Reading.{ReadsImage}
-use Rattle.btr_reader.specs.declared.image_map.ImageMap.{ImageMap}
-use Rattle.btr_super.specs.declared.superblock.Super.{Super}
-use Rattle.btr_reader_walk.specs.declared.map.MapRange.{MapRange}
-use Rattle.volume_state.specs.Saved.{IsImageMissing, blocks_by, blocks_by_map, file_blocks, image_blocks, place_by_file, saved_file, saved_place}
+use Rattle.volume_state.proofs.Imports.{inl, inr, Contains, subst, arith, ◌≡◌, ℕ, List, [], Option, Some, None, Result, Ok, refl, ◌∙◌, ap, Image, BtrAnswer, BtrRefusal, of_disk, ImageFile, image_refusals, saved_image, IsBtrfsOpened, opening_refusals, IsBtrfsRefusal, SavedImage, own_map, way_refusals, MapsImage, map_place, ReadsImage, ImageMap, Super, MapRange, IsImageMissing, blocks_by, blocks_by_map, file_blocks, image_blocks, place_by_file, saved_file, saved_place}
 use Rattle.volume_state.proofs.Images.{blocks_alike}
 
 -- ---- the map of a file
@@ -37,7 +24,7 @@ nothing_in : (refusals : List BtrRefusal) (r : BtrRefusal) → refusals ≡ [] �
 nothing_in refusals r none among = omega (arith, (subst (λ (rs : List BtrRefusal). Contains rs r) none among).1)
 
 -- ---- what was read of an opened volume
-module _ (disk : Image) (s : Super) (ranges : List MapRange) (opened : IsOpened disk s ranges) where
+module _ (disk : Image) (s : Super) (ranges : List MapRange) (opened : IsBtrfsOpened disk s ranges) where
   -- what is read on the way to the image, by the superblock and the map of the disk
   pub read_of_disk : (told : Result (Option ImageMap) BtrAnswer) → ReadsImage ranges (saved_image disk s ranges) (image_refusals disk s ranges) told → ReadsImage (own_map disk) (saved_file disk) (way_refusals disk) told
   read_of_disk told reads = of_disk disk s ranges (λ t m. ReadsImage m (saved_image disk t m) (image_refusals disk t m) told) opened reads

@@ -1,10 +1,7 @@
 -- The next used block.
-use Rattle.std.proofs.Common.{◌≡◌, ⊎_elim, ℕ, ◌+◌, ◌<◌, ◌≤◌, Bool, true, false, not, List, Option, Some, sym, ◌∙◌, ap, subst, arith, true≢false, refl}
-use Rattle.std.proofs.lemmas.Bool.{cases_lt}
-use Rattle.reiser_bitmap.specs.Bits.{has}
+use Rattle.volume_state.proofs.Imports.{◌≡◌, ⊎_elim, ℕ, ◌+◌, ◌<◌, ◌≤◌, Bool, true, false, not, List, Option, Some, sym, ◌∙◌, ap, subst, arith, true≢false, refl, cases_lt, has, IsOld}
 use Rattle.reiser_bitmap.specs.Next.{next_used}
 use Rattle.reiser_bitmap.proofs.Ends.{IsEnd, end_facts}
-use Rattle.volume_state.specs.Moved.{IsOld}
 
 is_used : (t : Bool) → not t ≡ false → t ≡ true
 is_used true is = refl

@@ -1,17 +1,5 @@
 -- A block of the saved image is a block of an extent.
-use Rattle.std.proofs.Common.{◌≡◌, ℕ, suc, ◌+◌, ◌-◌, ◌*◌, ◌/◌, ◌%◌, ◌<◌, ◌≤◌, eqb, nat_lt, nat_le, Bool, true, false, List, [], ◌∷◌, ◌++◌, Contains, Option, Some, None, refl, subst, arith, if◌then◌else◌}
-use Rattle.std.specs.Option.{option_map}
-use Rattle.std.proofs.lemmas.Bool.{and_parts}
-use Rattle.std.proofs.lemmas.Bool.Decides.{nat_tests}
-use Rattle.btr_reader_contents.specs.Extents.{covered_after, covers, end_after, extents_refusals, is_aligned, is_hole, range_is_aligned, refusals_at}
-use Rattle.btr_reader_contents.proofs.ExtentLists.{aligned_of, form_of_sound}
-use Rattle.btr_node.specs.btr_keys.FileExtent.{ContentValue, FileExtentValue, Inline, Prealloc, Regular, file_extent_of}
-use Rattle.btr_node.specs.btr_keys.declared.file_extent.DiskRange.{DiskRange}
-use Rattle.btr_reader.specs.Image.{block_from, content_block, file_block}
-use Rattle.btr_reader_walk.specs.Events.{TreeItem}
-use Rattle.btr_reader_walk.specs.Map.{place}
-use Rattle.btr_reader_walk.specs.declared.map.MapRange.{MapRange}
-use Rattle.volume_state.specs.Using.{LieIn}
+use Rattle.volume_state.proofs.Imports.{◌≡◌, inl, ℕ, suc, ◌+◌, ◌-◌, ◌*◌, ◌/◌, ◌%◌, ◌<◌, ◌≤◌, eqb, nat_lt, nat_le, Bool, true, false, List, [], ◌∷◌, ◌++◌, Contains, Option, Some, None, refl, subst, arith, if◌then◌else◌, ◌&&◌, ◌||◌, ◌∙◌, ap, option_map, and_parts, nat_tests, covered_after, covers, end_after, extents_refusals, is_aligned, is_hole, range_is_aligned, refusals_at, aligned_of, form_of_sound, ContentValue, FileExtentValue, Inline, Prealloc, Regular, file_extent_of, DiskRange, block_by_extent, content_block, file_block, TreeItem, place, MapRange, LieIn}
 
 pub some_is : {X : Type 0} (x y : X) → (Some x ≡ Some y) → x ≡ y
 some_is x y h = cc h
@@ -32,7 +20,7 @@ pub record HasBlock (ranges : List MapRange) (extents : List TreeItem) (b at : �
   pub range : DiskRange
   pub content : extent.content ≡ Regular range
   pub some : is_hole range ≡ false
-  pub lies : LieIn ranges (range.disk_bytenr + range.offset) range.num_bytes at
+  pub lies : LieIn ranges range.disk_bytenr range.disk_num_bytes at
 
 later : (ranges : List MapRange) (i : TreeItem) (extents : List TreeItem) (b at : ℕ) → HasBlock ranges extents b at → HasBlock ranges (i ∷ extents) b at
 later ranges i extents b at has = record {
@@ -50,22 +38,35 @@ later ranges i extents b at has = record {
 whole_blocks : (offset : ℕ) (r : DiskRange) → range_is_aligned offset r ≡ true → offset % 4096 ≡ 0
 whole_blocks offset r aligned = let test : eqb (offset % 4096) 0 ≡ true = (and_parts (eqb (offset % 4096) 0) _ aligned).0 in grind (arith, nat_tests, test)
 
+-- an extent that is aligned stays in its disk extent
+in_disk_extent : (offset : ℕ) (r : DiskRange) → range_is_aligned offset r ≡ true → is_hole r ≡ false → r.offset + r.num_bytes ≤ r.disk_num_bytes
+in_disk_extent offset r aligned some = stays_inside (is_hole r) some (and_parts (eqb (r.num_bytes % 4096) 0) _ (and_parts (eqb (offset % 4096) 0) _ aligned).1).1
+  where
+    stays_inside : (hole : Bool) → hole ≡ false → (hole || (eqb (r.disk_bytenr % 4096) 0 && (eqb (r.offset % 4096) 0 && nat_le (r.offset + r.num_bytes) r.disk_num_bytes))) ≡ true
+        → r.offset + r.num_bytes ≤ r.disk_num_bytes
+    stays_inside true is all = absurd (cc is)
+    stays_inside false is all =
+        let last : nat_le (r.offset + r.num_bytes) r.disk_num_bytes ≡ true = (and_parts (eqb (r.offset % 4096) 0) _ (and_parts (eqb (r.disk_bytenr % 4096) 0) _ all).1).1 in
+        grind (arith, nat_tests, last)
+
 covers_bounds : (offset b : ℕ) (r : DiskRange) → covers offset (Regular r) (4096 * b) ≡ true → (offset ≤ 4096 * b) × (4096 * b < offset + r.num_bytes)
 covers_bounds offset b r over =
     let parts = and_parts (nat_le offset (4096 * b)) (nat_lt (4096 * b) (offset + r.num_bytes)) over in
     (grind (arith, nat_tests, parts.0), grind (arith, nat_tests, parts.1))
 
 -- the place of a block of an extent
-placed : (ranges : List MapRange) (offset b at : ℕ) (r : DiskRange) (o : Option ℕ) → offset % 4096 ≡ 0 → (offset ≤ 4096 * b) × (4096 * b < offset + r.num_bytes)
-    → place ranges (r.disk_bytenr + r.offset + 4096 * (b - offset / 4096)) ≡ o → option_map (λ p. p / 4096) o ≡ Some at → LieIn ranges (r.disk_bytenr + r.offset) r.num_bytes at
-placed ranges offset b at r None straight over is there = absurd (no_some at there)
-placed ranges offset b at r (Some p) straight over is there = record {
-  k = 4096 * (b - offset / 4096);
-  within = omega (arith, straight, over.0, over.1);
-  at = p;
-  place_is = is;
-  block = some_is (p / 4096) at there;
-}
+placed : (ranges : List MapRange) (offset b at : ℕ) (r : DiskRange) (o : Option ℕ) → offset % 4096 ≡ 0 → r.offset + r.num_bytes ≤ r.disk_num_bytes → (offset ≤ 4096 * b) × (4096 * b < offset + r.num_bytes)
+    → place ranges (r.disk_bytenr + r.offset + 4096 * (b - offset / 4096)) ≡ o → option_map (λ p. p / 4096) o ≡ Some at → LieIn ranges r.disk_bytenr r.disk_num_bytes at
+placed ranges offset b at r None straight inside over is there = absurd (no_some at there)
+placed ranges offset b at r (Some p) straight inside over is there =
+    let same : r.disk_bytenr + (r.offset + 4096 * (b - offset / 4096)) ≡ r.disk_bytenr + r.offset + 4096 * (b - offset / 4096) = omega arith in
+    record {
+      k = r.offset + 4096 * (b - offset / 4096);
+      within = omega (arith, straight, inside, over.0, over.1);
+      at = p;
+      place_is = inl (ap (λ (a : ℕ). place ranges a) same ∙ is);
+      block = some_is (p / 4096) at there;
+    }
 
 unless_hole : (hole : Bool) (o : Option ℕ) (at : ℕ) → (if hole then None else o) ≡ Some at → (hole ≡ false) × (o ≡ Some at)
 unless_hole true o at is = absurd (no_some at is)
@@ -88,6 +89,7 @@ in_content ranges i extents x b at (Regular r) content read aligned over is =
       some = some.0;
       lies =
           placed ranges i.key.offset b at r (place ranges (r.disk_bytenr + r.offset + 4096 * (b - i.key.offset / 4096))) (whole_blocks i.key.offset r (aligned r refl))
+          (in_disk_extent i.key.offset r (aligned r refl) some.0)
           (covers_bounds i.key.offset b r over) refl some.1;
     }
 
@@ -105,7 +107,7 @@ by_covers ranges i extents x b at false over read aligned rest is = later ranges
 
 -- ---- all of them
 by_extent : (ranges : List MapRange) (i : TreeItem) (extents : List TreeItem) (e c b at : ℕ) (o : Option FileExtentValue) → file_extent_of i.body ≡ o → refusals_at ranges e c i o ≡ []
-    → (file_block ranges extents b ≡ Some at → HasBlock ranges extents b at) → block_from ranges i o b (file_block ranges extents b) ≡ Some at → HasBlock ranges (i ∷ extents) b at
+    → (file_block ranges extents b ≡ Some at → HasBlock ranges extents b at) → block_by_extent ranges i o b (file_block ranges extents b) ≡ Some at → HasBlock ranges (i ∷ extents) b at
 by_extent ranges i extents e c b at None read sound rest there = later ranges i extents b at (rest there)
 by_extent ranges i extents e c b at (Some x) read sound rest there =
     by_covers ranges i extents x b at (covers i.key.offset x.content (4096 * b)) refl read (aligned_range ranges e c i x sound) rest there

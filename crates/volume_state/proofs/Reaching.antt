@@ -1,45 +1,28 @@
 -- The file that is the saved image, and that nothing is wrong with its extents.
-use Rattle.std.proofs.Common.{◌≡◌, inl, inr, ℕ, ◌/◌, Bool, true, false, List, [], Option, Some, None, refl, sym, ◌∙◌, ap, subst, if◌then◌else◌}
-use Rattle.std.specs.Option.{option_and_then}
-use Rattle.std.proofs.lemmas.Bool.{and_parts}
-use Rattle.reiser_bitmap.specs.outside.History.{Image}
-use Rattle.reiser_bitmap.specs.refusals.declared.refusal.BtrRefusal.{BtrRefusal}
-use Rattle.btr_reader_contents.specs.Extents.{extents_of, extents_refusals}
+use Rattle.volume_state.proofs.Imports.{◌≡◌, inl, inr, ℕ, ◌/◌, Bool, true, false, List, [], Option, Some, None, refl, sym, ◌∙◌, ap, subst, if◌then◌else◌, option_and_then, and_parts, FS_TREE, Image, BtrRefusal, extents_of, extents_refusals, ImageFile, after_pointer, after_root, entry_refusals, file_if_image, file_refusals, if_there, image_at, image_below, image_entry, image_in, image_refusals_in, inode_number, is_file_mode, is_image, items_at, own_refusals, pointer_in, refusals_below, saved_location, saved_image, tree_number, opening_refusals, or_later, tree_of, IsReadable, SavedImage, own_map, own_super, way_refusals, root_item, roots_on, Super, TreeItem, MapRange, NodePointer, root_of, saved_tree, none_in, later_none}
 use Rattle.btr_node.specs.btr_keys.Inode.{inode_of}
 use Rattle.btr_node.specs.btr_keys.declared.inode.Inode.{Inode}
-use Rattle.btr_reader.specs.btr_reader_names.Inodes.{inode_item}
-use Rattle.btr_reader.specs.Image.{ImageFile, after_pointer, after_root, entry_refusals, file_if_image, file_refusals, if_there, image_at, image_below, image_entry, image_in, image_refusals_in, inode_number, is_file, is_image, items_at, own_refusals, pointer_in, refusals_below, saved_entry, saved_image, tree_number}
-use Rattle.btr_reader.specs.Opening.{opening_refusals, or_later, tree_of}
-use Rattle.btr_reader.specs.Parts.{IsReadable, SavedImage, own_map, own_super, way_refusals}
-use Rattle.btr_reader.specs.Roots.{root_item}
-use Rattle.btr_reader.specs.Rows.{roots_on}
-use Rattle.btr_super.specs.declared.superblock.Super.{Super}
-use Rattle.btr_reader_walk.specs.Events.{TreeItem}
-use Rattle.btr_reader_walk.specs.declared.map.MapRange.{MapRange}
-use Rattle.btr_reader_walk.specs.declared.tree.Pointer.{Pointer}
-use Rattle.btr_reader.specs.Apart.{root_of, saved_tree}
-use Rattle.btr_reader.proofs.PartsRead.{none_in}
-use Rattle.btr_reader.proofs.Stages.{later_none}
+use Rattle.btr_reader.specs.btr_reader_names.Inodes.{find_inode_item}
 use Rattle.volume_state.proofs.Placed.{no_some, some_is}
 
 and_then_some : {A B : Type 0} (f : A → Option B) (o : Option A) (y : B) → option_and_then f o ≡ Some y → (x : A) × (o ≡ Some x) × (f x ≡ Some y)
 and_then_some f None y is = absurd (no_some y is)
 and_then_some f (Some x) y is = (x, refl, is)
 
-pub at_root : (next : Pointer → List BtrRefusal) (root : Option TreeItem) (p : Pointer) → pointer_in root ≡ Some p → after_root next root ≡ next p
+pub at_root : (next : NodePointer → List BtrRefusal) (root : Option TreeItem) (p : NodePointer) → pointer_in root ≡ Some p → after_root next root ≡ next p
 at_root next None p is = absurd (no_some p is)
-at_root next (Some i) p is = ap (λ (o : Option Pointer). after_pointer next i.leaf o) is
+at_root next (Some i) p is = ap (λ (o : Option NodePointer). after_pointer next i.leaf o) is
 
 pub there : (next : ℕ → List BtrRefusal) (o : Option ℕ) (n : ℕ) → o ≡ Some n → if_there next o ≡ next n
 there next o n is = ap (λ (x : Option ℕ). if_there next x) is
 
 -- ---- the way to the image
 pub record IsReached (disk : Image) (f : ImageFile) : Type 0 where
-  pub p : Pointer
-  pub root : root_of disk 5 ≡ Some p
+  pub p : NodePointer
+  pub root : root_of disk FS_TREE ≡ Some p
   pub number : ℕ
   pub saved : saved_tree disk p ≡ Some number
-  pub q : Pointer
+  pub q : NodePointer
   pub at : root_of disk number ≡ Some q
   pub ino : ℕ
   pub extents : f.extents ≡ extents_of (items_at disk (own_super disk) (own_map disk) number q) ino
@@ -47,8 +30,8 @@ pub record IsReached (disk : Image) (f : ImageFile) : Type 0 where
 
 -- an image is a regular file
 file_of : (extents : List TreeItem) (own : Inode) (t : Bool) (f : ImageFile) → is_image extents own ≡ t
-    → (if t then (let g : Option ImageFile = Some (record { extents = extents; blocks = own.size / 4096 }) in g) else None) ≡ Some f → (f.extents ≡ extents) × (is_file own.mode ≡ true)
-file_of extents own true f is there = (sym (ap (λ (g : ImageFile). g.extents) (some_is _ f there)), (and_parts (is_file own.mode) _ is).0)
+    → (if t then (let g : Option ImageFile = Some (record { extents = extents; blocks = own.size / 4096 }) in g) else None) ≡ Some f → (f.extents ≡ extents) × (is_file_mode own.mode ≡ true)
+file_of extents own true f is there = (sym (ap (λ (g : ImageFile). g.extents) (some_is _ f there)), (and_parts (is_file_mode own.mode) _ is).0)
 file_of extents own false f is there = absurd (no_some f there)
 
 own_sound : (ranges : List MapRange) (extents : List TreeItem) (leaf : ℕ) (o : Option Inode) (f : ImageFile) → file_if_image extents o ≡ Some f → own_refusals ranges extents leaf o ≡ []
@@ -78,27 +61,27 @@ module _ (disk : Image) (readable : IsReadable disk SavedImage) where
   abbrev below : ℕ → List BtrRefusal
   below number = refusals_below disk s ranges number (root_item number (roots_on disk s ranges))
 
-  below_clear : (p : Pointer) (number : ℕ) → root_of disk 5 ≡ Some p → saved_tree disk p ≡ Some number → below number ≡ []
+  below_clear : (p : NodePointer) (number : ℕ) → root_of disk FS_TREE ≡ Some p → saved_tree disk p ≡ Some number → below number ≡ []
   below_clear p number root saved =
-      let next : Pointer → List BtrRefusal = λ x. or_later (entry_refusals disk ranges (tree_of s 5 x)) (if_there below (option_and_then tree_number (saved_entry (items_at disk s ranges 5 x)))) in
+      let next : NodePointer → List BtrRefusal = λ x. or_later (entry_refusals disk ranges (tree_of s FS_TREE x)) (if_there below (option_and_then tree_number (saved_location (items_at disk s ranges FS_TREE x)))) in
       sym (there below (saved_tree disk p) number saved)
-      ∙ later_none (entry_refusals disk ranges (tree_of s 5 p)) (if_there below (saved_tree disk p)) (sym (at_root next (root_item 5 (roots_on disk s ranges)) p root) ∙ way_clear)
+      ∙ later_none (entry_refusals disk ranges (tree_of s FS_TREE p)) (if_there below (saved_tree disk p)) (sym (at_root next (root_item FS_TREE (roots_on disk s ranges)) p root) ∙ way_clear)
 
-  inside_clear : (number : ℕ) (q : Pointer) → root_of disk number ≡ Some q → below number ≡ [] → image_refusals_in ranges (items_at disk s ranges number q) ≡ []
+  inside_clear : (number : ℕ) (q : NodePointer) → root_of disk number ≡ Some q → below number ≡ [] → image_refusals_in ranges (items_at disk s ranges number q) ≡ []
   inside_clear number q at clear =
-      let next : Pointer → List BtrRefusal = λ x. or_later (entry_refusals disk ranges (tree_of s number x)) (image_refusals_in ranges (items_at disk s ranges number x)) in
+      let next : NodePointer → List BtrRefusal = λ x. or_later (entry_refusals disk ranges (tree_of s number x)) (image_refusals_in ranges (items_at disk s ranges number x)) in
       later_none (entry_refusals disk ranges (tree_of s number q)) (image_refusals_in ranges (items_at disk s ranges number q)) (sym (at_root next (root_item number (roots_on disk s ranges)) q at) ∙ clear)
 
   pub reached : (f : ImageFile) → saved_image disk s ranges ≡ Some f → IsReached disk f
   reached f is =
-      let first = and_then_some (λ p. option_and_then (λ number. image_below disk s ranges number (root_item number (roots_on disk s ranges))) (option_and_then tree_number (saved_entry (items_at disk s ranges 5 p)))) (root_of disk 5) f is in
+      let first = and_then_some (λ p. option_and_then (λ number. image_below disk s ranges number (root_item number (roots_on disk s ranges))) (option_and_then tree_number (saved_location (items_at disk s ranges FS_TREE p)))) (root_of disk FS_TREE) f is in
       let second = and_then_some (λ number. image_below disk s ranges number (root_item number (roots_on disk s ranges))) (saved_tree disk first.0) f first.2 in
       let third = and_then_some (λ q. image_in (items_at disk s ranges second.0 q)) (root_of disk second.0) f second.2 in
       let items : List TreeItem = items_at disk s ranges second.0 third.0 in
-      let fourth = and_then_some (λ ino. image_at items ino (inode_item items ino)) (option_and_then inode_number (image_entry items)) f third.2 in
+      let fourth = and_then_some (λ ino. image_at items ino (find_inode_item items ino)) (option_and_then inode_number (image_entry items)) f third.2 in
       let clear = inside_clear second.0 third.0 third.1 (below_clear first.0 second.0 first.1 second.1) in
-      let file = file_sound ranges items fourth.0 (inode_item items fourth.0) f fourth.2
-      (sym (there (λ ino. file_refusals ranges items ino (inode_item items ino)) (option_and_then inode_number (image_entry items)) fourth.0 fourth.1) ∙ clear) in
+      let file = file_sound ranges items fourth.0 (find_inode_item items fourth.0) f fourth.2
+      (sym (there (λ ino. file_refusals ranges items ino (find_inode_item items ino)) (option_and_then inode_number (image_entry items)) fourth.0 fourth.1) ∙ clear) in
       record {
         p = first.0;
         root = first.1;

@@ -1,9 +1,5 @@
 -- A block of the saved image, as its source reads it.
-use Rattle.std.proofs.Common.{◌≡◌, ℕ, ◌<◌, min, length, List, Option, Some, Result, Ok, Err, OnOk, sym, ◌∙◌, ap}
-use Rattle.reiser_bitmap.specs.outside.History.{Image, block_at}
-use Rattle.btr_reader.specs.Pieces.{map_place}
-use Rattle.btr_reader.specs.declared.image_map.ImageMap.{ImageMap}
-use Rattle.volume_state.specs.Saved.{block_or_hole, blocks_by_map}
+use Rattle.volume_state.proofs.Imports.{◌≡◌, ℕ, ◌<◌, min, length, List, Option, Some, Result, Ok, Err, OnOk, sym, ◌∙◌, ap, Image, block_at, map_place, ImageMap, block_or_hole, blocks_by_map}
 use Rattle.volume_state.proofs.Images.{block_by}
 
 module _ (m : ImageMap) (disk : Image) (n : ℕ) (inside : n < min m.blocks (length disk)) where

@@ -1,39 +1,15 @@
--- The parts of an untouched volume lie in no spare block.
-use Rattle.std.proofs.Common.{◌≡◌, inl, inr, ℕ, ◌+◌, ◌*◌, ◌/◌, ◌<◌, eqb, nat_lt, Bool, true, false, not, ◌&&◌, List, ◌∷◌, ◌++◌, length, get_or, Contains, Option, Some, None, refl, sym, ◌∙◌, ap, subst, arith, if◌then◌else◌}
-use Rattle.std.specs.Option.{option_and_then}
-use Rattle.std.proofs.lemmas.Bool.{and_parts}
-use Rattle.std.proofs.lemmas.List.{get_or_default}
-use Rattle.reiser_bitmap.specs.outside.History.{Image}
-use Rattle.reiser_bitmap.specs.vol_block.Volume.{is_reserved}
+-- The parts of a volume that can go back lie in no spare block.
+use Rattle.volume_state.proofs.Imports.{◌≡◌, inl, inr, ℕ, ◌+◌, ◌*◌, ◌/◌, ◌<◌, eqb, nat_lt, Bool, true, false, not, ◌&&◌, List, ◌∷◌, ◌++◌, length, get_or, Contains, Option, Some, None, refl, sym, ◌∙◌, ap, subst, arith, if◌then◌else◌, option_and_then, and_parts, get_or_default, EXTENT_DATA, FS_TREE, Image, is_reserved, extents_of, is_extent_of, ContentValue, FileExtentValue, Inline, Prealloc, Regular, file_extent_of, ImageFile, file_block, image_place, items_at, saved_image, chunk_tree, root_tree, tree_of, own_map, own_super, Super, TreeItem, nodes_in, place, found, met, MapRange, NodePointer, Tree, AreExtentsApart, AreNodesApart, IsApart, IsContentApart, IsVolumeApart, boot_map, root_of, saved_tree, from_filter, superblock, is_spare, image_blocks, CanGoBack, HoldsExtent, HoldsNodeOf, HoldsPartOf, IsInUse, LieIn, chunk_node, content_range, file_part, file_trees, item_range, named_by, numbered, root_node, tree_if}
 use Rattle.reiser_bitmap.proofs.vol_block.Reserved.{decides_reserved}
-use Rattle.btr_reader_contents.specs.Extents.{extents_of, is_extent_of}
-use Rattle.btr_node.specs.btr_keys.FileExtent.{ContentValue, FileExtentValue, Inline, Prealloc, Regular, file_extent_of}
-use Rattle.btr_reader.specs.Image.{ImageFile, file_block, image_place, items_at, saved_image}
-use Rattle.btr_reader.specs.Opening.{chunk_tree, root_tree, tree_of}
-use Rattle.btr_reader.specs.Parts.{own_map, own_super}
-use Rattle.btr_super.specs.declared.superblock.Super.{Super}
-use Rattle.btr_reader_walk.specs.Events.{TreeItem, nodes_in}
-use Rattle.btr_reader_walk.specs.Map.{place}
-use Rattle.btr_reader_walk.specs.Walks.{found, met}
-use Rattle.btr_reader_walk.specs.declared.map.MapRange.{MapRange}
-use Rattle.btr_reader_walk.specs.declared.tree.Pointer.{Pointer}
-use Rattle.btr_reader_walk.specs.declared.tree.Tree.{Tree}
-use Rattle.btr_reader.specs.Apart.{AreExtentsApart, AreNodesApart, IsApart, IsContentApart, IsVolumeApart, boot_map, root_of, saved_tree}
-use Rattle.reiser_volume.proofs.fs_paths.Lists.{from_filter}
-use Rattle.reiser_volume.specs.Volume.{superblock}
-use Rattle.volume_state.specs.Laws.{is_spare}
-use Rattle.volume_state.specs.Saved.{image_blocks}
-use Rattle.volume_state.specs.Untouched.{IsUntouched}
 use Rattle.volume_state.proofs.Placed.{has_block, no_some}
 use Rattle.volume_state.proofs.Reaching.{reached}
 use Rattle.volume_state.proofs.Apart.{extents_apart, file_tree_among, nodes_apart, saved_tree_among}
-use Rattle.volume_state.specs.Using.{HoldsExtent, HoldsNodeOf, HoldsPartOf, IsInUse, LieIn, chunk_node, content_range, file_part, file_trees, item_range, named_by, numbered, root_node, tree_if}
 
 when_below : (t : Bool) (o : Option ℕ) (at : ℕ) → (if t then o else None) ≡ Some at → o ≡ Some at
 when_below true o at is = is
 when_below false o at is = absurd (no_some at is)
 
-module _ (disk : Image) (u : IsUntouched disk) where
+module _ (disk : Image) (u : CanGoBack disk) where
   abbrev blocks : ℕ
   blocks = (superblock (image_blocks disk)).blocks
 
@@ -78,12 +54,12 @@ module _ (disk : Image) (u : IsUntouched disk) where
   -- a block of the saved image is in use
   image_in_use : (f : ImageFile) (b at : ℕ) → saved_image disk s ranges ≡ Some f → image_place ranges f b ≡ Some at → IsInUse disk at
   image_in_use f b at is placed =
-      let way = reached disk u.whole.way f is in
+      let way = reached disk u.way.readable f is in
       let has = has_block ranges f.extents 0 0 b at way.sound (when_below (nat_lt b f.blocks) (file_block ranges f.extents b) at placed) in
       let items : List TreeItem = items_at disk s ranges way.number way.q in
       let among : Contains (extents_of items way.ino) has.item = subst (λ (extents : List TreeItem). Contains extents has.item) way.extents has.among in
       let from = from_filter (is_extent_of way.ino) items has.item among in
-      let kind : eqb has.item.key.kind 108 ≡ true = (and_parts (eqb has.item.key.objectid way.ino) (eqb has.item.key.kind 108) from.1).1 in
+      let kind : eqb has.item.key.kind EXTENT_DATA ≡ true = (and_parts (eqb has.item.key.objectid way.ino) (eqb has.item.key.kind EXTENT_DATA) from.1).1 in
       let range : item_range has.item ≡ Some has.range =
       ap (λ (t : Bool). if t then option_and_then (λ x. content_range x.content) (file_extent_of has.item.body) else None) kind
       ∙ (ap (λ (o : Option FileExtentValue). option_and_then (λ x. content_range x.content) o) has.read
@@ -95,13 +71,13 @@ module _ (disk : Image) (u : IsUntouched disk) where
       })
 
   -- no part of the volume lies in a spare block
-  pub untouched_apart : IsVolumeApart (is_spare disk) disk
-  untouched_apart = record {
+  pub spare_apart : IsVolumeApart (is_spare disk) disk
+  spare_apart = record {
     superblock = superblock_apart;
     chunks = chunks_apart;
     roots = roots_apart;
-    files = λ p root. file_nodes_apart (tree_of s 5 p) (file_tree_among disk p root);
-    extents = λ p root. file_extents_apart (tree_of s 5 p) (file_tree_among disk p root);
+    files = λ p root. file_nodes_apart (tree_of s FS_TREE p) (file_tree_among disk p root);
+    extents = λ p root. file_extents_apart (tree_of s FS_TREE p) (file_tree_among disk p root);
     saved = λ p number q root saved at. file_nodes_apart (tree_of s number q) (saved_tree_among disk p number q root saved at);
     blocks = λ f b at is placed. in_use_apart at (image_in_use f b at is placed);
   }

@@ -1,34 +1,13 @@
--- What differs in spare blocks alone stays untouched.
-use Rattle.std.proofs.Common.{◌≡◌, ⊎_elim, inl, inr, ℕ, ◌<◌, min, List, [], ◌++◌, length, Contains, Option, Some, None, refl, sym, ◌∙◌, ap, subst, arith}
-use Rattle.std.specs.Option.{option_and_then}
-use Rattle.std.proofs.lemmas.List.{ext_get_or}
-use Rattle.reiser_bitmap.specs.outside.History.{Image, block_at}
-use Rattle.btr_reader.specs.Image.{ImageFile, items_at, pointer_in, saved_entry, tree_number}
-use Rattle.btr_reader.specs.Opening.{chunk_tree, root_tree}
-use Rattle.btr_reader.specs.Parts.{SavedImage, own_map, own_super}
-use Rattle.btr_reader.specs.Parts as part
-use Rattle.btr_reader.specs.Roots.{root_item}
-use Rattle.btr_super.specs.declared.superblock.Super.{Super}
-use Rattle.btr_reader_walk.specs.Events.{Event, TreeItem, nodes_in}
-use Rattle.btr_reader_walk.specs.declared.map.MapRange.{MapRange}
-use Rattle.btr_reader_walk.specs.declared.tree.Pointer.{Pointer}
-use Rattle.btr_reader_walk.specs.declared.tree.Tree.{Tree}
-use Rattle.btr_reader.specs.Apart.{AreNodesApart, IsSameOutside, boot_map, root_of}
+-- What differs in spare blocks alone can go back too.
+use Rattle.volume_state.proofs.Imports.{◌≡◌, ⊎_elim, inl, inr, ℕ, ◌<◌, min, List, [], ◌++◌, length, Contains, Option, Some, None, refl, sym, ◌∙◌, ap, subst, arith, option_and_then, ext_get_or, FS_TREE, Image, block_at, ImageFile, items_at, pointer_in, saved_location, tree_number, chunk_tree, root_tree, SavedImage, own_map, own_super, root_item, Super, TreeEvent, TreeItem, nodes_in, MapRange, NodePointer, Tree, AreNodesApart, IsSameOutside, boot_map, root_of, IsAccepted, superblock, used_of, IsReserved, SpareBlocksDecideNothing, is_spare, IsOld, block_or_hole, blocks_by, file_blocks, image_blocks, place_by_file, saved_file, saved_place, CanGoBack, HoldsExtent, HoldsNode, HoldsNodeOf, HoldsPartOf, IsInUse, chunk_node, file_part, file_pointer, file_trees, named_by, numbered, root_node, tree_if}
 use Rattle.btr_reader.specs.MetadataLaws.{IsDecided, IsSameBtrfs}
 use Rattle.btr_reader.proofs.Decided.{metadata_decides}
 use Rattle.btr_reader.proofs.Nodes.{found_same, met_same}
 use Rattle.btr_reader.proofs.Volumes.{both, items_same, roots_same}
-use Rattle.reiser_volume.specs.Volume.{IsAccepted, superblock, used_of}
-use Rattle.reiser_bitmap.specs.vol_block.Volume.{IsReserved}
-use Rattle.volume_state.specs.Laws.{SpareBlocksDecideNothing, is_spare}
-use Rattle.volume_state.specs.Moved.{IsOld}
-use Rattle.volume_state.specs.Saved.{block_or_hole, blocks_by, file_blocks, image_blocks, place_by_file, saved_file, saved_place}
-use Rattle.volume_state.specs.Untouched.{IsUntouched}
-use Rattle.volume_state.specs.Using.{HoldsExtent, HoldsNode, HoldsNodeOf, HoldsPartOf, IsInUse, chunk_node, file_part, file_pointer, file_trees, named_by, numbered, root_node, tree_if}
 use Rattle.volume_state.proofs.Images.{block_by, length_by}
-use Rattle.volume_state.proofs.Spare.{chunks_apart, file_nodes_apart, roots_apart, untouched_apart}
+use Rattle.volume_state.proofs.Spare.{chunks_apart, file_nodes_apart, in_use_apart, roots_apart, spare_apart, superblock_apart}
 
-module _ (disk other : Image) (u : IsUntouched disk) (same : IsSameOutside (is_spare disk) disk other) where
+module _ (disk other : Image) (u : CanGoBack disk) (same : IsSameOutside (is_spare disk) disk other) where
   abbrev s : Super
   s = own_super disk
 
@@ -36,7 +15,7 @@ module _ (disk other : Image) (u : IsUntouched disk) (same : IsSameOutside (is_s
   ranges = own_map disk
 
   decided : IsDecided (is_spare disk) disk other
-  decided = metadata_decides (is_spare disk) disk other (untouched_apart disk u) same
+  decided = metadata_decides (is_spare disk) disk other (spare_apart disk u) same
 
   abbrev volume : IsSameBtrfs disk other
   volume = decided.same
@@ -78,28 +57,28 @@ module _ (disk other : Image) (u : IsUntouched disk) (same : IsSameOutside (is_s
   -- ---- the blocks in use
   nodes_of : (m : List MapRange) (t : Tree) → AreNodesApart (is_spare disk) disk m t → (b : ℕ) → HoldsNodeOf other m t b → HoldsNodeOf disk m t b
   nodes_of m t apart b holds =
-      subst (λ (events : List Event). HoldsNode (nodes_in events) m t.form.nodesize b) (met_same (is_spare disk) disk other same m t apart) holds
+      subst (λ (events : List TreeEvent). HoldsNode (nodes_in events) m t.form.nodesize b) (met_same (is_spare disk) disk other same m t apart) holds
 
   pointer_same : file_pointer other s ranges ≡ file_pointer disk s ranges
-  pointer_same = ap (λ (items : List TreeItem). pointer_in (root_item 5 items)) (roots_same (is_spare disk) disk other (untouched_apart disk u) same)
+  pointer_same = ap (λ (items : List TreeItem). pointer_in (root_item FS_TREE items)) (roots_same (is_spare disk) disk other (spare_apart disk u) same)
 
   numbered_same : (o : Option ℕ) → numbered other s ranges o ≡ numbered disk s ranges o
   numbered_same None = refl
   numbered_same (Some number) =
-      ap (λ (items : List TreeItem). tree_if s number (pointer_in (root_item number items))) (roots_same (is_spare disk) disk other (untouched_apart disk u) same)
+      ap (λ (items : List TreeItem). tree_if s number (pointer_in (root_item number items))) (roots_same (is_spare disk) disk other (spare_apart disk u) same)
 
-  named_same : (o : Option Pointer) → root_of disk 5 ≡ o → named_by other s ranges o ≡ named_by disk s ranges o
+  named_same : (o : Option NodePointer) → root_of disk FS_TREE ≡ o → named_by other s ranges o ≡ named_by disk s ranges o
   named_same None is = refl
   named_same (Some p) is =
-      let apart = untouched_apart disk u in
-      numbered_same (option_and_then tree_number (saved_entry (items_at other s ranges 5 p)))
-      ∙ ap (λ (items : List TreeItem). numbered disk s ranges (option_and_then tree_number (saved_entry items))) (items_same (is_spare disk) disk other apart same 5 p (apart.files p is))
+      let apart = spare_apart disk u in
+      numbered_same (option_and_then tree_number (saved_location (items_at other s ranges FS_TREE p)))
+      ∙ ap (λ (items : List TreeItem). numbered disk s ranges (option_and_then tree_number (saved_location items))) (items_same (is_spare disk) disk other apart same 5 p (apart.files p is))
 
   trees_same : file_trees other (own_super other) (own_map other) ≡ file_trees disk s ranges
   trees_same =
-      both (is_spare disk) disk other (untouched_apart disk u) same (λ t m. file_trees other t m)
-      ∙ (ap (λ (o : Option Pointer). tree_if s 5 o ++ named_by other s ranges o) pointer_same
-      ∙ ap (λ (more : List Tree). tree_if s 5 (file_pointer disk s ranges) ++ more) (named_same (file_pointer disk s ranges) refl))
+      both (is_spare disk) disk other (spare_apart disk u) same (λ t m. file_trees other t m)
+      ∙ (ap (λ (o : Option NodePointer). tree_if s FS_TREE o ++ named_by other s ranges o) pointer_same
+      ∙ ap (λ (more : List Tree). tree_if s FS_TREE (file_pointer disk s ranges) ++ more) (named_same (file_pointer disk s ranges) refl))
 
   in_use_same : (b : ℕ) → IsInUse other b → IsInUse disk b
   in_use_same b (chunk_node holds) =
@@ -117,12 +96,9 @@ module _ (disk other : Image) (u : IsUntouched disk) (same : IsSameOutside (is_s
       file_part (record { tree = holding.tree; among = among; holds = holds })
 
   -- ---- all of it
-  stays : IsUntouched other
+  stays : CanGoBack other
   stays = record {
-    whole = record {
-      rows = record { log = volume.log ∙ u.whole.rows.log; tree = λ r refused. u.whole.rows.tree r ((volume.refusals part.Tree r).1 refused) };
-      way = λ r refused. u.whole.way r ((volume.refusals SavedImage r).1 refused);
-    };
+    way = record { log = volume.log ∙ u.way.log; readable = λ r refused. u.way.readable r ((volume.refusals SavedImage r).1 refused) };
     there = λ missing. u.there (sym volume.saved ∙ missing);
     accepted = subst IsAccepted (sym image_same) u.accepted;
     in_place = λ b old. place_same b ∙ u.in_place b (subst (λ (i : Image). IsOld (used_of i) b) image_same old);
@@ -130,4 +106,13 @@ module _ (disk other : Image) (u : IsUntouched disk) (same : IsSameOutside (is_s
   }
 
 pub spare_blocks_decide_nothing : SpareBlocksDecideNothing
-spare_blocks_decide_nothing disk other u same = record { same = volume disk other u same; image = image_same disk other u same; untouched = stays disk other u same }
+spare_blocks_decide_nothing disk other u same = record {
+  blocks = record {
+    size = same.size;
+    superblock = same.others 16 (superblock_apart disk u);
+    used = λ b used. same.others b (in_use_apart disk u b used);
+  };
+  same = volume disk other u same;
+  image = image_same disk other u same;
+  can = stays disk other u same;
+}

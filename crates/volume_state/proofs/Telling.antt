@@ -1,29 +1,7 @@
 -- What is told of reserved blocks, from the parts of a volume to the whole.
-use Rattle.std.proofs.Common.{◌≡◌, ⊎_elim, inr, ℕ, List, [], ◌∷◌, ◌++◌, Contains, Option, Some, None, Result, Ok, Err, refl, sym, ◌∙◌, ap, subst, arith}
-use Rattle.std.specs.Option.{option_and_then}
+use Rattle.volume_state.proofs.Imports.{◌≡◌, ⊎_elim, inr, ℕ, List, [], ◌∷◌, ◌++◌, Contains, Option, Some, None, Result, Ok, Err, refl, sym, ◌∙◌, ap, subst, arith, option_and_then, Contains-append_right, FS_TREE, Image, BtrAnswer, BtrRefusal, entry_refusals, if_there, image_refusals, image_refusals_in, items_at, pointer_in, refusals_below, root_refusals, saved_location, saved_refusals, tree_number, IsBtrfsOpened, or_later, tree_of, own_map, own_super, way_refusals, FindsNumbered, FindsSaved, FindsTree, pointer_of, root_item, roots_on, of_disk, Super, TreeItem, order_damages, IsAmong, found, wrong, MapRange, NodePointer, Tree, at_head, head_or_tail, below_faults, HoldsExtent, HoldsNodeOf, HoldsPartOf, IsInFiles, TellsReserved, file_trees, named_by, numbered, tree_if}
 use Rattle.std.specs.Result.{MatchResult}
-use Rattle.std.proofs.lemmas.List.Elements.{Contains-append_right}
-use Rattle.reiser_bitmap.specs.outside.History.{Image}
-use Rattle.reiser_bitmap.specs.refusals.declared.answer.BtrAnswer.{BtrAnswer}
-use Rattle.reiser_bitmap.specs.refusals.declared.refusal.BtrRefusal.{BtrRefusal}
-use Rattle.btr_reader.specs.Image.{entry_refusals, if_there, image_refusals, image_refusals_in, items_at, pointer_in, refusals_below, root_refusals, saved_entry, saved_refusals, tree_number}
-use Rattle.btr_reader.specs.Opening.{IsOpened, or_later, tree_of}
-use Rattle.btr_reader.specs.Parts.{own_map, own_super, way_refusals}
-use Rattle.btr_reader.specs.Reading.{FindsNumbered, FindsSaved, FindsTree}
-use Rattle.btr_reader.specs.Roots.{pointer_of, root_item}
-use Rattle.btr_reader.specs.Rows.{roots_on}
 use Rattle.btr_reader.proofs.Among.{among_first, among_left}
-use Rattle.btr_reader.proofs.PartsRead.{of_disk}
-use Rattle.btr_super.specs.declared.superblock.Super.{Super}
-use Rattle.btr_reader_walk.specs.Events.{TreeItem}
-use Rattle.btr_reader_walk.specs.Tree.{order_damages}
-use Rattle.btr_reader_walk.specs.Walks.{IsAmong, found, wrong}
-use Rattle.btr_reader_walk.specs.declared.map.MapRange.{MapRange}
-use Rattle.btr_reader_walk.specs.declared.tree.Pointer.{Pointer}
-use Rattle.btr_reader_walk.specs.declared.tree.Tree.{Tree}
-use Rattle.reiser_volume.proofs.fs_paths.Lists.{at_head, head_or_tail}
-use Rattle.volume_state.specs.Nodes.{below_faults}
-use Rattle.volume_state.specs.Using.{HoldsExtent, HoldsNodeOf, HoldsPartOf, IsInFiles, TellsReserved, file_trees, named_by, numbered, tree_if}
 use Rattle.volume_state.proofs.Placed.{no_some, some_is}
 use Rattle.volume_state.proofs.Reaching.{at_root, there}
 
@@ -50,19 +28,19 @@ module _ (image : Image) (s : Super) (ranges : List MapRange) where
   abbrev roots : List TreeItem
   roots = roots_on image s ranges
 
-  abbrev entries : Pointer → List BtrRefusal
-  entries p = entry_refusals image ranges (tree_of s 5 p)
+  abbrev entries : NodePointer → List BtrRefusal
+  entries p = entry_refusals image ranges (tree_of s FS_TREE p)
 
   abbrev below_number : ℕ → List BtrRefusal
   below_number number = refusals_below image s ranges number (root_item number roots)
 
-  abbrev named_number : Pointer → Option ℕ
-  named_number p = option_and_then tree_number (saved_entry (items_at image s ranges 5 p))
+  abbrev named_number : NodePointer → Option ℕ
+  named_number p = option_and_then tree_number (saved_location (items_at image s ranges FS_TREE p))
 
-  abbrev after_file : Pointer → List BtrRefusal
+  abbrev after_file : NodePointer → List BtrRefusal
   after_file p = or_later (entries p) (if_there below_number (named_number p))
 
-  abbrev after_saved : ℕ → Pointer → List BtrRefusal
+  abbrev after_saved : ℕ → NodePointer → List BtrRefusal
   after_saved number p = saved_refusals image ranges (tree_of s number p)
 
   -- a part of the two lies in the block
@@ -71,25 +49,25 @@ module _ (image : Image) (s : Super) (ranges : List MapRange) where
     pub among : Contains (file_trees image s ranges) tree
     pub holds : HoldsPartOf image ranges tree b
 
-  pointer_at : (root : Option TreeItem) (i : TreeItem) (p : Pointer) → root ≡ Some i → pointer_of i.body ≡ Some p → pointer_in root ≡ Some p
+  pointer_at : (root : Option TreeItem) (i : TreeItem) (p : NodePointer) → root ≡ Some i → pointer_of i.body ≡ Some p → pointer_in root ≡ Some p
   pointer_at root i p is at = ap pointer_in is ∙ at
 
   -- no file tree
-  pub no_trees : (blocks : ℕ) → root_item 5 roots ≡ None → TellsReserved InTrees blocks None
+  pub no_trees : (blocks : ℕ) → root_item FS_TREE roots ≡ None → TellsReserved InTrees blocks None
   no_trees blocks none b reserved holds =
-      let empty : file_trees image s ranges ≡ [] = ap (λ (o : Option TreeItem). tree_if s 5 (pointer_in o) ++ named_by image s ranges (pointer_in o)) none in
+      let empty : file_trees image s ranges ≡ [] = ap (λ (o : Option TreeItem). tree_if s FS_TREE (pointer_in o) ++ named_by image s ranges (pointer_in o)) none in
       absurd (omega (arith, (subst (λ (ts : List Tree). Contains ts holds.tree) empty holds.among).1))
 
   -- ---- a file tree
-  module _ (i : TreeItem) (p : Pointer) (is : root_item 5 roots ≡ Some i) (at : pointer_of i.body ≡ Some p) where
+  module _ (i : TreeItem) (p : NodePointer) (is : root_item FS_TREE roots ≡ Some i) (at : pointer_of i.body ≡ Some p) where
     abbrev file : Tree
-    file = tree_of s 5 p
+    file = tree_of s FS_TREE p
 
     way_is : image_refusals image s ranges ≡ after_file p
-    way_is = at_root after_file (root_item 5 roots) p (pointer_at (root_item 5 roots) i p is at)
+    way_is = at_root after_file (root_item FS_TREE roots) p (pointer_at (root_item FS_TREE roots) i p is at)
 
     trees_are : file_trees image s ranges ≡ file ∷ numbered image s ranges (named_number p)
-    trees_are = ap (λ (o : Option Pointer). tree_if s 5 o ++ named_by image s ranges o) (pointer_at (root_item 5 roots) i p is at)
+    trees_are = ap (λ (o : Option NodePointer). tree_if s FS_TREE o ++ named_by image s ranges o) (pointer_at (root_item FS_TREE roots) i p is at)
 
     pub in_way : (e : BtrAnswer) → IsAmong (after_file p) e → IsAmong (image_refusals image s ranges) e
     in_way e among = subst (λ (rs : List BtrRefusal). IsAmong rs e) (sym way_is) among
@@ -127,7 +105,7 @@ module _ (image : Image) (s : Super) (ranges : List MapRange) where
       pub clear : entries p ≡ []
       pub number : ℕ
       pub named : named_number p ≡ Some number
-      pub q : Pointer
+      pub q : NodePointer
       pub root : pointer_in (root_item number roots) ≡ Some q
       pub tree : t ≡ tree_of s number q
 
@@ -149,11 +127,11 @@ module _ (image : Image) (s : Super) (ranges : List MapRange) where
     both_are t is_other =
         trees_are
         ∙ (ap (λ (o : Option ℕ). file ∷ numbered image s ranges o) is_other.named
-        ∙ (ap (λ (o : Option Pointer). file ∷ tree_if s is_other.number o) is_other.root ∙ ap (λ (x : Tree). file ∷ x ∷ []) (sym is_other.tree)))
+        ∙ (ap (λ (o : Option NodePointer). file ∷ tree_if s is_other.number o) is_other.root ∙ ap (λ (x : Tree). file ∷ x ∷ []) (sym is_other.tree)))
 
     pub other_among : (t : Tree) (e : BtrAnswer) → IsOther t → IsAmong (wrong image ranges t) e → IsAmong (image_refusals image s ranges) e
     other_among t e is_other among =
-        let q : Pointer = is_other.q in
+        let q : NodePointer = is_other.q in
         let number : ℕ = is_other.number in
         let own : IsAmong (wrong image ranges (tree_of s number q)) e = subst (λ (x : Tree). IsAmong (wrong image ranges x) e) is_other.tree among in
         let entry = among_left (wrong image ranges (tree_of s number q)) (root_refusals (found image ranges (tree_of s number q))) e own in
@@ -172,21 +150,21 @@ module _ (image : Image) (s : Super) (ranges : List MapRange) where
 -- the file tree that was found
 pub record IsFile (image : Image) (s : Super) (ranges : List MapRange) (t : Tree) : Type 0 where
   pub i : TreeItem
-  pub p : Pointer
-  pub is : root_item 5 (roots_on image s ranges) ≡ Some i
+  pub p : NodePointer
+  pub is : root_item FS_TREE (roots_on image s ranges) ≡ Some i
   pub at : pointer_of i.body ≡ Some p
-  pub tree : tree_of s 5 p ≡ t
+  pub tree : tree_of s FS_TREE p ≡ t
 
-pub file_of : (image : Image) (s : Super) (ranges : List MapRange) (o : Option Tree) (t : Tree) → o ≡ Some t → FindsTree s 5 (root_item 5 (roots_on image s ranges)) (Ok o) → IsFile image s ranges t
+pub file_of : (image : Image) (s : Super) (ranges : List MapRange) (o : Option Tree) (t : Tree) → o ≡ Some t → FindsTree s FS_TREE (root_item FS_TREE (roots_on image s ranges)) (Ok o) → IsFile image s ranges t
 file_of image s ranges None t is finds = absurd (no_some t is)
 file_of image s ranges (Some x) t is finds = record { i = finds.0; p = finds.1; is = finds.2; at = finds.3; tree = sym finds.4 ∙ some_is x t is }
 
-pub no_file : (image : Image) (s : Super) (ranges : List MapRange) (o : Option Tree) → o ≡ None → FindsTree s 5 (root_item 5 (roots_on image s ranges)) (Ok o) → root_item 5 (roots_on image s ranges) ≡ None
+pub no_file : (image : Image) (s : Super) (ranges : List MapRange) (o : Option Tree) → o ≡ None → FindsTree s FS_TREE (root_item FS_TREE (roots_on image s ranges)) (Ok o) → root_item FS_TREE (roots_on image s ranges) ≡ None
 no_file image s ranges None is finds = finds
 no_file image s ranges (Some x) is finds = absurd (no_some x (sym is))
 
 -- ---- of the disk
-module _ (image : Image) (s : Super) (ranges : List MapRange) (opened : IsOpened image s ranges) where
+module _ (image : Image) (s : Super) (ranges : List MapRange) (opened : IsBtrfsOpened image s ranges) where
   pub files_told : (blocks : ℕ) (o : Option ℕ) → TellsReserved (InTrees image s ranges) blocks o → TellsReserved (IsInFiles image) blocks o
   files_told blocks o told =
       tells_so (InTrees image (own_super image) (own_map image)) (IsInFiles image) blocks (λ b is. record { tree = is.tree; among = is.among; holds = is.holds }) (λ b is. record { tree = is.tree; among = is.among; holds = is.holds }) o

@@ -1,35 +1,8 @@
 -- A tree by a map that begins with another, where its nodes lie by the beginning. The chunk tree of an opened volume is met by its whole
 -- map as by the chunks in the superblock.
-use Rattle.std.proofs.Common.{◌≡◌, ℕ, zero, suc, ◌+◌, ◌-◌, ◌*◌, ◌/◌, ◌%◌, ◌<◌, eqb, Bool, true, false, ◌&&◌, List, [], ◌∷◌, ◌++◌, Contains, Option, Some, None, is_some, refl, sym, ◌∙◌, ap, subst, arith, append_assoc, true≢false, if◌then◌else◌}
-use Rattle.std.specs.List.{All, flat_map}
-use Rattle.std.proofs.lemmas.Bool.{and_parts}
-use Rattle.std.proofs.lemmas.Bool.Decides.{nat_tests}
-use Rattle.std.proofs.lemmas.List.{append-nil}
-use Rattle.std.proofs.lemmas.List.Elements.{All-cons, All-head, All-nil, All-tail}
-use Rattle.reiser_bitmap.specs.outside.History.{Image}
-use Rattle.reiser_bitmap.specs.refusals.declared.refusal.BtrRefusal.{BtrRefusal}
-use Rattle.reiser_bitmap.specs.refusals.declared.rule.BtrRule.{BtrRule}
-use Rattle.reiser_bitmap.specs.refusals.declared.rule.BtrRule.TheVariants.{Unmapped}
-use Rattle.btr_reader_contents.proofs.ExtentLists.{none_left, none_right}
-use Rattle.btr_reader_contents.specs.Blocks.{AreInBlocks, IsInBlocks}
-use Rattle.btr_node.specs.Inner.{children_in}
-use Rattle.btr_node.specs.Leaf.{items_in}
+use Rattle.volume_state.proofs.Imports.{◌≡◌, ⊎_elim, inl, inr, ℕ, zero, suc, ◌+◌, ◌-◌, ◌*◌, ◌/◌, ◌%◌, ◌<◌, eqb, Bool, true, false, ◌&&◌, List, [], ◌∷◌, ◌++◌, Contains, Option, Some, None, is_some, refl, sym, ◌∙◌, ap, subst, arith, append_assoc, true≢false, if◌then◌else◌, All, flat_map, option_map, and_parts, nat_tests, append-nil, All-cons, All-head, All-nil, All-tail, Image, BtrRefusal, BtrRule, Unmapped, none_left, none_right, AreInBlocks, IsInBlocks, children_in, items_in, Child, chunk_in, range_of, with_chunk, with_items, ChunkAt, TreeEvent, TreeItem, items_in_events, leaf_events, may_be_bare, node, node_events, nodes_in, unless_damaged, are_mapped, block_of_place, blocks_at, holds, is_mapped, node_at, place, second_place, at_address, order_damages, pointer_damages, met, met_faults, wrong, MapRange, NodePointer, Tree, nodes_in-append, holds_bounds, mapped_at, breaks, mapped_breaks, unmapped_breaks, HoldsNodeOf}
 use Rattle.btr_node.specs.NodeSize.{IsNodeSize}
-use Rattle.btr_node.specs.declared.child.Child.{Child}
-use Rattle.btr_reader.specs.Chunks.{chunk_in, range_of, with_chunk, with_items}
-use Rattle.btr_reader.specs.declared.chunk.ChunkAt.{ChunkAt}
-use Rattle.btr_reader_walk.specs.Events.{Event, TreeItem, items_in_events, leaf_events, may_be_bare, node, node_events, nodes_in, unless_damaged}
-use Rattle.btr_reader_walk.specs.Map.{are_mapped, block_of_place, blocks_at, holds, is_mapped, node_at, place}
-use Rattle.btr_reader_walk.specs.Tree.{at_address, order_damages, pointer_damages}
-use Rattle.btr_reader_walk.specs.Walks.{met, met_faults, wrong}
-use Rattle.btr_reader_walk.specs.declared.map.MapRange.{MapRange}
-use Rattle.btr_reader_walk.specs.declared.tree.Pointer.{Pointer}
-use Rattle.btr_reader_walk.specs.declared.tree.Tree.{Tree}
-use Rattle.btr_reader_walk.proofs.Events.{nodes_in-append}
-use Rattle.btr_reader_walk.proofs.Mapping.{holds_bounds, mapped_at}
 use Rattle.btr_reader_walk.proofs.Subtrees.{to}
-use Rattle.btr_reader_walk.proofs.Walking.{breaks, mapped_breaks, unmapped_breaks}
-use Rattle.volume_state.specs.Using.{HoldsNodeOf}
 use Rattle.volume_state.proofs.Faults.{none_broken}
 use Rattle.volume_state.proofs.Lying.{held_so}
 use Rattle.volume_state.proofs.Placed.{no_some}
@@ -42,6 +15,26 @@ place_first (r ∷ early) late a p is = one (holds r a) (place_first early late 
     one : (t : Bool) → (place early a ≡ Some p → place (early ++ late) a ≡ Some p)
         → (if t then Some (r.physical + (a - r.logical)) else place early a) ≡ Some p → (if t then Some (r.physical + (a - r.logical)) else place (early ++ late) a) ≡ Some p
     one true rest there = there
+    one false rest there = rest there
+
+-- the same of second copies
+second_first : (early late : List MapRange) (a p : ℕ) → second_place early a ≡ Some p → second_place (early ++ late) a ≡ Some p
+second_first [] late a p is = absurd (no_some p is)
+second_first (r ∷ early) late a p is = one (holds r a) (second_first early late a p) is
+  where
+    one : (t : Bool) → (second_place early a ≡ Some p → second_place (early ++ late) a ≡ Some p)
+        → (if t then option_map (λ at. at + (a - r.logical)) r.mirror else second_place early a) ≡ Some p → (if t then option_map (λ at. at + (a - r.logical)) r.mirror else second_place (early ++ late) a) ≡ Some p
+    one true rest there = there
+    one false rest there = rest there
+
+-- where an address has a place, its range is one of the first
+second_same : (early late : List MapRange) (a : ℕ) → is_some (place early a) ≡ true → second_place (early ++ late) a ≡ second_place early a
+second_same [] late a some = absurd (true≢false (sym some))
+second_same (r ∷ early) late a some = one (holds r a) (second_same early late a) some
+  where
+    one : (t : Bool) → (is_some (place early a) ≡ true → second_place (early ++ late) a ≡ second_place early a) → is_some (if t then Some (r.physical + (a - r.logical)) else place early a) ≡ true
+        → (if t then option_map (λ at. at + (a - r.logical)) r.mirror else second_place (early ++ late) a) ≡ (if t then option_map (λ at. at + (a - r.logical)) r.mirror else second_place early a)
+    one true rest there = refl
     one false rest there = rest there
 
 some_of : (o : Option ℕ) → is_some o ≡ true → (p : ℕ) × (o ≡ Some p)
@@ -111,73 +104,73 @@ module _ (image : Image) (early late : List MapRange) where
   -- ---- a tree whose nodes lie by the beginning of the map
   module _ (t : Tree) where
     -- the node does
-    abbrev IsIn : Pointer → Type 0
+    abbrev IsIn : NodePointer → Type 0
     IsIn p = is_mapped early t.form.nodesize p.address ≡ true
 
-    breaks_same : (p : Pointer) → IsIn p → breaks image wide t p ≡ breaks image early t p
+    breaks_same : (p : NodePointer) → IsIn p → breaks image wide t p ≡ breaks image early t p
     breaks_same p inside =
         let bytes : List ℕ = node_at image early t.form.nodesize p.address in
         let parts = mapped_blocks early t.form.nodesize p.address inside in
         let there : is_mapped wide t.form.nodesize p.address ≡ true = mapped_again wide t.form.nodesize p.address parts.0 (mapped_wide (t.form.nodesize / 4096) p.address parts.1) in
         sym (mapped_breaks image wide t p bytes there (sym (node_same t.form.nodesize p.address inside))) ∙ mapped_breaks image early t p bytes inside refl
 
-    abbrev old : ℕ → ℕ → ℕ → List Event
+    abbrev old : ℕ → ℕ → ℕ → List TreeEvent
     old level a g = node_events image early t.form t.owner (may_be_bare t.root) level a g
 
-    abbrev new : ℕ → ℕ → ℕ → List Event
+    abbrev new : ℕ → ℕ → ℕ → List TreeEvent
     new level a g = node_events image wide t.form t.owner (may_be_bare t.root) level a g
 
-    all_first : (xs ys : List Pointer) → All IsIn (xs ++ ys) → All IsIn xs
+    all_first : (xs ys : List NodePointer) → All IsIn (xs ++ ys) → All IsIn xs
     all_first [] ys all = All-nil IsIn
     all_first (x ∷ xs) ys all = All-cons IsIn x xs (All-head IsIn x (xs ++ ys) all) (all_first xs ys (All-tail IsIn x (xs ++ ys) all))
 
-    all_second : (xs ys : List Pointer) → All IsIn (xs ++ ys) → All IsIn ys
+    all_second : (xs ys : List NodePointer) → All IsIn (xs ++ ys) → All IsIn ys
     all_second [] ys all = all
     all_second (x ∷ xs) ys all = all_second xs ys (All-tail IsIn x (xs ++ ys) all)
 
-    children_same : (f g : Child → List Event) → ((c : Child) → All IsIn (nodes_in (f c)) → g c ≡ f c) → (children : List Child) → All IsIn (nodes_in (flat_map f children)) → flat_map g children ≡ flat_map f children
+    children_same : (f g : Child → List TreeEvent) → ((c : Child) → All IsIn (nodes_in (f c)) → g c ≡ f c) → (children : List Child) → All IsIn (nodes_in (flat_map f children)) → flat_map g children ≡ flat_map f children
     children_same f g each [] all = refl
     children_same f g each (c ∷ cs) all =
         let parts = subst (λ z. All IsIn z) (nodes_in-append (f c) (flat_map f cs)) all in
         ap (λ z. z ++ flat_map g cs) (each c (all_first (nodes_in (f c)) (nodes_in (flat_map f cs)) parts))
         ∙ ap (λ z. f c ++ z) (children_same f g each cs (all_second (nodes_in (f c)) (nodes_in (flat_map f cs)) parts))
 
-    unless_same : (d : List BtrRule) (xs ys : List Event) → (All IsIn (nodes_in xs) → ys ≡ xs) → All IsIn (nodes_in (unless_damaged d xs)) → unless_damaged d ys ≡ unless_damaged d xs
+    unless_same : (d : List BtrRule) (xs ys : List TreeEvent) → (All IsIn (nodes_in xs) → ys ≡ xs) → All IsIn (nodes_in (unless_damaged d xs)) → unless_damaged d ys ≡ unless_damaged d xs
     unless_same [] xs ys same all = same all
     unless_same (rule ∷ rules) xs ys same all = refl
 
     events_same : (level a g : ℕ) → All IsIn (nodes_in (old level a g)) → new level a g ≡ old level a g
     unfolding node_events
     events_same zero a g all =
-        let p : Pointer = to a zero g in
+        let p : NodePointer = to a zero g in
         let here = All-head IsIn p _ all in
         ap (λ (d : List BtrRule). node p ∷ unless_damaged d (leaf_events a (items_in (node_at image wide t.form.nodesize a)))) (breaks_same p here)
         ∙ ap (λ (bytes : List ℕ). node p ∷ unless_damaged (breaks image early t p) (leaf_events a (items_in bytes))) (node_same t.form.nodesize a here)
     events_same (suc level) a g all =
-        let p : Pointer = to a (suc level) g in
-        let f : Child → List Event = λ c. old level c.address c.generation in
-        let h : Child → List Event = λ c. new level c.address c.generation in
+        let p : NodePointer = to a (suc level) g in
+        let f : Child → List TreeEvent = λ c. old level c.address c.generation in
+        let h : Child → List TreeEvent = λ c. new level c.address c.generation in
         let here = All-head IsIn p _ all in
         let children : List Child = children_in (node_at image early t.form.nodesize a) in
         ap (λ (d : List BtrRule). node p ∷ unless_damaged d (flat_map h (children_in (node_at image wide t.form.nodesize a)))) (breaks_same p here)
         ∙ (ap (λ (bytes : List ℕ). node p ∷ unless_damaged (breaks image early t p) (flat_map h (children_in bytes))) (node_same t.form.nodesize a here)
-        ∙ ap (λ (z : List Event). node p ∷ z)
+        ∙ ap (λ (z : List TreeEvent). node p ∷ z)
         (unless_same (breaks image early t p) (flat_map f children) (flat_map h children)
         (children_same f h (λ c. events_same level c.address c.generation) children)
         (All-tail IsIn p _ all)))
 
     -- a node with which nothing is wrong does
-    mapped_of : (p : Pointer) → breaks image early t p ≡ [] → IsIn p
+    mapped_of : (p : NodePointer) → breaks image early t p ≡ [] → IsIn p
     mapped_of p sound = by (is_mapped early t.form.nodesize p.address) refl
       where
         by : (b : Bool) → is_mapped early t.form.nodesize p.address ≡ b → b ≡ true
         by true is = refl
         by false is = absurd (omega (arith, (subst (λ (rules : List BtrRule). Contains rules Unmapped) sound (unmapped_breaks image early t p is)).1))
 
-    all_in : (ps : List Pointer) → flat_map (pointer_damages image early t.form t.owner (may_be_bare t.root)) ps ≡ [] → All IsIn ps
+    all_in : (ps : List NodePointer) → flat_map (pointer_damages image early t.form t.owner (may_be_bare t.root)) ps ≡ [] → All IsIn ps
     all_in [] sound = All-nil IsIn
     all_in (p ∷ ps) sound =
-        let faults : Pointer → List BtrRefusal = pointer_damages image early t.form t.owner (may_be_bare t.root) in
+        let faults : NodePointer → List BtrRefusal = pointer_damages image early t.form t.owner (may_be_bare t.root) in
         All-cons IsIn p ps (mapped_of p (none_broken image early t p.address (breaks image early t p) (none_left (faults p) (flat_map faults ps) sound))) (all_in ps (none_right (faults p) (flat_map faults ps) sound))
 
     module _ (sound : wrong image early t ≡ []) where
@@ -193,9 +186,9 @@ module _ (image : Image) (early late : List MapRange) where
       -- nothing is wrong by the whole map
       pub sound_wide : wrong image wide t ≡ []
       sound_wide =
-          let faults : Pointer → List BtrRefusal = pointer_damages image early t.form t.owner (may_be_bare t.root) in
-          let others : Pointer → List BtrRefusal = pointer_damages image wide t.form t.owner (may_be_bare t.root) in
-          ap (λ (events : List Event). met_faults image wide t events ++ order_damages None (items_in_events events)) met_wide
+          let faults : NodePointer → List BtrRefusal = pointer_damages image early t.form t.owner (may_be_bare t.root) in
+          let others : NodePointer → List BtrRefusal = pointer_damages image wide t.form t.owner (may_be_bare t.root) in
+          ap (λ (events : List TreeEvent). met_faults image wide t events ++ order_damages None (items_in_events events)) met_wide
           ∙ (ap (λ (refusals : List BtrRefusal). refusals ++ order_damages None (items_in_events (met image early t)))
           (flat_map_same IsIn faults others (λ p inside. ap (at_address p.address) (breaks_same p inside)) (nodes_in (met image early t)) all_met)
           ∙ sound)
@@ -204,12 +197,12 @@ module _ (image : Image) (early late : List MapRange) where
       pub holds_wide : (b : ℕ) → HoldsNodeOf image early t b → HoldsNodeOf image wide t b
       holds_wide b holding = record {
         node = holding.node;
-        among = subst (λ (events : List Event). Contains (nodes_in events) holding.node) (sym met_wide) holding.among;
-        lies = record { k = holding.lies.k; within = holding.lies.within; at = holding.lies.at; place_is = place_first early late (holding.node.address + holding.lies.k) holding.lies.at holding.lies.place_is; block = holding.lies.block };
+        among = subst (λ (events : List TreeEvent). Contains (nodes_in events) holding.node) (sym met_wide) holding.among;
+        lies = record { k = holding.lies.k; within = holding.lies.within; at = holding.lies.at; place_is = ⊎_elim (λ is. inl (place_first early late (holding.node.address + holding.lies.k) holding.lies.at is)) (λ is. inr (second_first early late (holding.node.address + holding.lies.k) holding.lies.at is)) holding.lies.place_is; block = holding.lies.block };
       }
 
       module _ (blocks : AreInBlocks early) (size : IsNodeSize t.form.nodesize) where
-        some_there : (p : Pointer) (k : ℕ) → IsIn p → k < t.form.nodesize → is_some (place early (p.address + k)) ≡ true
+        some_there : (p : NodePointer) (k : ℕ) → IsIn p → k < t.form.nodesize → is_some (place early (p.address + k)) ≡ true
         some_there p k inside within =
             let parts = mapped_blocks early t.form.nodesize p.address inside in
             let below : k / 4096 < t.form.nodesize / 4096 = omega (arith, within, size) in
@@ -219,13 +212,14 @@ module _ (image : Image) (early late : List MapRange) where
 
         pub holds_early : (b : ℕ) → HoldsNodeOf image wide t b → HoldsNodeOf image early t b
         holds_early b holding =
-            let among : Contains (nodes_in (met image early t)) holding.node = subst (λ (events : List Event). Contains (nodes_in events) holding.node) met_wide holding.among in
+            let among : Contains (nodes_in (met image early t)) holding.node = subst (λ (events : List TreeEvent). Contains (nodes_in events) holding.node) met_wide holding.among in
             let inside : IsIn holding.node = subst IsIn among.2 (all_met among.0 holding.node among.1) in
             let k : ℕ = holding.lies.k in
+            let some : is_some (place early (holding.node.address + k)) ≡ true = some_there holding.node k inside holding.lies.within in
             record {
               node = holding.node;
               among = among;
-              lies = record { k = k; within = holding.lies.within; at = holding.lies.at; place_is = sym (place_same (holding.node.address + k) (some_there holding.node k inside holding.lies.within)) ∙ holding.lies.place_is; block = holding.lies.block };
+              lies = record { k = k; within = holding.lies.within; at = holding.lies.at; place_is = ⊎_elim (λ is. inl (sym (place_same (holding.node.address + k) some) ∙ is)) (λ is. inr (sym (second_same early late (holding.node.address + k) some) ∙ is)) holding.lies.place_is; block = holding.lies.block };
             }
 
 -- ---- the map of an opened volume

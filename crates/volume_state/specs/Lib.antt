@@ -4,5 +4,5 @@ pub mod Moved
 pub mod Nodes
 pub mod Reserved
 pub mod Saved
-pub mod Untouched
+pub mod GoingBack
 pub mod Using

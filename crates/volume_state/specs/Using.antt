@@ -1,6 +1,8 @@
 -- Which blocks of a disk are in use by what is read of its Btrfs volume.
 use Rattle.std.specs.Prelude.{◌≡◌, ◌⊎◌, ◌<◌, ℕ, ◌+◌, ◌/◌, ◌==◌, if◌then◌else◌, List, [], ◌∷◌, ◌++◌, Option, Some, None, Contains}
 use Rattle.std.specs.Option.{option_and_then}
+use Rattle.btrfs_format.specs.declared.key.TheConstants.{EXTENT_DATA}
+use Rattle.btrfs_format.specs.declared.object.TheConstants.{FS_TREE}
 use Rattle.reiser_bitmap.specs.outside.History.{Image}
 use Rattle.reiser_bitmap.specs.refusals.declared.answer.BtrAnswer.{BtrAnswer}
 use Rattle.reiser_bitmap.specs.refusals.declared.answer.BtrAnswer.TheVariants.{Refused, Fault, Memory}
@@ -10,37 +12,42 @@ use Rattle.reiser_bitmap.specs.vol_block.Volume.{IsReserved}
 use Rattle.btr_reader_contents.specs.Extents.{is_hole}
 use Rattle.btr_node.specs.btr_keys.FileExtent.{ContentValue, Inline, Regular, Prealloc, file_extent_of}
 use Rattle.btr_node.specs.btr_keys.declared.file_extent.DiskRange.{DiskRange}
-use Rattle.btr_reader.specs.Image.{items_at, pointer_in, saved_entry, tree_number}
+use Rattle.btr_reader.specs.Image.{items_at, pointer_in, saved_location, tree_number}
 use Rattle.btr_reader.specs.Opening.{chunk_tree, root_tree, tree_of}
 use Rattle.btr_reader.specs.Parts.{IsBtrfsRefusal, SavedImage, log_tree, own_map, own_super}
 use Rattle.btr_reader.specs.Roots.{root_item}
 use Rattle.btr_reader.specs.Rows.{roots_on}
 use Rattle.btr_super.specs.declared.superblock.Super.{Super}
 use Rattle.btr_reader_walk.specs.Events.{TreeItem, nodes_in}
-use Rattle.btr_reader_walk.specs.Map.{place}
+use Rattle.btr_reader_walk.specs.Map.{place, second_place}
 use Rattle.btr_reader_walk.specs.Walks.{found, met}
 use Rattle.btr_reader_walk.specs.declared.map.MapRange.{MapRange}
-use Rattle.btr_reader_walk.specs.declared.tree.Pointer.{Pointer}
+use Rattle.btr_reader_walk.specs.declared.tree.NodePointer.{NodePointer}
 use Rattle.btr_reader_walk.specs.declared.tree.Tree.{Tree}
 use Rattle.btr_reader.specs.Apart.{boot_map}
 
 -- ---- what lies in a block
 
--- One of so many bytes from an address on lies in block b of the device. A byte whose address is in no chunk lies nowhere.
+-- The address has this place, by either copy of its range.
+abbrev pub HasPlace : List MapRange → ℕ → ℕ → Type 0
+HasPlace ranges address at = (place ranges address ≡ Some at) ⊎ (second_place ranges address ≡ Some at)
+
+-- One of so many bytes from an address on lies in block b of the device, by either copy. A byte whose address is in no chunk lies
+-- nowhere.
 pub record LieIn (ranges : List MapRange) (address count b : ℕ) : Type 0 where
   pub k : ℕ
   pub within : k < count
   pub at : ℕ
-  pub place_is : place ranges (address + k) ≡ Some at
+  pub place_is : HasPlace ranges (address + k) at
   pub block : at / 4096 ≡ b
 
 -- One of these nodes does, each of so many bytes.
-pub record HoldsNode (nodes : List Pointer) (ranges : List MapRange) (nodesize b : ℕ) : Type 0 where
-  pub node : Pointer
+pub record HoldsNode (nodes : List NodePointer) (ranges : List MapRange) (nodesize b : ℕ) : Type 0 where
+  pub node : NodePointer
   pub among : Contains nodes node
   pub lies : LieIn ranges node.address nodesize b
 
--- The bytes that an extent has on the device: written, or only laid out. A hole and an inline extent have none.
+-- Where the disk extent of a file extent lies, in any encoding: written, or only laid out. A hole and an inline extent have none.
 abbrev pub range_unless_hole : DiskRange → Option DiskRange
 range_unless_hole r = if is_hole r then None else Some r
 
@@ -51,15 +58,16 @@ content_range (Prealloc r) = range_unless_hole r
 
 -- the same of an item: one that is no file extent, or is off the grammar, has none
 abbrev pub item_range : TreeItem → Option DiskRange
-item_range i = if i.key.kind == 108 then option_and_then (λ e. content_range e.content) (file_extent_of i.body) else None
+item_range i = if i.key.kind == EXTENT_DATA then option_and_then (λ e. content_range e.content) (file_extent_of i.body) else None
 
--- A file extent of these items does.
+-- A file extent of these items does: written, compressed or only laid out, all of the disk extent that it names, whatever part of it the
+-- file has.
 pub record HoldsExtent (items : List TreeItem) (ranges : List MapRange) (b : ℕ) : Type 0 where
   pub item : TreeItem
   pub among : Contains items item
   pub range : DiskRange
   pub range_is : item_range item ≡ Some range
-  pub lies : LieIn ranges (range.disk_bytenr + range.offset) range.num_bytes b
+  pub lies : LieIn ranges range.disk_bytenr range.disk_num_bytes b
 
 -- a node of the tree does
 abbrev pub HoldsNodeOf : Image → List MapRange → Tree → ℕ → Type 0
@@ -72,7 +80,7 @@ HoldsPartOf disk ranges t b = HoldsNodeOf disk ranges t b ⊎ HoldsExtent (found
 -- ---- the trees that are read
 
 -- the tree of a pointer, if there is one
-abbrev pub tree_if : Super → ℕ → Option Pointer → List Tree
+abbrev pub tree_if : Super → ℕ → Option NodePointer → List Tree
 tree_if s number None = []
 tree_if s number (Some p) = tree_of s number p ∷ []
 
@@ -82,16 +90,16 @@ numbered disk s ranges None = []
 numbered disk s ranges (Some number) = tree_if s number (pointer_in (root_item number (roots_on disk s ranges)))
 
 -- the tree that the file tree with this root names as that of the saved image
-abbrev pub named_by : Image → Super → List MapRange → Option Pointer → List Tree
+abbrev pub named_by : Image → Super → List MapRange → Option NodePointer → List Tree
 named_by disk s ranges None = []
-named_by disk s ranges (Some p) = numbered disk s ranges (option_and_then tree_number (saved_entry (items_at disk s ranges 5 p)))
+named_by disk s ranges (Some p) = numbered disk s ranges (option_and_then tree_number (saved_location (items_at disk s ranges FS_TREE p)))
 
-abbrev pub file_pointer : Image → Super → List MapRange → Option Pointer
-file_pointer disk s ranges = pointer_in (root_item 5 (roots_on disk s ranges))
+abbrev pub file_pointer : Image → Super → List MapRange → Option NodePointer
+file_pointer disk s ranges = pointer_in (root_item FS_TREE (roots_on disk s ranges))
 
 -- The file tree, and the tree of the saved image; those of the two that are there.
 abbrev pub file_trees : Image → Super → List MapRange → List Tree
-file_trees disk s ranges = tree_if s 5 (file_pointer disk s ranges) ++ named_by disk s ranges (file_pointer disk s ranges)
+file_trees disk s ranges = tree_if s FS_TREE (file_pointer disk s ranges) ++ named_by disk s ranges (file_pointer disk s ranges)
 
 -- ---- blocks in use
 
@@ -121,11 +129,11 @@ TellsReserved P blocks (Some b) = IsReserved b blocks × P b
 -- ---- what may be answered
 
 -- A log tree comes first; then what is wrong on the way to the saved image.
-pub data IsUseRefusal (disk : Image) (r : BtrRefusal) : Type 0 where
-  has_log : (address : ℕ) → log_tree disk ≡ Some address → r ≡ LogPending address → IsUseRefusal disk r
-  unreadable : log_tree disk ≡ None → IsBtrfsRefusal disk SavedImage r → IsUseRefusal disk r
+pub data IsWayRefusal (disk : Image) (r : BtrRefusal) : Type 0 where
+  has_log : (address : ℕ) → log_tree disk ≡ Some address → r ≡ LogPending address → IsWayRefusal disk r
+  unreadable : log_tree disk ≡ None → IsBtrfsRefusal disk SavedImage r → IsWayRefusal disk r
 
 abbrev pub RefusesUse : Image → BtrAnswer → Type 0
-RefusesUse disk (Refused r) = IsUseRefusal disk r
+RefusesUse disk (Refused r) = IsWayRefusal disk r
 RefusesUse disk Fault = Unit {0}
 RefusesUse disk Memory = Unit {0}

@@ -15,11 +15,9 @@ use crate::reserved::reserved_in;
 use btr_node::{DiskRange, ExtentContent, FileExtent, Key};
 use btr_reader_contents::is_hole;
 use btr_reader_walk::{MapRange, Notes, Tree, note_items};
+use btrfs_format::key::EXTENT_DATA;
 use reiser_bitmap::{BlockNo, BlockSource, BtrAnswer, Memory};
 use std::alloc::Global;
-
-/// The kind in the key of a file extent.
-const EXTENT_KIND: u8 = 108;
 
 /// The range on the device, unless it is a hole.
 fn unless_hole(range: DiskRange) -> Option<DiskRange>
@@ -39,11 +37,11 @@ fn content_range(content: &ExtentContent<'_>) -> Option<DiskRange>
     }
 }
 
-/// The range that an item of a file tree has on the device: one that is no file extent has none.
+/// The range that an item of a file tree has on the device, compressed or not: one that is no file extent has none.
 fn item_range(key: &Key, body: &[u8]) -> Option<DiskRange>
     ensures { (i : TreeItem) → i.key ≡ key.now → i.body ≡ body.now → result ≡ item_range i }
 {
-    if key.kind != EXTENT_KIND {
+    if key.kind != EXTENT_DATA {
         return None;
     }
     match FileExtent::read(body) {
@@ -81,20 +79,21 @@ impl Notes for ReservedExtent<'_> {
     }
 }
 
-/// A reserved block in which the range of an item lies.
+/// A reserved block in which the disk extent of an item lies, all of it: of a compressed extent the numbers of the file say nothing of the
+/// device.
 fn reserved_extent_of(key: &Key, body: &[u8], ranges: &[MapRange], blocks: u64) -> Option<BlockNo>
     ensures { (i : TreeItem) → i.key ≡ key.now → i.body ≡ body.now → IsMapApart ranges.now → TellsRange ranges.now blocks (item_range i) result }
 {
     let range = item_range(key, body)?;
     reserved_in(
         ranges,
-        range.disk_bytenr as u128 + range.offset as u128,
-        range.num_bytes,
+        range.disk_bytenr as u128,
+        range.disk_num_bytes,
         blocks,
     )
 }
 
-/// A reserved block of a volume of so many blocks in which a file extent of a tree lies. None exactly where there is none.
+/// A reserved block of a volume of so many blocks in which a disk extent that a tree names lies. None exactly where there is none.
 pub fn reserved_extent<S: BlockSource>(
     alloc: Global,
     src: &mut S,

@@ -7,7 +7,7 @@ ghost use Rattle.btr_node.specs.Inner.{children_in};
 ghost use Rattle.btr_reader.specs.Reading.{IsWalkable};
 ghost use Rattle.btr_reader_walk.specs.Map.{node_at};
 ghost use Rattle.btr_reader_walk.specs.Node.{child_pointer};
-ghost use Rattle.btr_reader_walk.specs.declared.tree.Pointer.{Pointer as PointerOf};
+ghost use Rattle.btr_reader_walk.specs.declared.tree.NodePointer.{NodePointer as NodePointerOf};
 ghost use Rattle.btr_reader_walk.specs.Walks.{IsAmong, IsBadOrFailed, LieOn, wrong};
 ghost use Rattle.volume_state.specs.Nodes.{below_faults, below_nodes, own_faults};
 ghost use Rattle.volume_state.specs.Reserved.{IsMapApart};
@@ -16,7 +16,7 @@ ghost use Rattle.volume_state.specs.Using.{HoldsNode, HoldsNodeOf, TellsReserved
 use crate::reserved::reserved_in;
 use btr_node::InnerView;
 use btr_reader::refused;
-use btr_reader_walk::{MapRange, Pointer, Tree, read_node};
+use btr_reader_walk::{MapRange, NodePointer, Tree, read_node};
 use reiser_bitmap::{BlockNo, BlockSource, BtrAnswer, Memory};
 use std::alloc::Global;
 
@@ -46,7 +46,7 @@ fn reserved_below<S: BlockSource>(
     src: &mut S,
     tree: &Tree,
     ranges: &[MapRange],
-    node: Pointer,
+    node: NodePointer,
     blocks: u64,
 ) -> Result<Option<BlockNo>, BtrAnswer>
     requires walkable { IsWalkable tree.now }
@@ -67,7 +67,7 @@ fn reserved_below<S: BlockSource>(
     let children = read_children(alloc, src, tree, ranges, &node)?;
     for i in 0..children.len() {
         // A child stands one level lower.
-        let child = Pointer {
+        let child = NodePointer {
             level: node.level - 1,
             ..children[i]
         };
@@ -84,15 +84,15 @@ fn read_children<S: BlockSource>(
     src: &mut S,
     tree: &Tree,
     ranges: &[MapRange],
-    node: &Pointer,
-) -> Result<Vec<Pointer>, BtrAnswer>
+    node: &NodePointer,
+) -> Result<Vec<NodePointer>, BtrAnswer>
     requires inner { 1 ≤ node.now.level }
     requires walkable { IsWalkable tree.now }
     requires inside { LieOn (S.size src.old) ranges.now }
     ensures kept { S.kept src.old src.new }
     ensures cause { HasCauseOf BtrAnswer.Fault (S.faults src.old) (S.faults src.new) result }
     ensures answers { IfErr result IsBadOrFailed }
-    ensures lower { IfOk result (λ children. (p : PointerOf) → Contains children.items p → p.level + 1 ≡ node.now.level) }
+    ensures lower { IfOk result (λ children. (p : NodePointerOf) → Contains children.items p → p.level + 1 ≡ node.now.level) }
     ensures children { OverTold S.tells (S.blocks src.old) (λ image. IfOk result (λ children.
         children.items ≡ map (child_pointer (node.now.level - 1)) (children_in (node_at image ranges.now tree.now.form.nodesize node.now.address)))) }
     ensures sound { OverTold S.tells (S.blocks src.old) (λ image. MatchResult result (λ _. own_faults image ranges.now tree.now node.now ≡ []) (IsAmong (own_faults image ranges.now tree.now node.now))) }
@@ -109,13 +109,13 @@ fn read_children<S: BlockSource>(
 }
 
 /// The pointers to the children that a view of a node has, whose level is this.
-fn children_of(alloc: Global, view: &InnerView<'_>, level: u8) -> Result<Vec<Pointer>, Memory>
+fn children_of(alloc: Global, view: &InnerView<'_>, level: u8) -> Result<Vec<NodePointer>, Memory>
     ensures { IfOk result (λ children. children.items ≡ map (child_pointer level) view.now) }
 {
     let mut children = Vec::new(alloc);
     for i in 0..view.count() {
         let child = view.child(i);
-        children.push(Pointer {
+        children.push(NodePointer {
             address: child.address,
             level,
             generation: child.generation,

@@ -15,8 +15,10 @@ ghost use Rattle.volume_state.specs.Using.{HoldsPartOf, IsInFiles, IsInUse, Refu
 
 use crate::extents::reserved_extent;
 use crate::nodes::reserved_node;
-use btr_reader::{Btrfs, FILE_TREE, refused};
+use btr_reader::{Btrfs, refused};
 use btr_reader_walk::{MapRange, Tree};
+use btrfs_format::block::SUPER_INFO_OFFSET;
+use btrfs_format::object::FS_TREE;
 use reiser_bitmap::{BlockNo, BlockSource, BtrAnswer, BtrRefusal, BtrRule};
 use std::alloc::Global;
 
@@ -38,7 +40,7 @@ pub fn reserved_used<S: BlockSource>(
     ensures cause { HasCauseOf BtrAnswer.Fault (S.faults src.old) (S.faults src.new) result }
     // Over any source: a log tree first, and then another number of blocks.
     ensures logged { volume.now.sup.log_root ≢ 0 → result ≡ Err (BtrAnswer.Refused (LogPending volume.now.sup.log_root)) }
-    ensures resized { volume.now.sup.log_root ≡ 0 → S.size src.old ≢ volume.now.device → result ≡ Err (BtrAnswer.Refused (BadBtrfs 65536 SuperField)) }
+    ensures resized { volume.now.sup.log_root ≡ 0 → S.size src.old ≢ volume.now.device → result ≡ Err (BtrAnswer.Refused (BadBtrfs SUPER_INFO_OFFSET SuperField)) }
     ensures told { OverTold S.tells (S.blocks src.old) (λ image. IsVolumeOn image volume.now → MatchResult result (TellsReserved (IsInUse image) blocks) (RefusesUse image)) }
 {
     if volume.sup.log_root != 0 {
@@ -47,7 +49,7 @@ pub fn reserved_used<S: BlockSource>(
         }));
     }
     if src.len() != volume.device {
-        return Err(refused(65536, BtrRule::SuperField));
+        return Err(refused(SUPER_INFO_OFFSET, BtrRule::SuperField));
     }
     let ranges = volume.ranges.as_slice();
     if let Some(block) = reserved_node(alloc, src, &volume.chunk_tree(), ranges, blocks)? {
@@ -73,7 +75,7 @@ fn reserved_file<S: BlockSource>(
     ensures told { OverTold S.tells (S.blocks src.old) (λ image. IsVolumeOn image volume.now → IsMapApart volume.now.ranges.items →
         MatchResult result (TellsReserved (IsInFiles image) blocks) (IsAmong (way_refusals image))) }
 {
-    let file = match volume.find_tree(FILE_TREE)? {
+    let file = match volume.find_tree(FS_TREE)? {
         Some(tree) => tree,
         None => return Ok(None),
     };

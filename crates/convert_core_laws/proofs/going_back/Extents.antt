@@ -1,39 +1,10 @@
 -- The file extents of a converted volume are those of its pieces.
-use Rattle.std.proofs.Common.{◌≡◌, ℕ, ◌*◌, eqb, Bool, true, false, is_some, List, [], ◌∷◌, length, filter, Option, Some, None, refl, sym, ap, subst, ◌∙◌, ⊎_elim, arith}
-use Rattle.std.specs.Prelude.{Contains, if◌then◌else◌}
-use Rattle.std.specs.List.{AllByRecursion}
-use Rattle.std.specs.Option.{option_and_then, option_map_or}
-use Rattle.std.proofs.lemmas.Bool.{and_from, eq-eqb, ne_eqb}
-use Rattle.std.proofs.lemmas.List.Elements.{Contains-append_cases}
-use Rattle.reiser_volume.proofs.fs_paths.Lists.{from_filter, from_map, in_filter}
-use Rattle.indexmap.specs.IndexMap.{keys}
-use Rattle.reiser_volume.specs.outside.History.{Image}
-use Rattle.btr_reader.specs.btr_keys.FileExtent.{FileExtentValue, file_extent_bytes, file_extent_of}
-use Rattle.btr_reader.specs.btr_keys.declared.file_extent.DiskRange.{DiskRange}
-use Rattle.btr_reader.specs.btr_node.Leaf.{Item}
+use Rattle.convert_core_laws.proofs.Imports.{◌≡◌, ℕ, ◌*◌, eqb, Bool, true, false, List, [], ◌∷◌, length, filter, Option, Some, None, refl, sym, ap, subst, ◌∙◌, ⊎_elim, arith, Contains, if◌then◌else◌, AllByRecursion, option_and_then, option_map_or, and_from, eq-eqb, ne_eqb, Contains-append_cases, EXTENT_DATA, from_filter, from_map, in_filter, keys, Image, FileExtentValue, file_extent_bytes, file_extent_of, DiskRange, Item, IsMaking, Making, HasPieces, made_from, file_tree_items, image_tree_items, numbered, extents_at, file_block, is_owned_by, piece_bytes, pieces_of, pieces_of_volume, source_block, image_head, image_items, Source, file_extent_items, inline_in, ino_of, size_in, fs_tree_items, length_bytes, extent_item, inline_extent, regular_extent, ascending, ascending_all, contains_cases, contains_head, contains_tail, file_byte, target_bytes, ObjectKey, items_of, IsNamed, volume_items, content_range, Piece}
+use Rattle.std.proofs.Common.{is_some}
 use Rattle.convert_core_laws.proofs.Holding.{StaysInTree, stays}
 use Rattle.convert_core_laws.proofs.Owned.{any_extents}
 use Rattle.convert_core_laws.proofs.ByteReading.{inline_read, is_extent, regular_read}
-use Rattle.convert_core.specs.convert_steps.Making.{IsMaking, Making}
-use Rattle.convert_core.specs.convert_steps.Source.{HasPieces, made_from}
-use Rattle.convert_core.specs.convert_steps.Standing.{file_tree_items, image_tree_items}
-use Rattle.convert_core.proofs.extent_pieces.Named.{numbered}
-use Rattle.convert_core.specs.file_items.Extents.{extents_at, file_block, is_owned_by, piece_bytes, pieces_of, pieces_of_volume, source_block}
-use Rattle.convert_core.specs.file_items.Small.{image_head, image_items}
-use Rattle.convert_core.specs.file_items.Tree.{Source, extent_items, inline_in, number_of, size_in, tree_items}
-use Rattle.reiser_volume.proofs.fs_rows.Functions.{length_bytes}
-use Rattle.convert_core.specs.btr_item_list.Extents.{extent_item, inline_extent, regular_extent}
-use Rattle.convert_core.specs.btr_item_list.Groups.{ascending}
-use Rattle.convert_core.proofs.btr_item_list.Sorting.{ascending_all}
-use Rattle.reiser_volume.proofs.reiser_bitmap.Ranges.{contains_cases, contains_head, contains_tail}
-use Rattle.reiser_volume.specs.reiser_volume_files.Bytes.{file_byte, target_bytes}
-use Rattle.reiser_volume.specs.reiser_volume_objects.declared.key.ObjectKey.{ObjectKey}
-use Rattle.reiser_volume.specs.reiser_volume_objects.Keys.{items_of}
-use Rattle.reiser_volume.specs.reiser_volume_objects.Names.{IsNamed}
-use Rattle.reiser_volume.specs.Volume.{volume_items}
-use Rattle.volume_state.specs.Using.{content_range}
 use Rattle.convert_core_laws.proofs.soundness.Uses.{piece_small}
-use Rattle.convert_core.specs.unit_plan.declared.piece.Piece.{Piece}
 use Rattle.convert_core_laws.proofs.going_back.Options.{no_some, some_is}
 
 -- ---- lists
@@ -103,8 +74,8 @@ module _ (image : Image) (m : Making) (made : IsMaking image m) where
   abbrev s : Source
   s = made_from m.volume image m.options m.pieces
 
-  object_range : (key : ObjectKey) (i : Item) (r : DiskRange) → Contains s.keys key → Contains (extent_items s key) i → body_range i.1 ≡ Some r → IsOfPiece m r
-  unfolding extent_items
+  object_range : (key : ObjectKey) (i : Item) (r : DiskRange) → Contains s.keys key → Contains (file_extent_items s key) i → body_range i.1 ≡ Some r → IsOfPiece m r
+  unfolding file_extent_items
   object_range key i r among h told = by (inline_in s key) refl h
     where
       is_named : IsNamed (volume_items image) key
@@ -114,36 +85,36 @@ module _ (image : Image) (m : Making) (made : IsMaking image m) where
       bytes = target_bytes (items_of key s.items) (size_in s key)
 
       by : (b : Bool) → inline_in s key ≡ b
-          → Contains (if b then extent_item (number_of s key) 0 (inline_extent (target_bytes (items_of key s.items) (size_in s key))) ∷ [] else extents_at (number_of s key) file_block (pieces_of s.pieces (number_of s key))) i → IsOfPiece m r
+          → Contains (if b then extent_item (ino_of s key) 0 (inline_extent (target_bytes (items_of key s.items) (size_in s key))) ∷ [] else extents_at (ino_of s key) file_block (pieces_of s.pieces (ino_of s key))) i → IsOfPiece m r
       by true is there =
           let st : StaysInTree image of.accepted key is_named = stays image of.accepted key is_named m.options.inline is in
           let short = st.short in
           let long : length bytes ≡ size_in s key = ap length st.bytes ∙ length_bytes (size_in s key) (file_byte image (items_of key s.items)) 0 in
-          let same : extent_item (number_of s key) 0 (inline_extent bytes) ≡ i =
-          ⊎_elim (λ (e : extent_item (number_of s key) 0 (inline_extent bytes) ≡ i). e) (λ (none : Contains [] i). absurd (empty i none)) (contains_cases i (extent_item (number_of s key) 0 (inline_extent bytes)) [] there) in
+          let same : extent_item (ino_of s key) 0 (inline_extent bytes) ≡ i =
+          ⊎_elim (λ (e : extent_item (ino_of s key) 0 (inline_extent bytes) ≡ i). e) (λ (none : Contains [] i). absurd (empty i none)) (contains_cases i (extent_item (ino_of s key) 0 (inline_extent bytes)) [] there) in
           let read : body_range (file_extent_bytes (inline_extent bytes)) ≡ None =
           ap (λ (o : Option FileExtentValue). option_and_then (λ (e : FileExtentValue). content_range e.content) o) (inline_read bytes (omega (arith, long, short))) in
           absurd (no_some r (sym read ∙ (ap (λ (j : Item). body_range j.1) same ∙ told)))
       by false is there =
-          let at = from_map (λ (p : Piece). extent_item (number_of s key) (file_block p) (regular_extent p.place p.count)) (pieces_of m.pieces (number_of s key)) i there in
+          let at = from_map (λ (p : Piece). extent_item (ino_of s key) (file_block p) (regular_extent p.place p.count)) (pieces_of m.pieces (ino_of s key)) i there in
           let p : Piece = at.0 in
-          let own : Contains m.pieces p = (from_filter (is_owned_by (number_of s key)) m.pieces p (from_ascending file_block (filter (is_owned_by (number_of s key)) m.pieces) p at.1)).0 in
-          of_piece p i (number_of s key) (file_block p) r own at.2 told
+          let own : Contains m.pieces p = (from_filter (is_owned_by (ino_of s key)) m.pieces p (from_ascending file_block (filter (is_owned_by (ino_of s key)) m.pieces) p at.1)).0 in
+          of_piece p i (ino_of s key) (file_block p) r own at.2 told
 
-  pub file_range : (i : Item) (r : DiskRange) → Contains (file_tree_items image m) i → eqb i.0.kind 108 ≡ true → body_range i.1 ≡ Some r → IsOfPiece m r
+  pub file_range : (i : Item) (r : DiskRange) → Contains (file_tree_items image m) i → eqb i.0.kind EXTENT_DATA ≡ true → body_range i.1 ≡ Some r → IsOfPiece m r
   file_range i r h is told =
       let at = numbered image (keys m.volume.named) (record { accepted = of.accepted; are_keys = of.opened.are_keys; ascend = of.opened.ascends }) in
       let ino : ℕ = i.0.objectid in
-      let there : Contains (filter (is_extent ino) (tree_items s)) i = in_filter (is_extent ino) (tree_items s) i h (and_from (eqb ino ino) (eqb i.0.kind 108) (eq-eqb ino ino refl) is) in
+      let there : Contains (filter (is_extent ino) (fs_tree_items s)) i = in_filter (is_extent ino) (fs_tree_items s) i h (and_from (eqb ino ino) (eqb i.0.kind EXTENT_DATA) (eq-eqb ino ino refl) is) in
       ⊎_elim
       (λ of_key. object_range of_key.0 i r of_key.1 (subst (λ (l : List Item). Contains l i) of_key.3 there) told)
-      (λ (none : filter (is_extent ino) (tree_items s) ≡ []). absurd (empty i (subst (λ (l : List Item). Contains l i) none there)))
+      (λ (none : filter (is_extent ino) (fs_tree_items s) ≡ []). absurd (empty i (subst (λ (l : List Item). Contains l i) none there)))
       (any_extents s at.0 at.1 ino)
 
   -- ---- the tree of the saved image
 
   abbrev is_file_extent : Item → Bool
-  is_file_extent i = eqb i.0.kind 108
+  is_file_extent i = eqb i.0.kind EXTENT_DATA
 
   head_kinds : (blocks nbytes now : ℕ) (datasum : Bool) → filter is_file_extent (image_head blocks nbytes datasum now) ≡ []
   unfolding image_head
@@ -153,7 +124,7 @@ module _ (image : Image) (m : Making) (made : IsMaking image m) where
   from_source None t = absurd (cc t)
   from_source (Some b) t = refl
 
-  pub saved_extent : (i : Item) → Contains (image_tree_items m) i → eqb i.0.kind 108 ≡ true → IsSavedExtent m i
+  pub saved_extent : (i : Item) → Contains (image_tree_items m) i → eqb i.0.kind EXTENT_DATA ≡ true → IsSavedExtent m i
   unfolding image_items
   saved_extent i h is =
       let head : List Item = image_head m.volume.sup.blocks (piece_bytes (pieces_of_volume m.pieces)) m.options.datasum m.now in
@@ -167,7 +138,7 @@ module _ (image : Image) (m : Making) (made : IsMaking image m) where
       record { piece = p; among = some.0; from = from_source p.from some.1; is = sym at.2 })
       (Contains-append_cases head (extents_at 257 source_block (pieces_of_volume m.pieces)) i h)
 
-  pub saved_range : (i : Item) (r : DiskRange) → Contains (image_tree_items m) i → eqb i.0.kind 108 ≡ true → body_range i.1 ≡ Some r → IsOfPiece m r
+  pub saved_range : (i : Item) (r : DiskRange) → Contains (image_tree_items m) i → eqb i.0.kind EXTENT_DATA ≡ true → body_range i.1 ≡ Some r → IsOfPiece m r
   saved_range i r h is told =
       let e : IsSavedExtent m i = saved_extent i h is in
       of_piece e.piece i 257 (source_block e.piece) r e.among (sym e.is) told

@@ -1,42 +1,12 @@
 -- A converted volume can be turned back.
-use Rattle.std.proofs.Common.{◌≡◌, ℕ, ◌*◌, ◌/◌, Bool, true, false, List, length, Option, Some, None, sym, ap, subst, ◌∙◌, arith}
-use Rattle.reiser_volume.specs.outside.History.{Image}
-use Rattle.reiser_volume.specs.vol_block.Volume.{IsReserved, is_reserved}
-use Rattle.reiser_volume.specs.vol_block.declared.ids.Ids.{Ids}
-use Rattle.btr_reader.specs.Image.{ImageFile, image_in, saved_image}
-use Rattle.btr_reader.specs.Parts.{own_map, own_super}
-use Rattle.btr_check_rules.specs.Places.{AreUnreserved}
-use Rattle.btr_reader.specs.btr_super.declared.superblock.Super.{Super}
-use Rattle.btr_reader.specs.btr_reader_walk.Walks.{found}
-use Rattle.convert_core.specs.convert_steps.Making.{IsMaking, Making}
-use Rattle.convert_core.specs.convert_steps.declared.trees.VolumeTrees.{VolumeTrees}
-use Rattle.convert_core.proofs.Wholeness.{blocks_inside}
-use Rattle.convert_core_laws.specs.reading.Identifiers.{NewIdsFit}
-use Rattle.convert_core_laws.specs.reading.Laws.{ChunksMap, ConvertedIsReadable, IsReadableWithTrees}
-use Rattle.convert_core_laws.specs.reading.Opened.{IsNewVolume}
-use Rattle.convert_core.proofs.extent_pieces.Covering.{used_inside}
-use Rattle.convert_trees_laws.specs.Entries.{EntriesAreThere}
-use Rattle.btr_reader.specs.Apart.{IsReservedFree as IsSpareFree}
+use Rattle.convert_core_laws.proofs.Imports.{◌≡◌, ℕ, ◌*◌, ◌/◌, Bool, true, false, List, length, Option, Some, None, sym, ap, subst, ◌∙◌, arith, Image, IsReserved, is_reserved, Ids, ImageFile, image_in, saved_image, own_map, own_super, AreUnreserved, Super, found, IsMaking, Making, VolumeTrees, blocks_inside, NewIdsFit, ChunksMap, ConvertedIsReadable, IsReadableWithTrees, IsNewVolume, used_inside, EntriesAreThere, IsSpareFree, ConvertedVolumesOpen, OpensAsBefore, has, used_length, IsSameVolume, UsedBlocksDecide, superblock, used_of, NamesKeepRules, image_blocks, saved_place, IsInUse, IsReservedFree, ConvertedReservedAreSound, recount_for, TreeNode, blocks_are, Options}
 use Rattle.reiser_volume.specs.reiser_volume_contents.Laws.{SameUsed}
-use Rattle.convert_core_laws.specs.opening.Opens.{ConvertedVolumesOpen, OpensAsBefore}
-use Rattle.reiser_volume.specs.reiser_bitmap.Bits.{has}
 use Rattle.reiser_volume.specs.reiser_super.declared.superblock.Super.{Super as OldSuper}
-use Rattle.reiser_volume.proofs.Holding.{used_length}
-use Rattle.reiser_volume.specs.Laws.{IsSameVolume, UsedBlocksDecide}
-use Rattle.reiser_volume.specs.Volume.{superblock, used_of}
-use Rattle.convert_trees_laws.specs.Names.{NamesKeepRules}
 use Rattle.volume_state.specs.Moved.{AreInPlace}
-use Rattle.volume_state.specs.Saved.{image_blocks, saved_place}
-use Rattle.volume_state.specs.Untouched.{IsUntouched, old_used}
-use Rattle.volume_state.specs.Using.{IsInUse, IsReservedFree}
-use Rattle.convert_core_laws.specs.soundness.Laws.{ConvertedReservedAreSound}
-use Rattle.convert_core_laws.specs.soundness.Recounted.{recount_for}
-use Rattle.convert_core_laws.proofs.soundness.Recounting.{total_is, volume_for}
-use Rattle.convert_core.specs.space_items.declared.node.TreeNode.{TreeNode}
-use Rattle.convert_trees_laws.proofs.Booting.{blocks_are}
-use Rattle.convert_core.specs.convert_options.declared.options.Options.{Options}
+use Rattle.volume_state.specs.GoingBack.{CanGoBack, old_used}
 use Rattle.convert_core_laws.specs.going_back.Back.{ConvertedVolumesGoBack, GoesBack}
 use Rattle.convert_core_laws.specs.going_back.Lying.{ConvertedVolumesLieApart, SavedImagesAreWhole}
+use Rattle.convert_core_laws.proofs.soundness.Recounting.{total_is, volume_for}
 use Rattle.convert_core_laws.proofs.going_back.Images.{block_is, length_is, place_is}
 use Rattle.convert_core_laws.proofs.going_back.Options.{no_some}
 use Rattle.convert_core_laws.proofs.going_back.Places.{image_in_place, image_unreserved}
@@ -124,9 +94,9 @@ module _ (o : Options) (ids : Ids) (now : ℕ) (image other : Image) (m : Making
           let count : (superblock (image_blocks other)).blocks ≡ length (used_of image) = ap (λ (t : OldSuper). t.blocks) same_volume.fields ∙ sym volume_is in
           used_free b in_use (subst (λ (n : ℕ). IsReserved b n) count at)
 
-      untouched : IsUntouched other
-      untouched = record {
-        whole = record { rows = opens.has_rows; way = opens.saved.readable };
+      can : CanGoBack other
+      can = record {
+        way = record { log = opens.has_rows.log; readable = opens.saved.readable };
         there = λ none. no_some file (sym none ∙ saved);
         accepted = same_volume.accepted;
         in_place = in_place;
@@ -134,7 +104,7 @@ module _ (o : Options) (ids : Ids) (now : ℕ) (image other : Image) (m : Making
       }
 
       goes_back : GoesBack image other
-      goes_back = record { untouched = untouched; used = same_used; blocks = same_blocks; volume = same_volume }
+      goes_back = record { can = can; used = same_used; blocks = same_blocks; volume = same_volume }
 
 pub converted_volumes_go_back : NewIdsFit → ChunksMap → ConvertedIsReadable → EntriesAreThere → NamesKeepRules → ConvertedReservedAreSound → ConvertedVolumesOpen → UsedBlocksDecide → ConvertedVolumesGoBack
 converted_volumes_go_back fit maps readable entries names reserved opens decide = λ o ids now image other new size low are has bytes.

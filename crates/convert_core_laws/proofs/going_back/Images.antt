@@ -1,10 +1,5 @@
 -- The blocks of the saved image, each by itself.
-use Rattle.std.proofs.Common.{◌≡◌, ℕ, ◌<◌, min, length, [], Option, Some, ap, ◌∙◌, arith}
-use Rattle.std.proofs.lemmas.List.FromFn.{get_or-map-range_with_len, length-map-range_with_len}
-use Rattle.reiser_volume.specs.outside.History.{Image, block_at}
-use Rattle.btr_reader.specs.Image.{ImageFile, image_place}
-use Rattle.btr_reader.specs.Parts.{own_map}
-use Rattle.volume_state.specs.Saved.{block_or_hole, file_blocks, image_blocks, place_by_file, saved_file, saved_place}
+use Rattle.convert_core_laws.proofs.Imports.{◌≡◌, ℕ, ◌<◌, min, length, [], Option, Some, ap, ◌∙◌, arith, get_or-map-range_with_len, length-map-range_with_len, Image, block_at, ImageFile, image_place, own_map, block_or_hole, file_blocks, image_blocks, place_by_file, saved_file, saved_place}
 
 module _ (disk : Image) (f : ImageFile) (there : saved_file disk ≡ Some f) where
   -- where the file is found, these are its places

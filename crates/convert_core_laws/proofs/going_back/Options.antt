@@ -1,6 +1,5 @@
 -- Small facts on options.
-use Rattle.std.proofs.Common.{◌≡◌, Bool, true, false, Some, None, Option, refl}
-use Rattle.std.specs.Prelude.{if◌then◌else◌}
+use Rattle.convert_core_laws.proofs.Imports.{◌≡◌, Bool, true, false, Some, None, Option, refl, if◌then◌else◌}
 
 pub some_is : {X : Type 0} (x y : X) → (Some x ≡ Some y) → x ≡ y
 some_is x y h = cc h

@@ -1,32 +1,6 @@
 -- Where the blocks of the saved image lie.
-use Rattle.std.proofs.Common.{◌≡◌, ◌≤◌, ◌<◌, ℕ, ◌+◌, ◌-◌, ◌*◌, ◌/◌, eqb, nat_lt, Bool, true, false, List, [], ◌∷◌, length, map, Option, Some, None, refl, sym, ap, subst, ◌∙◌, arith}
-use Rattle.std.specs.Prelude.{Contains, if◌then◌else◌}
-use Rattle.std.specs.Option.{option_and_then, option_map}
-use Rattle.std.proofs.lemmas.Bool.{and_parts, leb-true, ltb-true}
-use Rattle.reiser_volume.proofs.fs_paths.Lists.{from_filter, in_map}
-use Rattle.reiser_volume.specs.outside.History.{Image}
-use Rattle.reiser_volume.specs.vol_block.Volume.{IsReserved, is_reserved}
-use Rattle.btr_reader.specs.btr_reader_contents.Extents.{covers, extents_of, is_extent_of}
-use Rattle.btr_reader.specs.btr_keys.FileExtent.{FileExtentValue, Regular, file_extent_of}
-use Rattle.btr_reader.specs.btr_keys.declared.inode.Inode.{Inode}
-use Rattle.btr_reader.specs.btr_node.Leaf.{Item}
-use Rattle.btr_reader.specs.btr_reader_names.Inodes.{inode_item}
-use Rattle.btr_reader.specs.btr_keys.Inode.{inode_of}
-use Rattle.btr_reader.specs.Image.{ImageFile, block_from, content_block, file_block, file_if_image, image_at, image_entry, image_in, image_place, inode_number, is_image}
-use Rattle.btr_reader.specs.btr_reader_walk.Events.{TreeItem}
-use Rattle.btr_reader.specs.btr_reader_walk.Map.{place}
-use Rattle.btr_reader.specs.btr_reader_walk.Tree.{bare_item}
-use Rattle.btr_reader.specs.btr_reader_walk.declared.map.MapRange.{MapRange}
-use Rattle.convert_core.specs.convert_steps.Making.{IsMaking, Making}
-use Rattle.convert_core.specs.convert_steps.Standing.{image_tree_items}
-use Rattle.convert_core.proofs.Reserved.{piece_apart}
-use Rattle.convert_core_laws.specs.reading.Opened.{GivesItsOwn}
-use Rattle.convert_core.specs.extent_pieces.Laws.{HoldsBlock}
-use Rattle.convert_core.specs.file_items.Extents.{source_block}
-use Rattle.convert_core.specs.btr_item_list.Extents.{regular_extent}
-use Rattle.reiser_volume.proofs.reiser_bitmap.Ranges.{contains_head, contains_tail}
-use Rattle.reiser_volume.specs.Volume.{used_of}
-use Rattle.convert_core.specs.unit_plan.declared.piece.Piece.{Piece}
+use Rattle.convert_core_laws.proofs.Imports.{◌≡◌, ◌≤◌, ◌<◌, ℕ, ◌+◌, ◌-◌, ◌*◌, ◌/◌, eqb, nat_lt, Bool, true, false, List, [], ◌∷◌, length, map, Option, Some, None, refl, sym, ap, subst, ◌∙◌, arith, Contains, if◌then◌else◌, option_and_then, option_map, and_parts, leb-true, ltb-true, EXTENT_DATA, from_filter, in_map, Image, IsReserved, is_reserved, covers, extents_of, is_extent_of, FileExtentValue, Regular, file_extent_of, Inode, Item, find_inode_item, inode_of, ImageFile, block_by_extent, content_block, file_if_image, image_at, image_entry, image_in, image_place, inode_number, is_image, TreeItem, place, bare_item, MapRange, IsMaking, Making, image_tree_items, piece_apart, GivesItsOwn, HoldsBlock, source_block, regular_extent, contains_head, contains_tail, used_of, Piece}
+use Rattle.btr_reader.specs.Image.{file_block}
 use Rattle.convert_core_laws.proofs.going_back.Extents.{IsSavedExtent, extent_read, no_hole, range_by, saved_extent}
 use Rattle.convert_core_laws.proofs.going_back.Options.{no_some, some_is, when_true}
 use Rattle.convert_core_laws.proofs.going_back.Staying.{stays}
@@ -46,9 +20,9 @@ at_inode items ino (Some i) f is = extents_are (extents_of items ino) (inode_of 
 pub of_inode : (items : List TreeItem) (f : ImageFile) → image_in items ≡ Some f → (ino : ℕ) × (f.extents ≡ extents_of items ino)
 of_inode items f is = by (option_and_then inode_number (image_entry items)) is
   where
-    by : (o : Option ℕ) → option_and_then (λ ino. image_at items ino (inode_item items ino)) o ≡ Some f → (ino : ℕ) × (f.extents ≡ extents_of items ino)
+    by : (o : Option ℕ) → option_and_then (λ ino. image_at items ino (find_inode_item items ino)) o ≡ Some f → (ino : ℕ) × (f.extents ≡ extents_of items ino)
     by None is = absurd (no_some f is)
-    by (Some ino) is = (ino, at_inode items ino (inode_item items ino) f is)
+    by (Some ino) is = (ino, at_inode items ino (find_inode_item items ino) f is)
 
 -- ---- blocks of a list of extents
 
@@ -86,8 +60,8 @@ module _ (image : Image) (m : Making) (made : IsMaking image m) (ranges : List M
       let p : Piece = e.piece in
       let read : file_extent_of i.body ≡ Some (regular_extent p.place p.count) = ap (λ (j : Item). file_extent_of j.1) e.is ∙ extent_read image m made p e.among in
       let offset : i.key.offset ≡ 4096 * source_block p = ap (λ (j : Item). j.0.offset) e.is in
-      let step : block_from ranges i (file_extent_of i.body) b (file_block ranges extents b) ≡ from_here p b (4096 * source_block p) (file_block ranges extents b) =
-      ap (λ (o : Option FileExtentValue). block_from ranges i o b (file_block ranges extents b)) read ∙ ap (λ (n : ℕ). from_here p b n (file_block ranges extents b)) offset in
+      let step : block_by_extent ranges i (file_extent_of i.body) b (file_block ranges extents b) ≡ from_here p b (4096 * source_block p) (file_block ranges extents b) =
+      ap (λ (o : Option FileExtentValue). block_by_extent ranges i o b (file_block ranges extents b)) read ∙ ap (λ (n : ℕ). from_here p b n (file_block ranges extents b)) offset in
       by p e.among e.from (placed_by extents b at (λ j k. each j (contains_tail j i extents k))) (covers (4096 * source_block p) (Regular (range_by p)) (4096 * b)) refl (sym step ∙ is)
     where
       by : (p : Piece) → Contains m.pieces p → p.from ≡ Some (source_block p) → (file_block ranges extents b ≡ Some at → LiesAt m b at) → (t : Bool) → covers (4096 * source_block p) (Regular (range_by p)) (4096 * b) ≡ t
@@ -108,7 +82,7 @@ module _ (image : Image) (m : Making) (made : IsMaking image m) (ranges : List M
     each_extent i h =
         let at = of_inode items f found in
         let there = from_filter (is_extent_of at.0) items i (subst (λ (l : List TreeItem). Contains l i) at.1 h) in
-        let kind = (and_parts (eqb i.key.objectid at.0) (eqb i.key.kind 108) there.1).1 in
+        let kind = (and_parts (eqb i.key.objectid at.0) (eqb i.key.kind EXTENT_DATA) there.1).1 in
         saved_extent image m made (bare_item i) (subst (λ (l : List Item). Contains l (bare_item i)) are (in_map bare_item items i there.0)) kind
 
     -- a place of the image is one that a piece has

@@ -1,28 +1,7 @@
 -- Where no block in use is reserved, no part of a volume lies in a reserved block but for the superblock.
-use Rattle.std.proofs.Common.{◌≡◌, ◌<◌, ℕ, ◌+◌, ◌*◌, ◌/◌, eqb, inl, inr, ◌&&◌, not, Bool, true, false, List, ◌∷◌, ◌++◌, length, get_or, Option, Some, None, refl, sym, ap, subst, ◌∙◌, arith}
-use Rattle.std.specs.Prelude.{Contains, if◌then◌else◌}
-use Rattle.std.specs.Option.{option_and_then}
-use Rattle.std.proofs.lemmas.Bool.{and_parts}
-use Rattle.std.proofs.lemmas.List.{get_or_default}
-use Rattle.reiser_volume.proofs.fs_paths.Lists.{from_filter}
-use Rattle.reiser_volume.specs.outside.History.{Image}
-use Rattle.reiser_volume.specs.vol_block.Volume.{IsReserved, is_reserved}
-use Rattle.reiser_volume.proofs.vol_block.Reserved.{decides_reserved}
-use Rattle.btr_reader.specs.btr_reader_contents.Extents.{is_extent_of}
-use Rattle.btr_reader.specs.btr_keys.FileExtent.{ContentValue, FileExtentValue, Inline, Prealloc, Regular, file_extent_of}
-use Rattle.btr_reader.specs.Image.{ImageFile, image_place, saved_image}
-use Rattle.btr_reader.specs.Opening.{chunk_tree, root_tree, tree_of}
-use Rattle.btr_reader.specs.Parts.{own_map, own_super}
-use Rattle.btr_reader.specs.btr_super.declared.superblock.Super.{Super}
-use Rattle.btr_reader.specs.btr_reader_walk.Events.{TreeItem, nodes_in}
-use Rattle.btr_reader.specs.btr_reader_walk.Map.{place}
-use Rattle.btr_reader.specs.btr_reader_walk.Walks.{found, met}
-use Rattle.btr_reader.specs.btr_reader_walk.declared.map.MapRange.{MapRange}
-use Rattle.btr_reader.specs.btr_reader_walk.declared.tree.Pointer.{Pointer}
-use Rattle.btr_reader.specs.btr_reader_walk.declared.tree.Tree.{Tree}
-use Rattle.btr_reader.specs.Apart.{AreExtentsApart, AreNodesApart, IsApart, IsContentApart, IsVolumeApart, boot_map, is_spare, is_spare_in, root_of, saved_tree}
+use Rattle.convert_core_laws.proofs.Imports.{◌≡◌, ◌<◌, ℕ, ◌+◌, ◌*◌, ◌/◌, eqb, inl, inr, ◌&&◌, not, Bool, true, false, List, ◌∷◌, ◌++◌, length, get_or, Option, Some, None, refl, sym, ap, subst, ◌∙◌, arith, Contains, if◌then◌else◌, option_and_then, and_parts, get_or_default, FS_TREE, from_filter, Image, IsReserved, is_reserved, decides_reserved, is_extent_of, ContentValue, FileExtentValue, Inline, Prealloc, Regular, file_extent_of, ImageFile, image_place, saved_image, chunk_tree, root_tree, tree_of, own_map, own_super, Super, TreeItem, nodes_in, place, found, met, MapRange, NodePointer, Tree, AreExtentsApart, AreNodesApart, IsApart, IsContentApart, IsVolumeApart, boot_map, is_spare, is_spare_in, root_of, saved_tree, HoldsExtent, HoldsNodeOf, HoldsPartOf, IsInUse, LieIn, chunk_node, content_range, file_part, file_trees, item_range, named_by, root_node, tree_if}
+use Rattle.volume_state.specs.Using.{numbered}
 use Rattle.volume_state.proofs.Apart.{extents_apart, file_tree_among, nodes_apart, saved_tree_among}
-use Rattle.volume_state.specs.Using.{HoldsExtent, HoldsNodeOf, HoldsPartOf, IsInUse, LieIn, chunk_node, content_range, file_part, file_trees, item_range, named_by, numbered, root_node, tree_if}
 
 module _ (disk : Image) (blocks : ℕ) (total : (own_super disk).total_bytes / 4096 ≡ blocks) (free : (b : ℕ) → IsInUse disk b → ¬ IsReserved b blocks)
     (image_free : (f : ImageFile) (b at : ℕ) → saved_image disk (own_super disk) (own_map disk) ≡ Some f → image_place (own_map disk) f b ≡ Some at → ¬ IsReserved at blocks) where
@@ -62,8 +41,8 @@ module _ (disk : Image) (blocks : ℕ) (total : (own_super disk).total_bytes / 4
     superblock = refl;
     chunks = nodes_apart (is_spare_in disk) (boot_map s) disk (chunk_tree s) (λ b holds. in_use_apart b (chunk_node holds));
     roots = nodes_apart (is_spare_in disk) ranges disk (root_tree s) (λ b holds. in_use_apart b (root_node holds));
-    files = λ p root. file_nodes_apart (tree_of s 5 p) (file_tree_among disk p root);
-    extents = λ p root. file_extents_apart (tree_of s 5 p) (file_tree_among disk p root);
+    files = λ p root. file_nodes_apart (tree_of s FS_TREE p) (file_tree_among disk p root);
+    extents = λ p root. file_extents_apart (tree_of s FS_TREE p) (file_tree_among disk p root);
     saved = λ p number q root saved at. file_nodes_apart (tree_of s number q) (saved_tree_among disk p number q root saved at);
     blocks = λ f b at is placed. unreserved at (image_free f b at is placed);
   }

@@ -1,26 +1,5 @@
 -- A piece that holds a block which is not reserved lies where it lay.
-use Rattle.std.proofs.Common.{◌≡◌, ℕ, Bool, true, false, List, [], ◌∷◌, ◌++◌, length, map, take, drop, Some, sym, ap, subst, ◌∙◌, ⊎_elim, arith}
-use Rattle.std.specs.Prelude.{Contains}
-use Rattle.std.proofs.lemmas.Bool.{both_ways}
-use Rattle.std.proofs.lemmas.List.Elements.{Contains-append_cases}
-use Rattle.std.proofs.lemmas.List.Sorted.{Contains-permutation, IsPermutation-sym}
-use Rattle.std.proofs.Math.Seq.{drop-append_seam, take-append_seam}
-use Rattle.reiser_volume.specs.outside.History.{Image}
-use Rattle.reiser_volume.specs.vol_block.Volume.{is_reserved}
-use Rattle.convert_core.specs.convert_steps.Making.{IsMaking, Making}
-use Rattle.convert_core.specs.convert_steps.Source.{HasPieces}
-use Rattle.convert_core.specs.extent_pieces.Files.{owner, tails}
-use Rattle.convert_core.specs.extent_pieces.Found.{files_of}
-use Rattle.convert_core.specs.extent_pieces.Laws.{HoldsBlock, IsKeptPiece}
-use Rattle.convert_core.specs.extent_pieces.Pieces.{Owners, copied_pieces, kept_pieces, tail_piece}
-use Rattle.convert_core.specs.extent_pieces.Placed.{at_place, at_places, blocks_of_units}
-use Rattle.convert_core.proofs.extent_pieces.Covering.{IsCopied, holds_copied, is_copied_piece}
-use Rattle.convert_core.proofs.extent_pieces.Lists.{all_at}
-use Rattle.convert_core.proofs.extent_pieces.Maximal.{kept_are_maximal}
-use Rattle.reiser_volume.proofs.fs_paths.Lists.{from_map}
-use Rattle.reiser_volume.proofs.reiser_bitmap.Ranges.{contains_cases, contains_head, contains_tail}
-use Rattle.reiser_volume.specs.Volume.{used_of}
-use Rattle.convert_core.specs.unit_plan.declared.piece.Piece.{Piece}
+use Rattle.convert_core_laws.proofs.Imports.{◌≡◌, ℕ, Bool, true, false, List, [], ◌∷◌, ◌++◌, length, map, take, drop, Some, sym, ap, subst, ◌∙◌, ⊎_elim, arith, Contains, both_ways, Contains-append_cases, Contains-permutation, IsPermutation-sym, drop-append_seam, take-append_seam, Image, is_reserved, IsMaking, Making, HasPieces, owner, tails, files_of, HoldsBlock, IsKeptPiece, Owners, copied_pieces, kept_pieces, tail_piece, at_place, at_places, blocks_of_units, IsCopied, holds_copied, is_copied_piece, all_at, kept_are_maximal, from_map, contains_cases, contains_head, contains_tail, used_of, Piece}
 use Rattle.convert_core_laws.proofs.going_back.Options.{no_some}
 
 -- a piece that got a place is one that had none

@@ -1,51 +1,9 @@
 -- A converted volume opens as it was before.
-use Rattle.std.proofs.Common.{◌≡◌, inr, ◌<◌, ℕ, ◌^◌, nat_le, nat_lt, Bool, true, false, List, [], ◌∷◌, length, codes, Ok, is_some, refl, sym, ap, subst, ◌∙◌, ⊎_elim, arith}
-use Rattle.std.specs.Prelude.{Contains, if◌then◌else◌}
-use Rattle.std.proofs.lemmas.Bool.{and_parts}
-use Rattle.std.proofs.lemmas.Bool.Decides.{nat_tests}
-use Rattle.reiser_volume.specs.outside.Format.{format_in}
-use Rattle.reiser_volume.specs.outside.History.{Image, block_at}
-use Rattle.reiser_volume.specs.refusals.declared.refusal.BtrRefusal.{BtrRefusal}
-use Rattle.reiser_volume.specs.refusals.declared.refusal.BtrRefusal.TheVariants.{BadBtrfs, Unsupported}
-use Rattle.reiser_volume.specs.refusals.declared.rule.BtrRule.TheVariants.{SuperCsum}
-use Rattle.reiser_volume.specs.refusals.declared.rule.Feature.TheVariants.{ChecksumType}
-use Rattle.reiser_volume.specs.vol_block.Format.{format, has_bytes_at, has_reiser_magic}
-use Rattle.reiser_volume.specs.vol_block.declared.format.Format.TheVariants.{Btrfs, Neither, Reiser}
-use Rattle.reiser_volume.specs.vol_block.declared.ids.Ids.{Ids}
-use Rattle.btr_reader.specs.btr_reader_names.Roots.{has_root}
-use Rattle.btr_reader.specs.btr_reader_names.Rules.{KeepsNames}
-use Rattle.btr_reader.specs.Laws.{BtrfsRowsAreOne}
-use Rattle.btr_reader.specs.Opening.{opening_refusals, super_on, tree_of}
-use Rattle.btr_reader.specs.Parts.{AreRowsOfBtrfs, IsReadable, Tree, own_map, own_super}
-use Rattle.btr_reader.specs.Rows.{roots_on}
-use Rattle.btr_reader.specs.btr_super.Rules.{bad_field, failing, field_rules, is_super, super_of, super_refusals, unless_refused}
-use Rattle.btr_reader.specs.btr_super.Sums.{csum_type_of, has_sum, known_kind}
-use Rattle.btr_reader.specs.btr_super.Super.{super_in}
-use Rattle.btr_reader.specs.btr_super.declared.superblock.Super.{Super}
-use Rattle.btr_reader.specs.btr_reader_walk.Events.{TreeItem}
-use Rattle.btr_reader.specs.btr_reader_walk.Walks.{found}
-use Rattle.convert_core_laws.specs.Converted.{ConvertedFilesAreRead, ReadsFiles}
-use Rattle.convert_core_laws.specs.Kept.{BytesAreKept}
-use Rattle.convert_core_laws.specs.Mapped.{AreRangesOf}
-use Rattle.convert_core.specs.convert_steps.Making.{IsMaking, Making}
-use Rattle.convert_core.specs.convert_steps.Source.{made_from}
-use Rattle.convert_core.specs.convert_steps.Standing.{file_tree_items}
-use Rattle.convert_core.specs.convert_steps.declared.trees.VolumeTrees.{VolumeTrees}
-use Rattle.convert_core.specs.Converted.{IsNew}
+use Rattle.convert_core_laws.proofs.Imports.{◌≡◌, inr, ◌<◌, ℕ, ◌^◌, nat_le, nat_lt, Bool, true, false, List, [], ◌∷◌, length, Ok, refl, sym, ap, subst, ◌∙◌, ⊎_elim, arith, Contains, if◌then◌else◌, and_parts, nat_tests, SUPER_BLOCK, SUPER_INFO_OFFSET, SUPER_MAGIC_OFFSET, FS_TREE, format_in, Image, block_at, BtrRefusal, BadBtrfs, Unsupported, SuperCsum, ChecksumType, format, has_bytes_at, has_reiser_magic, Btrfs, Neither, Reiser, Ids, has_root, KeepsNames, BtrfsRowsAreOne, opening_refusals, super_on, tree_of, AreRowsOfBtrfs, IsReadable, own_map, own_super, roots_on, bad_field, failing, field_rules, is_super, super_of, super_refusals, unless_refused, csum_type_of, has_sum, known_kind, super_in, Super, TreeItem, found, ConvertedFilesAreRead, ReadsFiles, BytesAreKept, AreRangesOf, IsMaking, Making, made_from, file_tree_items, VolumeTrees, IsNew, HasFsid, NewIdsFit, ConvertedIsReadable, IsReadableWithTrees, SuperblockReads, IsNewVolume, ReadsTree, super_for, ReadsSavedImage, SavedImageIsReadable, AreRowsOf, NamesKeepRules, HasBytes, KeepsBytes, RowsAreKept, AreIds, TreeNode, pointer_to_root, Options, ConvertedVolumesOpen, OpensAsBefore}
+use Rattle.std.proofs.Common.{codes, is_some}
+use Rattle.btr_reader.specs.Parts.{Tree}
 use Rattle.convert_core.proofs.Wholeness.{blocks_are}
-use Rattle.convert_core_laws.specs.reading.Identifiers.{HasFsid, NewIdsFit}
-use Rattle.convert_core_laws.specs.reading.Laws.{ConvertedIsReadable, IsReadableWithTrees, SuperblockReads}
-use Rattle.convert_core_laws.specs.reading.Opened.{IsNewVolume, ReadsTree, super_for}
-use Rattle.convert_core_laws.specs.reading.Saved.{ReadsSavedImage, SavedImageIsReadable}
 use Rattle.reiser_volume.specs.fs_rows.Rows.{WholeRow}
-use Rattle.reiser_volume.specs.Volume.{AreRowsOf}
-use Rattle.convert_trees_laws.specs.Names.{NamesKeepRules}
-use Rattle.convert_trees_laws.specs.Rows.{HasBytes, KeepsBytes, RowsAreKept}
-use Rattle.convert_core.specs.space_items.Laws.{AreIds}
-use Rattle.convert_core.specs.space_items.declared.node.TreeNode.{TreeNode}
-use Rattle.convert_core.specs.btr_tree_writer.Trees.{root_pointer}
-use Rattle.convert_core.specs.convert_options.declared.options.Options.{Options}
-use Rattle.convert_core_laws.specs.opening.Opens.{ConvertedVolumesOpen, OpensAsBefore}
 
 -- ---- the format of a disk whose superblock is read
 
@@ -57,21 +15,21 @@ none_refused : (rs : List BtrRefusal) (x y : Super) → unless_refused rs x ≡ 
 none_refused [] x y e = refl
 none_refused (r ∷ rs) x y e = absurd (cc e)
 
-magic_there : (block : List ℕ) (device : ℕ) (s : Super) → super_of block 16 device ≡ Ok s → is_super block 16 device ≡ true
+magic_there : (block : List ℕ) (device : ℕ) (s : Super) → super_of block SUPER_BLOCK device ≡ Ok s → is_super block SUPER_BLOCK device ≡ true
 unfolding super_of
 magic_there block device s e =
-    first_holds (is_super block 16 device) bad_field
-    ((is_some (known_kind (csum_type_of block)), Unsupported ChecksumType (csum_type_of block)) ∷ (has_sum (known_kind (csum_type_of block)) block, BadBtrfs 65536 SuperCsum) ∷ field_rules (super_in block) 16 device)
-    (none_refused (super_refusals block 16 device) (super_in block) s e)
+    first_holds (is_super block SUPER_BLOCK device) bad_field
+    ((is_some (known_kind (csum_type_of block)), Unsupported ChecksumType (csum_type_of block)) ∷ (has_sum (known_kind (csum_type_of block)) block, BadBtrfs SUPER_INFO_OFFSET SuperCsum) ∷ field_rules (super_in block) SUPER_BLOCK device)
+    (none_refused (super_refusals block SUPER_BLOCK device) (super_in block) s e)
 
 longer : (n : ℕ) → nat_lt 16 n ≡ true → nat_le n 16 ≡ false
 longer n t = grind (arith, nat_tests, t)
 
 format_is : (other : Image) (s : Super) → super_on other ≡ Ok s → format_in other ≡ Btrfs
 format_is other s e =
-    let both = and_parts (nat_lt 16 (length other)) (has_bytes_at (block_at other 16) 64 (codes "_BHRfS_M")) (magic_there (block_at other 16) (length other) s e) in
-    ap (λ (b : Bool). if b then Neither else format (block_at other 16)) (longer (length other) both.0)
-    ∙ ap (λ (b : Bool). if b then Btrfs else (if has_reiser_magic (block_at other 16) then Reiser else Neither)) both.1
+    let both = and_parts (nat_lt 16 (length other)) (has_bytes_at (block_at other SUPER_BLOCK) SUPER_MAGIC_OFFSET (codes "_BHRfS_M")) (magic_there (block_at other SUPER_BLOCK) (length other) s e) in
+    ap (λ (b : Bool). if b then Neither else format (block_at other SUPER_BLOCK)) (longer (length other) both.0)
+    ∙ ap (λ (b : Bool). if b then Btrfs else (if has_reiser_magic (block_at other SUPER_BLOCK) then Reiser else Neither)) both.1
 
 -- ---- a converted volume
 
@@ -88,11 +46,11 @@ module _ (reads : SuperblockReads) (readable : ConvertedIsReadable) (saved : Sav
   is : IsReadableWithTrees image other m r nodes
   is = readable o ids now image other m r nodes v
 
-  tree : ReadsTree other (own_super other) (own_map other) 5 r.files (file_tree_items image m)
+  tree : ReadsTree other (own_super other) (own_map other) FS_TREE r.files (file_tree_items image m)
   tree = is.trees.files
 
   abbrev items : List TreeItem
-  items = found other (own_map other) (tree_of (own_super other) 5 (root_pointer r.files))
+  items = found other (own_map other) (tree_of (own_super other) FS_TREE (pointer_to_root r.files))
 
   names_kept : KeepsNames (has_root (roots_on other (own_super other) (own_map other))) items r.files.address
   names_kept = names m.volume image m.options m.plan m.pieces items (has_root (roots_on other (own_super other) (own_map other))) r.files.address making.has_pieces tree.items_are
@@ -115,7 +73,7 @@ module _ (reads : SuperblockReads) (readable : ConvertedIsReadable) (saved : Sav
     readable = λ refusal broken. tree_readable refusal (inr (no_opening, broken));
     item = tree.item;
     has_item = tree.has_item;
-    at = root_pointer r.files;
+    at = pointer_to_root r.files;
     has_root = tree.leads;
     rows_are = kept m.volume image other m.options m.plan m.pieces (own_map other) items rows making.has_pieces tree.items_are blocks keeps_bytes are;
   }

@@ -1,24 +1,9 @@
 -- Where the bytes of a file lie by the extents of its pieces.
-use Rattle.std.proofs.Common.{◌≡◌, ◌≤◌, ◌<◌, ℕ, ◌+◌, ◌-◌, ◌*◌, Bool, true, false, cond, List, [], ◌∷◌, map, filter, Option, Some, None, refl, ap, ◌∙◌, if◌then◌else◌, arith}
-use Rattle.std.specs.Prelude.{Contains}
-use Rattle.std.specs.List.{AllByRecursion}
-use Rattle.reiser_volume.specs.outside.History.{Image}
+use Rattle.convert_core_laws.proofs.Imports.{◌≡◌, ◌≤◌, ◌<◌, ℕ, ◌+◌, ◌-◌, ◌*◌, Bool, true, false, cond, List, [], ◌∷◌, map, filter, Option, Some, None, refl, ap, ◌∙◌, arith, Contains, AllByRecursion, Image, extents_of, is_extent_of, FileExtentValue, file_extent_of, Item, TreeItem, place, bare_item, MapRange, IsMaking, Making, GivesItsOwn, extents_at, file_block, regular_extent, Piece, byte_place, content_place, place_from}
+use Rattle.std.proofs.Common.{if◌then◌else◌}
 use Rattle.convert_core_laws.proofs.going_back.Extents.{extent_read, no_hole}
-use Rattle.btr_reader.specs.btr_reader_contents.Extents.{extents_of, is_extent_of}
-use Rattle.btr_reader.specs.btr_keys.FileExtent.{FileExtentValue, file_extent_of}
-use Rattle.btr_reader.specs.btr_node.Leaf.{Item}
-use Rattle.btr_reader.specs.btr_reader_walk.Events.{TreeItem}
-use Rattle.btr_reader.specs.btr_reader_walk.Map.{place}
-use Rattle.btr_reader.specs.btr_reader_walk.Tree.{bare_item}
-use Rattle.btr_reader.specs.btr_reader_walk.declared.map.MapRange.{MapRange}
 use Rattle.convert_core_laws.proofs.Pieces.{covers_byte}
 use Rattle.convert_core_laws.proofs.ByteReading.{is_extent}
-use Rattle.convert_core.specs.convert_steps.Making.{IsMaking, Making}
-use Rattle.convert_core_laws.specs.reading.Opened.{GivesItsOwn}
-use Rattle.convert_core.specs.file_items.Extents.{extents_at, file_block}
-use Rattle.convert_core.specs.btr_item_list.Extents.{regular_extent}
-use Rattle.convert_core.specs.unit_plan.declared.piece.Piece.{Piece}
-use Rattle.convert_core_laws.specs.placement.InPlace.{byte_place, content_place, place_from}
 
 -- ---- items, whatever leaves they stand in
 

@@ -1,58 +1,15 @@
 -- The blocks of a file are in place.
-use Rattle.std.proofs.Common.{◌≡◌, ◌≤◌, ◌<◌, ℕ, ◌+◌, ◌-◌, ◌*◌, ◌==◌, ◌&&◌, nat_le, nat_lt, Bool, true, false, List, [], ◌∷◌, length, map, filter, Option, Some, None, refl, sym, ap, subst, ◌∙◌, if◌then◌else◌, arith}
-use Rattle.std.specs.Prelude.{Contains, unwrap_or}
-use Rattle.std.specs.List.{AllByRecursion}
-use Rattle.std.specs.Option.{option_map_or}
-use Rattle.std.proofs.lemmas.Bool.{and_parts, leb-true}
-use Rattle.std.proofs.lemmas.Bool.Decides.{nat_tests}
-use Rattle.indexmap.specs.IndexMap.{keys}
-use Rattle.reiser_volume.specs.outside.History.{Image}
-use Rattle.reiser_volume.specs.vol_block.Volume.{IsReserved, is_reserved}
+use Rattle.convert_core_laws.proofs.Imports.{◌≡◌, ◌≤◌, ◌<◌, ℕ, ◌+◌, ◌-◌, ◌*◌, ◌==◌, ◌&&◌, nat_le, nat_lt, Bool, true, false, List, [], ◌∷◌, length, map, filter, Option, Some, None, refl, sym, ap, subst, ◌∙◌, arith, Contains, unwrap_or, AllByRecursion, option_map_or, and_parts, leb-true, nat_tests, keys, Image, IsReserved, is_reserved, extents_of, Item, TreeItem, bare_item, MapRange, IsMaking, Making, HasExtents, HasPieces, HoldFiles, ComesFrom, in_piece, made_from, file_tree_items, GivesItsOwn, FileAt, file_at, AreSortedKeys, HoldsBlock, all_at, numbered, reserved_no, extents_at, file_block, is_owned_by, pieces_of, Source, file_extent_items, inline_in, kind_in, ino_of, size_in, FilesAreHeld, has_bytes, Kind, File, extent_item, inline_extent, target_bytes, block_from, file_runs, RunFrom, Disk, Tail, items_of, ObjectKey, ObjectStat, used_length, stays_in_tree, is_tail, kind_by, no_stat, stat_at, superblock, used_of, volume_items, ReiserItem, HasSamePaths, Piece, AreBlocksInPlace, byte_place}
+use Rattle.std.proofs.Common.{if◌then◌else◌}
+use Rattle.convert_core.proofs.extent_pieces.Telling.{RunLies, runs_lie}
+use Rattle.reiser_volume.specs.reiser_volume_files.declared.map.FileRun.{FileRun}
+use Rattle.reiser_volume.proofs.Mapping.{maps_tell_owned}
+use Rattle.reiser_volume.specs.Owners.{Owns, TellsOwned}
 use Rattle.convert_core_laws.proofs.going_back.Staying.{stays}
-use Rattle.btr_reader.specs.btr_reader_contents.Extents.{extents_of}
-use Rattle.btr_reader.specs.btr_node.Leaf.{Item as TreeEntry}
-use Rattle.btr_reader.specs.btr_reader_walk.Events.{TreeItem}
-use Rattle.btr_reader.specs.btr_reader_walk.Tree.{bare_item}
-use Rattle.btr_reader.specs.btr_reader_walk.declared.map.MapRange.{MapRange}
 use Rattle.convert_core_laws.proofs.Owned.{extents_found}
 use Rattle.convert_core_laws.proofs.Pieces.{all_of_inode, covers_byte, one_of_inode}
 use Rattle.convert_core_laws.proofs.ByteReading.{is_extent}
 use Rattle.convert_core_laws.proofs.Sound.{owner_is}
-use Rattle.convert_core.specs.convert_steps.Making.{IsMaking, Making}
-use Rattle.convert_core.specs.convert_steps.Source.{HasExtents, HasPieces, HoldFiles, LiesIn, in_piece, made_from}
-use Rattle.convert_core.specs.convert_steps.Standing.{file_tree_items}
-use Rattle.convert_core_laws.specs.reading.Opened.{GivesItsOwn}
-use Rattle.convert_core.specs.extent_pieces.Files.{FileAt, file_at}
-use Rattle.convert_core.specs.extent_pieces.Laws.{AreSortedKeys, HoldsBlock}
-use Rattle.convert_core.proofs.extent_pieces.Lists.{all_at}
-use Rattle.convert_core.proofs.extent_pieces.Named.{numbered}
-use Rattle.convert_core.proofs.extent_pieces.Reserving.{reserved_no}
-use Rattle.convert_core.proofs.extent_pieces.Telling.{RunLies, runs_lie}
-use Rattle.convert_core.specs.file_items.Extents.{extents_at, file_block, is_owned_by, pieces_of}
-use Rattle.convert_core.specs.file_items.Tree.{Source, extent_items, inline_in, kind_in, number_of, size_in}
-use Rattle.convert_trees_laws.specs.Held.{FilesAreHeld}
-use Rattle.reiser_volume.specs.fs_rows.Kinds.{has_bytes}
-use Rattle.reiser_volume.specs.fs_rows.declared.row.Kind.{Kind}
-use Rattle.reiser_volume.specs.fs_rows.declared.row.Kind.TheVariants.{File}
-use Rattle.convert_core.specs.btr_item_list.Extents.{extent_item, inline_extent}
-use Rattle.reiser_volume.specs.reiser_volume_files.Bytes.{target_bytes}
-use Rattle.reiser_volume.specs.reiser_volume_files.Runs.{block_from, file_runs}
-use Rattle.reiser_volume.specs.reiser_volume_files.declared.map.FileRun.{FileRun}
-use Rattle.reiser_volume.specs.reiser_volume_files.declared.map.RunFrom.{RunFrom}
-use Rattle.reiser_volume.specs.reiser_volume_files.declared.map.RunFrom.TheVariants.{Disk, Tail}
-use Rattle.reiser_volume.specs.reiser_volume_objects.Keys.{items_of}
-use Rattle.reiser_volume.specs.reiser_volume_objects.declared.key.ObjectKey.{ObjectKey}
-use Rattle.reiser_volume.specs.reiser_volume_objects.declared.stat.ObjectStat.{ObjectStat}
-use Rattle.reiser_volume.proofs.Holding.{used_length}
-use Rattle.reiser_volume.proofs.Mapping.{maps_tell_owned}
-use Rattle.reiser_volume.specs.Inline.{is_inline, is_tail}
-use Rattle.reiser_volume.specs.Made.{kind_by, no_stat, stat_at}
-use Rattle.reiser_volume.specs.Owners.{Owns, TellsOwned}
-use Rattle.reiser_volume.specs.Volume.{superblock, used_of, volume_items}
-use Rattle.reiser_volume.specs.reiser_walk.Items.{Item}
-use Rattle.convert_trees_laws.specs.Names.{HasSamePaths}
-use Rattle.convert_core.specs.unit_plan.declared.piece.Piece.{Piece}
-use Rattle.convert_core_laws.specs.placement.InPlace.{AreBlocksInPlace, byte_place}
 use Rattle.convert_core_laws.proofs.placement.Extents.{bare_place, item_place, piece_at, piece_place, read_places}
 
 -- ---- small facts
@@ -95,13 +52,13 @@ module _ (image : Image) (m : Making) (made : IsMaking image m) (held : FilesAre
 
   module _ (key : ObjectKey) (k b : ℕ) (owns : Owns image key k b) where
     abbrev ino : ℕ
-    ino = number_of s key
+    ino = ino_of s key
 
     among_keys : Contains (keys m.volume.named) key
     among_keys = (of.opened.are_keys.exact key).1 owns.named
 
     -- the block is that of file block k
-    lies : LiesIn s key k (Disk b)
+    lies : ComesFrom s key k (Disk b)
     lies =
         let f : FileAt = file_at (volume_items image) (keys m.volume.named) key in
         let runs : List FileRun = file_runs (items_of key (volume_items image)) (stat_at (volume_items image) key).fields.size in
@@ -110,8 +67,8 @@ module _ (image : Image) (m : Making) (made : IsMaking image m) (held : FilesAre
         let r : FileRun = found.0 in
         let first : ℕ = found.1 in
         let low : r.at ≤ k = found.4 in
-        let at : LiesIn s key (r.at + (k - r.at)) (Disk (first + (k - r.at))) = (all_at (RunLies f) runs r (runs_lie f) found.2).lies first (k - r.at) found.3 (omega (arith, found.5)) in
-        subst (λ (c : ℕ). LiesIn s key k (Disk c)) (sym found.6) (subst (λ (j : ℕ). LiesIn s key j (Disk (first + (k - r.at)))) (let e : r.at + (k - r.at) ≡ k = omega arith in e) at)
+        let at : ComesFrom s key (r.at + (k - r.at)) (Disk (first + (k - r.at))) = (all_at (RunLies f) runs r (runs_lie f) found.2).lies first (k - r.at) found.3 (omega (arith, found.5)) in
+        subst (λ (c : ℕ). ComesFrom s key k (Disk c)) (sym found.6) (subst (λ (j : ℕ). ComesFrom s key j (Disk (first + (k - r.at)))) (let e : r.at + (k - r.at) ≡ k = omega arith in e) at)
 
     file : kind_in s key ≡ File
     file = ap kind_by (ap (λ (o : Option ObjectStat). unwrap_or o no_stat) owns.has_stat) ∙ ap (λ (o : Option Kind). unwrap_or o File) owns.file
@@ -126,19 +83,19 @@ module _ (image : Image) (m : Making) (made : IsMaking image m) (held : FilesAre
         by : (t : Bool) → inline_in s key ≡ t → t ≡ false
         by false is = refl
         by true is =
-            let items : List Item = items_of key s.items in
+            let items : List ReiserItem = items_of key s.items in
             let size : ℕ = size_in s key in
-            let small = and_parts s.inline (nat_le size 2048 && is_tail (block_from items size 0)) (sym (ap (is_inline s.inline items size) file) ∙ is) in
+            let small = and_parts s.inline (nat_le size 2048 && is_tail (block_from items size 0)) (sym (ap (stays_in_tree s.inline items size) file) ∙ is) in
             let tail = and_parts (nat_le size 2048) (is_tail (block_from items size 0)) small.1 in
             let short = leb-true size 2048 tail.0 in
             let first : k ≡ 0 = (let low = below in omega (arith, low, short)) in
-            let disk : is_tail (block_from items size 0) ≡ false = ap is_tail (subst (λ (n : ℕ). LiesIn s key n (Disk b)) first lies) in
+            let disk : is_tail (block_from items size 0) ≡ false = ap is_tail (subst (λ (n : ℕ). ComesFrom s key n (Disk b)) first lies) in
             absurd (never (is_tail (block_from items size 0)) tail.1 disk)
 
     extents : HasExtents s key
     extents = record { named = among_keys; file = file; not_inline = not_inline }
 
-    module _ (paths : (a c : ObjectKey) → Contains s.keys a → Contains s.keys c → number_of s a ≡ number_of s c → a ≡ c)
+    module _ (paths : (a c : ObjectKey) → Contains s.keys a → Contains s.keys c → ino_of s a ≡ ino_of s c → a ≡ c)
         (free : ¬ IsReserved b (superblock image).blocks) (ranges : List MapRange) (own : GivesItsOwn m ranges) (j : ℕ) (inside : j < 4096) where
       abbrev n : ℕ
       n = 4096 * k + j
@@ -157,7 +114,7 @@ module _ (image : Image) (m : Making) (made : IsMaking image m) (held : FilesAre
           let at : file_block q + i ≡ k = omega (arith, low, inside) in
           let whose = files.each q ino (file_block q) among (owner_is ino q owned) in
           let same : whose.0 ≡ key = paths whose.0 key whose.1.named among_keys whose.2 in
-          let there : LiesIn s key (file_block q + i) (in_piece q i) = subst (λ (x : ObjectKey). LiesIn s x (file_block q + i) (in_piece q i)) same (whose.3 i few) in
+          let there : ComesFrom s key (file_block q + i) (in_piece q i) = subst (λ (x : ObjectKey). ComesFrom s x (file_block q + i) (in_piece q i)) same (whose.3 i few) in
           let disk : in_piece q i ≡ Disk b = same_from (in_piece q i) (Disk b) (sym there ∙ (ap (block_from (items_of key s.items) (size_in s key)) at ∙ lies)) in
           let from = on_disk q.from i b disk in
           let block = from.2 in
@@ -183,8 +140,8 @@ module _ (image : Image) (m : Making) (made : IsMaking image m) (held : FilesAre
           let out : covers_byte q n ≡ false = one_of_inode (λ p. covers_byte p n ≡ false) m.pieces ino q none w.2 owned in
           never (covers_byte q n) (cover_from (file_block q) q.count n (omega (arith, block, low)) (omega (arith, block, high, inside))) out
 
-      extents_place : item_place ranges (extent_items s key) n ≡ Some (4096 * b + j)
-      unfolding extent_items
+      extents_place : item_place ranges (file_extent_items s key) n ≡ Some (4096 * b + j)
+      unfolding file_extent_items
       extents_place =
           ap (λ (t : Bool). item_place ranges (if t then extent_item ino 0 (inline_extent (target_bytes (items_of key s.items) (size_in s key))) ∷ [] else extents_at ino file_block (pieces_of m.pieces ino)) n) not_inline
           ∙ read_places image m made ranges ino n (Some (4096 * b + j)) (pieces_of m.pieces ino) (all_of_inode (Contains m.pieces) m.pieces ino (λ q among owned. among))
@@ -194,9 +151,9 @@ module _ (image : Image) (m : Making) (made : IsMaking image m) (held : FilesAre
       byte_in_place items are =
           let at = numbered image (keys m.volume.named) sorted in
           bare_place ranges items ino n
-          ∙ (ap (λ (l : List TreeEntry). item_place ranges (filter (is_extent ino) l) n) are
-          ∙ (ap (λ (l : List TreeEntry). item_place ranges l n) (extents_found s at.0 at.1 key among_keys (ap has_bytes file)) ∙ extents_place))
+          ∙ (ap (λ (l : List Item). item_place ranges (filter (is_extent ino) l) n) are
+          ∙ (ap (λ (l : List Item). item_place ranges l n) (extents_found s at.0 at.1 key among_keys (ap has_bytes file)) ∙ extents_place))
 
 pub blocks_in_place : FilesAreHeld → (image : Image) (m : Making) (made : IsMaking image m) (ranges : List MapRange) → GivesItsOwn m ranges → (items : List TreeItem) → map bare_item items ≡ file_tree_items image m
-    → HasSamePaths (made_from m.volume image m.options m.pieces) items → (key : ObjectKey) → AreBlocksInPlace image key ranges (extents_of items (number_of (made_from m.volume image m.options m.pieces) key))
+    → HasSamePaths (made_from m.volume image m.options m.pieces) items → (key : ObjectKey) → AreBlocksInPlace image key ranges (extents_of items (ino_of (made_from m.volume image m.options m.pieces) key))
 blocks_in_place held image m made ranges own items are paths key = λ k b j owns free inside. byte_in_place image m made held key k b owns paths.apart free ranges own j inside items are

@@ -1,35 +1,12 @@
 -- The data of files stays where it is.
-use Rattle.std.proofs.Common.{ℕ, List, subst}
-use Rattle.reiser_volume.specs.outside.History.{Image}
-use Rattle.reiser_volume.specs.vol_block.declared.ids.Ids.{Ids}
-use Rattle.btr_reader.specs.Image.{items_at}
-use Rattle.btr_reader.specs.Parts.{own_map, own_super}
-use Rattle.btr_reader.specs.btr_reader_walk.Events.{TreeItem}
-use Rattle.convert_core.specs.convert_steps.Making.{IsMaking, Making}
-use Rattle.convert_core.specs.convert_steps.Source.{HasPieces, made_from}
-use Rattle.convert_core.specs.convert_steps.Standing.{file_tree_items}
-use Rattle.convert_core.specs.convert_steps.declared.trees.VolumeTrees.{VolumeTrees}
-use Rattle.convert_core.proofs.Moving.{taken_free}
+use Rattle.convert_core_laws.proofs.Imports.{ℕ, ◌+◌, ◌<◌, List, subst, FS_TREE, Image, Ids, items_at, own_map, own_super, TreeItem, IsMaking, Making, HasPieces, made_from, file_tree_items, VolumeTrees, taken_free, NewIdsFit, ConvertedIsReadable, IsReadableWithTrees, IsNewVolume, ReadsTree, Source, ino_of, FilesAreHeld, root, ObjectKey, Naming, LeadsToObject, volume_items, HasSamePaths, NamesAreKept, TreeNode, pointer_to_root, Options, ConvertedDataStays, IsInPlace, StaysInPlace}
+use Rattle.reiser_volume.specs.reiser_super.declared.superblock.Super.{Super}
+use Rattle.convert_core.specs.convert_steps.Switch.{IsMirrorOf}
 use Rattle.convert_core.proofs.Putting.{used_not_free}
-use Rattle.convert_core_laws.specs.reading.Identifiers.{NewIdsFit}
-use Rattle.convert_core_laws.specs.reading.Laws.{ConvertedIsReadable, IsReadableWithTrees}
-use Rattle.convert_core_laws.specs.reading.Opened.{IsNewVolume, ReadsTree}
-use Rattle.convert_core_laws.proofs.reading.SavedWay.{pointer_by}
-use Rattle.convert_core.specs.file_items.Tree.{Source, number_of}
-use Rattle.convert_trees_laws.specs.Held.{FilesAreHeld}
 use Rattle.reiser_volume.proofs.reiser_volume_names.Uniqueness.{links_one}
-use Rattle.reiser_volume.specs.reiser_volume_objects.Keys.{root}
-use Rattle.reiser_volume.specs.reiser_volume_objects.declared.key.ObjectKey.{ObjectKey}
-use Rattle.reiser_volume.specs.reiser_volume_objects.declared.naming.Naming.{Naming}
 use Rattle.reiser_volume.specs.Opened.{links_in}
-use Rattle.reiser_volume.specs.Rows.{Leads}
-use Rattle.reiser_volume.specs.Volume.{volume_items}
-use Rattle.convert_trees_laws.specs.Names.{HasSamePaths, NamesAreKept}
+use Rattle.convert_core_laws.proofs.reading.SavedWay.{pointer_by}
 use Rattle.convert_core_laws.proofs.soundness.Recounting.{volume_for}
-use Rattle.convert_core.specs.space_items.declared.node.TreeNode.{TreeNode}
-use Rattle.convert_core.specs.btr_tree_writer.Trees.{root_pointer}
-use Rattle.convert_core.specs.convert_options.declared.options.Options.{Options}
-use Rattle.convert_core_laws.specs.placement.InPlace.{ConvertedDataStays, IsInPlace, StaysInPlace}
 use Rattle.convert_core_laws.proofs.placement.Files.{blocks_in_place}
 
 module _ (readable : ConvertedIsReadable) (held : FilesAreHeld) (names : NamesAreKept)
@@ -47,9 +24,9 @@ module _ (readable : ConvertedIsReadable) (held : FilesAreHeld) (names : NamesAr
   is = readable o ids now image other m r nodes v
 
   abbrev items : List TreeItem
-  items = items_at other (own_super other) (own_map other) 5 (root_pointer r.files)
+  items = items_at other (own_super other) (own_map other) FS_TREE (pointer_to_root r.files)
 
-  tree : ReadsTree other (own_super other) (own_map other) 5 r.files (file_tree_items image m)
+  tree : ReadsTree other (own_super other) (own_map other) FS_TREE r.files (file_tree_items image m)
   tree = is.trees.files
 
   paths : HasSamePaths s items
@@ -57,18 +34,18 @@ module _ (readable : ConvertedIsReadable) (held : FilesAreHeld) (names : NamesAr
 
   file_stays : (key : ObjectKey) → StaysInPlace image (own_map other) items key
   file_stays key = record {
-    ino = number_of s key;
+    ino = ino_of s key;
     paths = λ visible links path are leads.
         let same = links_one (volume_items image) visible links of.opened.visible (links_in m.volume) are of.opened.are_links in
-        paths.kept path key (subst (λ (ls : List Naming). Leads ls root path key) same leads);
+        paths.kept path key (subst (λ (ls : List Naming). LeadsToObject ls root path key) same leads);
     blocks = blocks_in_place held image m made (own_map other) is.own items tree.items_are paths key;
   }
 
   pub in_place : IsInPlace image other
   in_place = record {
-    used = λ b used super mirror. v.new.others b super mirror (λ taken. used_not_free image b used (taken_free m.volume image m.options m.plan m.pieces of b taken));
-    at = root_pointer r.files;
-    has_root = pointer_by other (own_super other) (own_map other) 5 r.files (file_tree_items image m) tree;
+    used = λ b used super mirror. v.new.others b super (λ (is : IsMirrorOf m.volume.sup.blocks b). mirror (is.0, subst (λ (s : Super). b + 1 < s.blocks) of.opened.sup is.1)) (λ taken. used_not_free image b used (taken_free m.volume image m.options m.plan m.pieces of b taken));
+    at = pointer_to_root r.files;
+    has_root = pointer_by other (own_super other) (own_map other) FS_TREE r.files (file_tree_items image m) tree;
     files = λ key named. file_stays key;
   }
 

@@ -1,25 +1,6 @@
 -- Each address in a chunk means itself.
-use Rattle.std.proofs.Common.{◌≡◌, ◌≤◌, ◌<◌, ℕ, ◌+◌, ◌-◌, ◌*◌, ◌/◌, ◌^◌, leb, ltb, Bool, true, false, List, [], ◌∷◌, ◌++◌, length, map, Some, sym, ap, subst, ⊎_elim, arith}
-use Rattle.std.specs.Prelude.{Contains, if◌then◌else◌, not, ◌&&◌}
-use Rattle.std.proofs.lemmas.Bool.{and_from, both_ways, cases_Bool, le-leb, lt-ltb, not_from_false}
-use Rattle.std.proofs.lemmas.Bool.Decides.{nat_tests}
-use Rattle.std.proofs.lemmas.List.Elements.{Contains-append_cases, Contains-append_left, Contains-append_right}
-use Rattle.reiser_volume.proofs.fs_paths.Lists.{from_filter, from_map, in_filter, in_map}
-use Rattle.reiser_volume.specs.outside.History.{Image}
-use Rattle.btr_reader.specs.btr_node.NodeSize.{IsNodeSize}
-use Rattle.convert_core.specs.btr_tree.Laws.{GivesItself}
-use Rattle.convert_core.specs.btr_tree.Writing.{IsInNode, IsInSlots}
-use Rattle.btr_reader.specs.btr_reader_walk.Map.{holds, place}
-use Rattle.convert_core.specs.convert_steps.Making.{IsMaking, Making, chunk_slots, slots}
-use Rattle.convert_core.specs.convert_steps.Superblock.{is_system_role}
-use Rattle.convert_core.proofs.extent_pieces.Lists.{all_at, any_from}
-use Rattle.reiser_volume.proofs.reiser_bitmap.Ranges.{contains_cases}
-use Rattle.convert_core.proofs.space_items.ChunkLists.{chunk_ends}
-use Rattle.convert_trees_laws.proofs.Booting.{chunks_of, used_few}
-use Rattle.reiser_volume.specs.Volume.{used_of}
-use Rattle.convert_core.specs.unit_plan.declared.chunk.Chunk.{Chunk}
-use Rattle.convert_core.specs.unit_plan.declared.chunk.Role.TheVariants.{System}
-use Rattle.convert_core_laws.specs.reading.Opened.{AreRangesFor, GivesItsOwn, boot_part, map_for, other_part, range_for}
+use Rattle.convert_core_laws.proofs.Imports.{◌≡◌, ◌≤◌, ◌<◌, ℕ, ◌+◌, ◌-◌, ◌*◌, ◌/◌, ◌^◌, leb, ltb, Bool, true, false, List, [], ◌∷◌, ◌++◌, length, map, Some, sym, ap, subst, ⊎_elim, arith, Contains, if◌then◌else◌, and_from, both_ways, cases_Bool, le-leb, lt-ltb, not_from_false, nat_tests, Contains-append_cases, Contains-append_left, Contains-append_right, from_filter, from_map, in_filter, in_map, Image, IsNodeSize, GivesItself, IsInNode, IsInSlots, holds, place, IsMaking, Making, chunk_slots, slots, is_system_role, all_at, any_from, contains_cases, chunk_ends, chunks_of, used_few, used_of, PlannedChunk, System, AreRangesFor, GivesItsOwn, boot_part, map_for, other_part, range_for}
+use Rattle.std.specs.Prelude.{not, ◌&&◌}
 use Rattle.convert_core_laws.proofs.reading.Places.{HasBlock, HasBlockOf, chunk_slot_block, piece_block, slot_block}
 
 inside : (low long a : ℕ) → low ≤ a → a < low + long → (leb low a && ltb a (low + long)) ≡ true
@@ -29,7 +10,7 @@ low_of : (low long a : ℕ) → (leb low a && ltb a (low + long)) ≡ true → l
 low_of low long a t = grind (arith, nat_tests, t)
 
 -- an address that some of these chunks hold
-pub itself : (cs : List Chunk) (c : Chunk) (a : ℕ) → Contains cs c → 4096 * c.start ≤ a → a < 4096 * c.start + 4096 * c.length → place (map range_for cs) a ≡ Some a
+pub itself : (cs : List PlannedChunk) (c : PlannedChunk) (a : ℕ) → Contains cs c → 4096 * c.start ≤ a → a < 4096 * c.start + 4096 * c.length → place (map range_for cs) a ≡ Some a
 itself [] c a among low high = absurd (omega (arith, among.1))
 itself (d ∷ cs) c a among low high =
     ⊎_elim
@@ -39,7 +20,7 @@ itself (d ∷ cs) c a among low high =
     by (holds (range_for d) a) t (ap Some at))
     (λ (f : holds (range_for d) a ≡ false).
     past (holds (range_for d) a) f
-    (⊎_elim (λ (same : d ≡ c). absurd (both_ways (holds (range_for d) a) f (subst (λ (e : Chunk). holds (range_for e) a ≡ true) (sym same) (inside (4096 * c.start) (4096 * c.length) a low high))))
+    (⊎_elim (λ (same : d ≡ c). absurd (both_ways (holds (range_for d) a) f (subst (λ (e : PlannedChunk). holds (range_for e) a ≡ true) (sym same) (inside (4096 * c.start) (4096 * c.length) a low high))))
     (λ (later : Contains cs c). itself cs c a later low high) (contains_cases c d cs among)))
     (cases_Bool (holds (range_for d) a))
   where
@@ -52,30 +33,30 @@ itself (d ∷ cs) c a among low high =
     past false f is = is
 
 -- all chunks are among those of the array and the others
-pub in_parts : (chunks : List Chunk) (c : Chunk) → Contains chunks c → Contains (boot_part chunks ++ other_part chunks) c
+pub in_parts : (chunks : List PlannedChunk) (c : PlannedChunk) → Contains chunks c → Contains (boot_part chunks ++ other_part chunks) c
 in_parts chunks c among =
     ⊎_elim
-    (λ (t : is_system_role c.role ≡ true). Contains-append_left (boot_part chunks) (other_part chunks) c (in_filter (λ (d : Chunk). is_system_role d.role) chunks c among t))
-    (λ (f : is_system_role c.role ≡ false). Contains-append_right (boot_part chunks) (other_part chunks) c (in_filter (λ (d : Chunk). not (is_system_role d.role)) chunks c among (not_from_false (is_system_role c.role) f)))
+    (λ (t : is_system_role c.role ≡ true). Contains-append_left (boot_part chunks) (other_part chunks) c (in_filter (λ (d : PlannedChunk). is_system_role d.role) chunks c among t))
+    (λ (f : is_system_role c.role ≡ false). Contains-append_right (boot_part chunks) (other_part chunks) c (in_filter (λ (d : PlannedChunk). not (is_system_role d.role)) chunks c among (not_from_false (is_system_role c.role) f)))
     (cases_Bool (is_system_role c.role))
 
 -- and the other way
-from_parts : (chunks : List Chunk) (c : Chunk) → Contains (boot_part chunks ++ other_part chunks) c → Contains chunks c
+from_parts : (chunks : List PlannedChunk) (c : PlannedChunk) → Contains (boot_part chunks ++ other_part chunks) c → Contains chunks c
 from_parts chunks c among =
-    ⊎_elim (λ first. (from_filter (λ (d : Chunk). is_system_role d.role) chunks c first).0) (λ second. (from_filter (λ (d : Chunk). not (is_system_role d.role)) chunks c second).0)
+    ⊎_elim (λ first. (from_filter (λ (d : PlannedChunk). is_system_role d.role) chunks c first).0) (λ second. (from_filter (λ (d : PlannedChunk). not (is_system_role d.role)) chunks c second).0)
     (Contains-append_cases (boot_part chunks) (other_part chunks) c among)
 
-pub ranges_are : (chunks : List Chunk) → AreRangesFor chunks (map_for chunks)
+pub ranges_are : (chunks : List PlannedChunk) → AreRangesFor chunks (map_for chunks)
 ranges_are chunks = record {
   each = λ r h. let at = from_map range_for (boot_part chunks ++ other_part chunks) r h in (at.0, from_parts chunks at.0 at.1, sym at.2);
   whole = λ c h. in_map range_for (boot_part chunks ++ other_part chunks) c (in_parts chunks c h);
 }
 
-pub in_boot : (chunks : List Chunk) (c : Chunk) → Contains chunks c → c.role ≡ System → Contains (boot_part chunks) c
-in_boot chunks c among is = in_filter (λ (d : Chunk). is_system_role d.role) chunks c among (ap is_system_role is)
+pub in_boot : (chunks : List PlannedChunk) (c : PlannedChunk) → Contains chunks c → c.role ≡ System → Contains (boot_part chunks) c
+in_boot chunks c among is = in_filter (λ (d : PlannedChunk). is_system_role d.role) chunks c among (ap is_system_role is)
 
 -- a block that lies in a chunk
-block_itself : (cs : List Chunk) (c : Chunk) (a : ℕ) → Contains cs c → c.start ≤ a / 4096 → a / 4096 < c.start + c.length → place (map range_for cs) a ≡ Some a
+block_itself : (cs : List PlannedChunk) (c : PlannedChunk) (a : ℕ) → Contains cs c → c.start ≤ a / 4096 → a / 4096 < c.start + c.length → place (map range_for cs) a ≡ Some a
 block_itself cs c a among low high = itself cs c a among (omega (arith, low)) (omega (arith, high))
 
 pub node_blocks : (n : ℕ) → IsNodeSize n → 1 ≤ n / 4096
@@ -96,17 +77,17 @@ module _ (image : Image) (m : Making) (made : IsMaking image m) (size : IsNodeSi
   n = m.options.nodesize
 
   -- a chunk ends before the greatest address
-  small : (c : Chunk) → Contains m.chunks c → c.start + c.length ≤ 2 ^ 29
+  small : (c : PlannedChunk) → Contains m.chunks c → c.start + c.length ≤ 2 ^ 29
   small c among =
-      let end : c.start + c.length ≤ length (used_of image) = all_at (λ (d : Chunk). d.start + d.length ≤ length (used_of image)) m.chunks c (chunk_ends m.plan (length (used_of image)) m.chunks (chunks_of image m made)) among in
+      let end : c.start + c.length ≤ length (used_of image) = all_at (λ (d : PlannedChunk). d.start + d.length ≤ length (used_of image)) m.chunks c (chunk_ends m.plan (length (used_of image)) m.chunks (chunks_of image m made)) among in
       omega (arith, end, used_few image m made)
 
   -- a block of a node at a slot
   in_slot : (list : List ℕ) (a j : ℕ) → Contains list a → j < n / 4096 → IsInSlots n list ((a + 4096 * j) / 4096)
   in_slot list a j among h = any_from (λ (x : ℕ). IsInNode n x ((a + 4096 * j) / 4096)) list a among (omega arith, omega (arith, h))
 
-  gives : (list : List ℕ) (cs : List Chunk) (a j : ℕ) → Contains list a → j < n / 4096
-      → (c : Chunk) → Contains m.chunks c → Contains cs c → c.start ≤ (a + 4096 * j) / 4096 → (a + 4096 * j) / 4096 < c.start + c.length
+  gives : (list : List ℕ) (cs : List PlannedChunk) (a j : ℕ) → Contains list a → j < n / 4096
+      → (c : PlannedChunk) → Contains m.chunks c → Contains cs c → c.start ≤ (a + 4096 * j) / 4096 → (a + 4096 * j) / 4096 < c.start + c.length
       → (a + 4096 * j < 2 ^ 64) × (place (map range_for cs) (a + 4096 * j) ≡ Some (a + 4096 * j))
   gives list cs a j among h c there here low high =
       let end = small c there in

@@ -1,42 +1,8 @@
 -- The numbers of a converted volume fit their fields.
-use Rattle.std.proofs.Common.{◌≡◌, ◌≤◌, ◌<◌, ℕ, suc, ◌+◌, ◌-◌, ◌*◌, ◌^◌, Bool, List, [], ◌∷◌, ◌++◌, length, take, drop, sum_by, refl, sym, ap, subst, ◌∙◌, ⊎_elim, arith, length-append, length-drop}
-use Rattle.std.specs.Prelude.{AllPairs}
-use Rattle.std.specs.List.{flat_map, range_with_len, sum}
-use Rattle.std.proofs.lemmas.List.{length-map, length-take}
-use Rattle.std.proofs.lemmas.List.FromFn.{length-range_with_len}
-use Rattle.std.proofs.lemmas.List.Sums.{sum_by-cons, sum_by-le}
-use Rattle.std.proofs.lemmas.Nat.{mul-le}
-use Rattle.std.specs.Ordering.{nat_cmp}
-use Rattle.reiser_volume.specs.outside.History.{Image}
-use Rattle.btr_reader.specs.btr_node.NodeSize.{IsNodeSize}
-use Rattle.btr_reader.specs.btr_node.Leaf.{Item}
-use Rattle.convert_core.specs.btr_tree.Counting.{tree_nodes}
-use Rattle.convert_core.specs.btr_tree.Packing.{leaves, tree_levels}
-use Rattle.convert_core.specs.btr_tree.Roots.{level_pointers, lengths_of, pointers_to}
-use Rattle.convert_core.specs.btr_tree.Building.{pointer_to}
-use Rattle.convert_core.specs.btr_tree.declared.climb.Root.{Root}
-use Rattle.convert_core.specs.convert_steps.Making.{IsMaking, Making, chunk_slots, new_ids, slots}
-use Rattle.convert_core.specs.convert_steps.Source.{HasPieces}
-use Rattle.convert_core.specs.convert_steps.Standing.{HasTrees, device_from, extents_from, file_tree_items, form, image_from, image_tree_items, nodes_from, other_nodes, relocation_from, root_from, root_tree_items, sum_tree_items, sums_from, used_bytes}
-use Rattle.convert_core.specs.convert_steps.declared.trees.VolumeTrees.{VolumeTrees}
-use Rattle.convert_core.proofs.Moving.{sound}
-use Rattle.convert_core.proofs.Wholeness.{are_pieces}
+use Rattle.convert_core_laws.proofs.Imports.{◌≡◌, ◌≤◌, ◌<◌, ℕ, suc, ◌+◌, ◌-◌, ◌*◌, ◌^◌, Bool, List, [], ◌∷◌, ◌++◌, length, take, drop, refl, sym, ap, subst, ◌∙◌, ⊎_elim, arith, length-append, length-drop, AllPairs, flat_map, range_with_len, sum, length-map, length-take, length-range_with_len, sum_by-cons, sum_by-le, mul-le, nat_cmp, CHUNK_TREE, CONV_IMAGE_SUBVOL, CSUM_TREE, DATA_RELOC_TREE, DEV_TREE, EXTENT_TREE, FS_TREE, ROOT_TREE, Image, IsNodeSize, Item, tree_nodes, packed_leaves, tree_levels, level_pointers, lengths_of, pointers_to, pointer_to, Root, IsMaking, Making, chunk_slots, new_ids, slots, HasPieces, HasTrees, device_from, extents_from, file_tree_items, form, image_from, image_tree_items, nodes_from, nodes_of_others, relocation_from, root_from, root_tree_items, sum_tree_items, sums_from, used_bytes, VolumeTrees, sound, are_pieces, relocation_items, free_units, is_free_unit, unit_count, used_of, chunk_items, device_items, bytes_of_nodes, bytes_of_pieces, extent_items, merged_nodes, nodes_of_tree, TreeNode, length-merge, chunks_of, used_few, TreeStands, IsSoundPlan, need, nodes_in_unit, node_places, places_in, PlannedChunk}
+use Rattle.std.proofs.Common.{sum_by}
 use Rattle.convert_core.proofs.extent_pieces.Bounding.{filter_few}
-use Rattle.convert_core.specs.file_items.Small.{relocation_items}
-use Rattle.reiser_volume.specs.reiser_bitmap.Units.{free_units, is_free_unit, unit_count}
-use Rattle.reiser_volume.specs.Volume.{used_of}
-use Rattle.convert_core.specs.space_items.Chunks.{chunk_items, device_items}
-use Rattle.convert_core.specs.space_items.Extents.{bytes_of_nodes, bytes_of_pieces, extent_items}
-use Rattle.convert_core.specs.space_items.Nodes.{merged_nodes, nodes_of_tree}
-use Rattle.convert_core.specs.space_items.declared.node.TreeNode.{TreeNode}
 use Rattle.convert_core.proofs.space_items.Counting.{apart_counted, node_place, piece_bytes, piece_place, pieces_fit}
-use Rattle.convert_core.proofs.space_items.Merges.{length-merge}
-use Rattle.convert_trees_laws.proofs.Booting.{chunks_of, used_few}
-use Rattle.convert_core.specs.btr_tree_writer.Trees.{TreeStands}
-use Rattle.convert_core.specs.unit_plan.Laws.{IsSoundPlan}
-use Rattle.convert_core.specs.unit_plan.Needed.{need, nodes_in_unit}
-use Rattle.convert_core.specs.unit_plan.Places.{node_places, places_in}
-use Rattle.convert_core.specs.unit_plan.declared.chunk.Chunk.{Chunk}
 
 -- ---- the slots of units
 
@@ -98,7 +64,7 @@ levels_few generation level skip slots (n ∷ sizes) =
 
 tree_few : (owner nodesize : ℕ) (lengths slots : List ℕ) → length (nodes_of_tree owner nodesize lengths slots) ≤ tree_nodes nodesize lengths
 tree_few owner nodesize lengths slots =
-    let sizes : List ℕ = tree_levels nodesize (length (leaves nodesize lengths)) in
+    let sizes : List ℕ = tree_levels nodesize (length (packed_leaves nodesize lengths)) in
     let is = length-map (level_pointers 1 0 0 slots sizes) (λ p. let t : TreeNode = record { address = p.address; level = p.level; owner = owner } in t) in
     let few = levels_few 1 0 0 slots sizes in
     omega (arith, is, few)
@@ -140,7 +106,7 @@ module _ (image : Image) (m : Making) (made : IsMaking image m) (size : IsNodeSi
 
   module _ (other : Image) (r : VolumeTrees) (nodes : List TreeNode) (has : HasTrees image other other m r nodes) where
     -- the nodes of the root tree lie at the first slots behind the others
-    root_few : length (nodes_from m 1 (root_from r) (root_tree_items m r)) ≤ 2 ^ 37
+    root_few : length (nodes_from m ROOT_TREE (root_from r) (root_tree_items m r)) ≤ 2 ^ 37
     root_few =
         let most = tree_few 1 m.options.nodesize (lengths_of (root_tree_items m r)) (drop (root_from r) (slots m)) in
         let count = has.root.count in
@@ -164,30 +130,30 @@ module _ (image : Image) (m : Making) (made : IsMaking image m) (size : IsNodeSi
 
     pub nodes_few : length nodes ≤ 2 ^ 40
     nodes_few =
-        let saved = tree_fits other 256 (drop (image_from r) (slots m)) (image_tree_items m) r.image has.image_ (later_few (image_from r)) in
-        let relocation = tree_fits other (2 ^ 64 - 9) (drop (relocation_from r) (slots m)) (relocation_items m.now) r.relocation has.relocation (later_few (relocation_from r)) in
-        let sums = tree_fits other 7 (drop (sums_from r) (slots m)) (sum_tree_items other m) r.sums has.sums (later_few (sums_from r)) in
-        let device = tree_fits other 4 (drop (device_from r) (slots m)) (device_items (new_ids m) m.chunks) r.device has.device (later_few (device_from r)) in
-        let chunk = tree_fits other 3 (chunk_slots m) (chunk_items (new_ids m) m.volume.sup.blocks m.chunks) r.chunk has.chunk chunk_slots_few in
-        let extents = tree_fits other 2 (drop (extents_from r) (slots m)) (extent_items m.chunks m.pieces nodes m.options.nodesize) r.extents has.extents (later_few (extents_from r)) in
+        let saved = tree_fits other CONV_IMAGE_SUBVOL (drop (image_from r) (slots m)) (image_tree_items m) r.image has.image_ (later_few (image_from r)) in
+        let relocation = tree_fits other DATA_RELOC_TREE (drop (relocation_from r) (slots m)) (relocation_items m.now) r.relocation has.relocation (later_few (relocation_from r)) in
+        let sums = tree_fits other CSUM_TREE (drop (sums_from r) (slots m)) (sum_tree_items other m) r.sums has.sums (later_few (sums_from r)) in
+        let device = tree_fits other DEV_TREE (drop (device_from r) (slots m)) (device_items (new_ids m) m.chunks) r.device has.device (later_few (device_from r)) in
+        let chunk = tree_fits other CHUNK_TREE (chunk_slots m) (chunk_items (new_ids m) m.volume.sup.blocks m.chunks) r.chunk has.chunk chunk_slots_few in
+        let extents = tree_fits other EXTENT_TREE (drop (extents_from r) (slots m)) (extent_items m.chunks m.pieces nodes m.options.nodesize) r.extents has.extents (later_few (extents_from r)) in
         let first : length front ≤ 6 * 2 ^ 37 = six _ _ _ _ _ _ files saved relocation sums device root_few in
-        let inner = merge_few front (nodes_of_tree 3 m.options.nodesize (lengths_of (chunk_items (new_ids m) m.volume.sup.blocks m.chunks)) (chunk_slots m)) in
-        let all = merge_few (other_nodes image other m r) (nodes_from m 2 (extents_from r) (extent_items m.chunks m.pieces nodes m.options.nodesize)) in
+        let inner = merge_few front (nodes_of_tree CHUNK_TREE m.options.nodesize (lengths_of (chunk_items (new_ids m) m.volume.sup.blocks m.chunks)) (chunk_slots m)) in
+        let all = merge_few (nodes_of_others image other m r) (nodes_from m EXTENT_TREE (extents_from r) (extent_items m.chunks m.pieces nodes m.options.nodesize)) in
         let is = ap (λ (ns : List TreeNode). length ns) has.nodes_are.is in
         omega (arith, first, inner, all, is, chunk, extents)
       where
         front : List TreeNode
         front =
-            nodes_from m 5 0 (file_tree_items image m) ++ (nodes_from m 256 (image_from r) (image_tree_items m) ++ (nodes_from m (2 ^ 64 - 9) (relocation_from r) (relocation_items m.now)
-            ++ (nodes_from m 7 (sums_from r) (sum_tree_items other m) ++ (nodes_from m 4 (device_from r) (device_items (new_ids m) m.chunks) ++ nodes_from m 1 (root_from r) (root_tree_items m r)))))
+            nodes_from m FS_TREE 0 (file_tree_items image m) ++ (nodes_from m CONV_IMAGE_SUBVOL (image_from r) (image_tree_items m) ++ (nodes_from m DATA_RELOC_TREE (relocation_from r) (relocation_items m.now)
+            ++ (nodes_from m CSUM_TREE (sums_from r) (sum_tree_items other m) ++ (nodes_from m DEV_TREE (device_from r) (device_items (new_ids m) m.chunks) ++ nodes_from m ROOT_TREE (root_from r) (root_tree_items m r)))))
 
-        files : length (nodes_from m 5 0 (file_tree_items image m)) ≤ 2 ^ 37
-        files = tree_fits other 5 (slots m) (file_tree_items image m) r.files has.files slots_few
+        files : length (nodes_from m FS_TREE 0 (file_tree_items image m)) ≤ 2 ^ 37
+        files = tree_fits other FS_TREE (slots m) (file_tree_items image m) r.files has.files slots_few
 
-    sum_both : (f g : Chunk → ℕ) (cs : List Chunk) → sum_by (λ c. f c + g c) cs ≡ sum_by f cs + sum_by g cs
+    sum_both : (f g : PlannedChunk → ℕ) (cs : List PlannedChunk) → sum_by (λ c. f c + g c) cs ≡ sum_by f cs + sum_by g cs
     sum_both f g [] = refl
     sum_both f g (c ∷ cs) =
-        let all = sum_by-cons (λ (d : Chunk). f d + g d) c cs in
+        let all = sum_by-cons (λ (d : PlannedChunk). f d + g d) c cs in
         let first = sum_by-cons f c cs in
         let second = sum_by-cons g c cs in
         let rest = sum_both f g cs in
@@ -197,11 +163,11 @@ module _ (image : Image) (m : Making) (made : IsMaking image m) (size : IsNodeSi
     pub used_small : used_bytes m nodes < 2 ^ 64
     used_small =
         let both = sum_both (bytes_of_pieces m.pieces) (bytes_of_nodes nodes m.options.nodesize) m.chunks in
-        let behind : AllPairs (λ (c d : Chunk). 4096 * (c.start + c.length) ≤ 4096 * d.start) m.chunks = λ i j d order inside. let h = (chunks_of image m made).ascending i j d order inside in omega (arith, h) in
+        let behind : AllPairs (λ (c d : PlannedChunk). 4096 * (c.start + c.length) ≤ 4096 * d.start) m.chunks = λ i j d order inside. let h = (chunks_of image m made).ascending i j d order inside in omega (arith, h) in
         let of_pieces : sum_by (bytes_of_pieces m.pieces) m.chunks ≤ sum_by piece_bytes m.pieces =
-        apart_counted piece_place piece_bytes (λ (c : Chunk). 4096 * c.start) (λ (c : Chunk). 4096 * (c.start + c.length)) m.pieces m.chunks (λ c. omega arith) behind in
+        apart_counted piece_place piece_bytes (λ (c : PlannedChunk). 4096 * c.start) (λ (c : PlannedChunk). 4096 * (c.start + c.length)) m.pieces m.chunks (λ c. omega arith) behind in
         let of_nodes : sum_by (bytes_of_nodes nodes m.options.nodesize) m.chunks ≤ sum_by (λ (t : TreeNode). m.options.nodesize) nodes =
-        apart_counted node_place (λ (t : TreeNode). m.options.nodesize) (λ (c : Chunk). 4096 * c.start) (λ (c : Chunk). 4096 * (c.start + c.length)) nodes m.chunks (λ c. omega arith) behind in
+        apart_counted node_place (λ (t : TreeNode). m.options.nodesize) (λ (c : PlannedChunk). 4096 * c.start) (λ (c : PlannedChunk). 4096 * (c.start + c.length)) nodes m.chunks (λ c. omega arith) behind in
         let few = pieces_fit m.pieces (are_pieces m.volume image m.options m.plan m.pieces of) in
         let each = sum_by-le (λ (t : TreeNode). m.options.nodesize) 65536 nodes (λ k d inside. size_small m.options.nodesize size) in
         let count = nodes_few in

@@ -1,70 +1,23 @@
 -- A converted volume is opened.
-use Rattle.std.proofs.Common.{◌≡◌, ◌⊎◌, ◌≤◌, ◌<◌, ℕ, ◌+◌, ◌-◌, ◌^◌, inl, inr, true, false, List, [], ◌++◌, length, map, take, drop, get_or, replicate, Option, Some, Ok, refl, sym, ap, subst, ◌∙◌, ⊎_elim, arith}
-use Rattle.std.specs.Prelude.{All, AllPairs, Contains}
-use Rattle.std.specs.List.{flat_map}
-use Rattle.std.proofs.lemmas.Bool.{both_ways, cases_lt}
-use Rattle.std.proofs.lemmas.List.{get_or_default}
-use Rattle.std.proofs.lemmas.List.Elements.{All-drop, All-take}
-use Rattle.std.proofs.lemmas.List.Kept.{AllPairs-filter}
-use Rattle.std.proofs.lemmas.Simd.{map-map}
-use Rattle.reiser_volume.proofs.fs_paths.Lists.{from_filter, in_filter}
-use Rattle.reiser_volume.specs.outside.History.{Image}
-use Rattle.reiser_volume.specs.refusals.declared.refusal.BtrRefusal.{BtrRefusal}
-use Rattle.reiser_volume.specs.vol_block.declared.ids.Ids.{Ids}
-use Rattle.btr_reader.specs.btr_node.Leaf.{Item}
-use Rattle.btr_reader.specs.btr_node.NodeSize.{IsNodeSize}
-use Rattle.btr_reader.specs.csum_kinds.declared.kind.SumKind.{SumKind}
-use Rattle.btr_reader.specs.csum_kinds.declared.kind.SumKind.TheVariants.{Crc32c}
-use Rattle.btr_reader.specs.Chunks.{chunks_refusals, items_refusals, range_of, with_items}
-use Rattle.btr_reader.specs.Laws.{array_entry}
-use Rattle.btr_reader.specs.Opening.{IsOpened, boot_chunks, boot_list, boot_refusals, chunk_tree, form_of, map_from, opening_refusals, or_later, refusals_after, root_tree, super_on, tree_of, trees_refusals}
-use Rattle.btr_reader.specs.declared.chunk.ChunkAt.{ChunkAt}
-use Rattle.btr_reader.proofs.ArrayBack.{arrays_read_back}
-use Rattle.btr_reader.specs.btr_super.declared.superblock.Super.{Super}
-use Rattle.convert_core.specs.btr_tree.Laws.{GivesItself}
-use Rattle.convert_core.specs.btr_tree.declared.climb.Root.{Root}
-use Rattle.btr_reader.specs.btr_reader_walk.Tree.{bare_item}
-use Rattle.btr_reader.specs.btr_reader_walk.Walks.{found, wrong}
-use Rattle.btr_reader.specs.btr_reader_walk.declared.map.MapRange.{MapRange}
-use Rattle.btr_reader.specs.btr_reader_walk.declared.tree.Form.{Form}
-use Rattle.btr_reader.specs.btr_reader_walk.declared.tree.Pointer.{Pointer}
-use Rattle.btr_reader.specs.btr_reader_walk.declared.tree.Tree.{Tree}
-use Rattle.convert_core.specs.convert_steps.Making.{IsMaking, Making, chunk_slots, new_ids, slots}
-use Rattle.convert_core.specs.convert_steps.Standing.{HasTrees, form, root_from, root_tree_items}
-use Rattle.convert_core.specs.convert_steps.declared.trees.VolumeTrees.{VolumeTrees}
-use Rattle.convert_core.proofs.Wholeness.{blocks_inside}
-use Rattle.convert_core.specs.convert_steps.Superblock.{boot_bytes, is_system_role, new_super}
-use Rattle.convert_core.proofs.extent_pieces.Lists.{all_at}
-use Rattle.reiser_volume.proofs.reiser_bitmap.Ranges.{all_from_contains}
-use Rattle.reiser_volume.specs.Volume.{used_of}
-use Rattle.convert_core.specs.space_items.Chunks.{chunk_items}
-use Rattle.convert_core.specs.space_items.declared.node.TreeNode.{TreeNode}
-use Rattle.convert_core.proofs.space_items.ChunkLists.{chunk_ends}
-use Rattle.convert_trees_laws.proofs.Booting.{blocks_are, chunks_of, used_few}
-use Rattle.convert_core.specs.btr_tree_writer.Trees.{TreeStands, root_pointer}
-use Rattle.convert_core.specs.unit_plan.Chunks.{AreChunks, IsChunk, role_of, usable_end}
-use Rattle.convert_core.specs.unit_plan.declared.chunk.Chunk.{Chunk}
-use Rattle.convert_core.specs.convert_options.declared.options.Options.{Options}
-use Rattle.convert_core_laws.specs.reading.Laws.{ChunksMap, MapsChunks}
-use Rattle.convert_core_laws.specs.reading.Opened.{IsNewVolume, boot_part, chunk_at, map_for, range_for, super_for}
+use Rattle.convert_core_laws.proofs.Imports.{◌≡◌, ◌⊎◌, ◌≤◌, ◌<◌, ℕ, ◌+◌, ◌-◌, ◌^◌, inl, inr, true, false, List, [], ◌++◌, length, map, take, drop, get_or, replicate, Option, Some, Ok, refl, sym, ap, subst, ◌∙◌, ⊎_elim, arith, All, AllPairs, Contains, unwrap_or, flat_map, both_ways, cases_lt, get_or_default, All-drop, All-take, AllPairs-filter, map-map, CHUNK_TREE, ROOT_TREE, from_filter, in_filter, Image, BtrRefusal, Ids, Item, IsNodeSize, SumKind, Crc32c, csum_number, known_kind, chunks_refusals, items_refusals, range_of, with_items, array_entry, IsBtrfsOpened, boot_chunks, boot_list, boot_refusals, chunk_tree, form_of, map_from, opening_refusals, or_later, refusals_after, root_tree, super_on, tree_of, trees_refusals, ChunkAt, arrays_read_back, Super, GivesItself, Root, bare_item, found, wrong, MapRange, Form, NodePointer, Tree, IsMaking, Making, chunk_slots, new_ids, slots, HasTrees, form, root_from, root_tree_items, VolumeTrees, blocks_inside, boot_bytes, is_system_role, new_super, all_at, all_from_contains, used_of, chunk_items, TreeNode, chunk_ends, blocks_are, chunks_of, used_few, TreeStands, pointer_to_root, AreChunks, IsChunk, role_of, usable_end, PlannedChunk, Options, ChunksMap, MapsChunks, IsNewVolume, boot_part, chunk_at, map_for, range_for, super_for, known-number}
 use Rattle.convert_core_laws.proofs.reading.Chunks.{AreApart, AreRead, Come, LiesOn, all_fit, array_sound, entries_are, tree_read}
 use Rattle.convert_core_laws.proofs.reading.Mapped.{all_itself, boot_nodes, ranges_are as are_ranges_of}
 use Rattle.convert_core_laws.proofs.reading.Stood.{IsRead, read_by}
-use Rattle.convert_core_laws.proofs.reading.Superblock.{size, super_reads}
+use Rattle.convert_core_laws.proofs.reading.Superblock.{size, super_reads, own_fsid}
 
 -- two chunks of a list that ascends lie apart, or are one
-two_of : (cs : List Chunk) (c d : Chunk) → AllPairs (λ c d. c.start + c.length ≤ d.start) cs → Contains cs c → Contains cs d → (c ≡ d) ⊎ AreApart c d
+two_of : (cs : List PlannedChunk) (c d : PlannedChunk) → AllPairs (λ c d. c.start + c.length ≤ d.start) cs → Contains cs c → Contains cs d → (c ≡ d) ⊎ AreApart c d
 two_of cs c d ascend h k =
     ⊎_elim (λ (less : h.0 < k.0). inr (inl (before c d h k less)))
     (λ (rest : k.0 ≤ h.0). ⊎_elim (λ (more : k.0 < h.0). inr (inr (before d c k h more)))
     (λ (end : h.0 ≤ k.0). let at : h.0 ≡ k.0 = omega arith in inl (sym h.2 ∙ (ap (λ (i : ℕ). get_or cs i c) at ∙ (get_or_default cs k.0 c d k.1 ∙ k.2)))) (cases_lt k.0 h.0))
     (cases_lt h.0 k.0)
   where
-    before : (a b : Chunk) (i : Contains cs a) (j : Contains cs b) → i.0 < j.0 → a.start + a.length ≤ b.start
+    before : (a b : PlannedChunk) (i : Contains cs a) (j : Contains cs b) → i.0 < j.0 → a.start + a.length ≤ b.start
     before a b i j less =
         let up : (get_or cs i.0 a).start + (get_or cs i.0 a).length ≤ (get_or cs j.0 a).start = ascend i.0 j.0 a less j.1 in
         let same : get_or cs j.0 a ≡ b = get_or_default cs j.0 a b j.1 ∙ j.2 in
-        subst (λ (x : Chunk). a.start + a.length ≤ x.start) same (subst (λ (x : Chunk). x.start + x.length ≤ (get_or cs j.0 a).start) i.2 up)
+        subst (λ (x : PlannedChunk). a.start + a.length ≤ x.start) same (subst (λ (x : PlannedChunk). x.start + x.length ≤ (get_or cs j.0 a).start) i.2 up)
 
 -- ---- fields of the superblock
 
@@ -77,35 +30,38 @@ module _ (m : Making) (r : VolumeTrees) (nodes : List TreeNode) where
   unfolding new_super
   array_size = refl
 
-  only_kind : (kind : SumKind) → Crc32c ≡ kind
-  only_kind Crc32c = refl
+  kind_is : unwrap_or (known_kind (csum_number m.options.sums)) Crc32c ≡ m.options.sums
+  kind_is = ap (λ (known : Option SumKind). unwrap_or known Crc32c) (known-number m.options.sums)
 
   form_is : form_of (super_for m r nodes) ≡ form m
   unfolding new_super
-  form_is = ap (λ (kind : SumKind). let f : Form = record { fsid = (new_ids m).fsid; nodesize = m.options.nodesize; sums = kind } in f) (only_kind m.options.sums)
+  form_is =
+      ap (λ (id : List ℕ). let f : Form = record { fsid = id; nodesize = m.options.nodesize; sums = unwrap_or (known_kind (csum_number m.options.sums)) Crc32c } in f)
+      (own_fsid m r nodes)
+      ∙ ap (λ (kind : SumKind). let f : Form = record { fsid = (new_ids m).fsid; nodesize = m.options.nodesize; sums = kind } in f) kind_is
 
-  abbrev tree_by : Form → ℕ → Pointer → Tree
+  abbrev tree_by : Form → ℕ → NodePointer → Tree
   tree_by f owner root = record { form = f; root = root; owner = owner }
 
-  pub tree_is : (owner : ℕ) (p : Pointer) → tree_of (super_for m r nodes) owner p ≡ tree_by (form m) owner p
+  pub tree_is : (owner : ℕ) (p : NodePointer) → tree_of (super_for m r nodes) owner p ≡ tree_by (form m) owner p
   tree_is owner p = ap (λ (f : Form). tree_by f owner p) form_is
 
-  chunk_root_is : chunk_tree (super_for m r nodes) ≡ tree_of (super_for m r nodes) 3 (root_pointer r.chunk)
+  chunk_root_is : chunk_tree (super_for m r nodes) ≡ tree_of (super_for m r nodes) CHUNK_TREE (pointer_to_root r.chunk)
   unfolding new_super
   chunk_root_is = refl
 
-  chunk_tree_is : chunk_tree (super_for m r nodes) ≡ tree_by (form m) 3 (root_pointer r.chunk)
-  chunk_tree_is = chunk_root_is ∙ tree_is 3 (root_pointer r.chunk)
+  chunk_tree_is : chunk_tree (super_for m r nodes) ≡ tree_by (form m) CHUNK_TREE (pointer_to_root r.chunk)
+  chunk_tree_is = chunk_root_is ∙ tree_is CHUNK_TREE (pointer_to_root r.chunk)
 
-  root_is : root_tree (super_for m r nodes) ≡ tree_of (super_for m r nodes) 1 (root_pointer r.root)
+  root_is : root_tree (super_for m r nodes) ≡ tree_of (super_for m r nodes) ROOT_TREE (pointer_to_root r.root)
   unfolding new_super
   root_is = refl
 
-  root_tree_is : root_tree (super_for m r nodes) ≡ tree_by (form m) 1 (root_pointer r.root)
-  root_tree_is = root_is ∙ tree_is 1 (root_pointer r.root)
+  root_tree_is : root_tree (super_for m r nodes) ≡ tree_by (form m) ROOT_TREE (pointer_to_root r.root)
+  root_tree_is = root_is ∙ tree_is ROOT_TREE (pointer_to_root r.root)
 
   -- a tree that is read, by the superblock
-  pub by_tree : (image : Image) (ranges : List MapRange) (t : Tree) (owner : ℕ) (p : Pointer) (items : List Item) → t ≡ tree_by (form m) owner p → IsRead image ranges (form m) p owner items
+  pub by_tree : (image : Image) (ranges : List MapRange) (t : Tree) (owner : ℕ) (p : NodePointer) (items : List Item) → t ≡ tree_by (form m) owner p → IsRead image ranges (form m) p owner items
       → (wrong image ranges t ≡ []) × (map bare_item (found image ranges t) ≡ items)
   by_tree image ranges t owner p items is read = (ap (wrong image ranges) is ∙ read.sound, ap (λ (u : Tree). map bare_item (found image ranges u)) is ∙ read.items_are)
 
@@ -125,7 +81,7 @@ trees_none image s boot ranges all is chunk items with root =
     )
 
 opened_by : (image : Image) (s : Super) (boot : List ChunkAt) (all : List MapRange) → super_on image ≡ Ok s → boot_chunks s ≡ Some boot → chunks_refusals (length image) [] boot ≡ [] → trees_refusals image s boot ≡ [] → map_from image s boot ≡ all
-    → IsOpened image s all
+    → IsBtrfsOpened image s all
 unfolding opening_refusals
 opened_by image s boot all read array sound trees map_is = record {
   sound =
@@ -158,13 +114,13 @@ module _ (o : Options) (ids : Ids) (now : ℕ) (image other : Image) (m : Making
   are_chunks : AreChunks m.plan volume m.chunks
   are_chunks = chunks_of image m making
 
-  low_end : (c : Chunk) → Contains m.chunks c → c.start + c.length ≤ volume
-  low_end c h = all_at (λ (d : Chunk). d.start + d.length ≤ volume) m.chunks c (chunk_ends m.plan volume m.chunks are_chunks) h
+  low_end : (c : PlannedChunk) → Contains m.chunks c → c.start + c.length ≤ volume
+  low_end c h = all_at (λ (d : PlannedChunk). d.start + d.length ≤ volume) m.chunks c (chunk_ends m.plan volume m.chunks are_chunks) h
 
-  small : (c : Chunk) → Contains m.chunks c → c.start + c.length ≤ 2 ^ 29
+  small : (c : PlannedChunk) → Contains m.chunks c → c.start + c.length ≤ 2 ^ 29
   small c h = let end = low_end c h in let few = used_few image m making in omega (arith, end, few)
 
-  lies : (c : Chunk) → Contains m.chunks c → LiesOn (length other) c
+  lies : (c : PlannedChunk) → Contains m.chunks c → LiesOn (length other) c
   lies c h =
       let is : IsChunk (role_of m.plan volume) (usable_end volume) c = all_at (IsChunk (role_of m.plan volume) (usable_end volume)) m.chunks c are_chunks.each h in
       let end = low_end c h in
@@ -177,25 +133,25 @@ module _ (o : Options) (ids : Ids) (now : ℕ) (image other : Image) (m : Making
   boot_is =
       let bytes : flat_map array_entry boot ≡ boot_bytes (new_ids m) m.chunks = entries_are (new_ids m) (boot_part m.chunks) in
       let rest : List ℕ = replicate (2048 - length (boot_bytes (new_ids m) m.chunks)) 0 in
-      arrays_read_back s boot rest (all_fit (new_ids m) (boot_part m.chunks) v.ids_.device (λ c h. small c (from_filter (λ (d : Chunk). is_system_role d.role) m.chunks c h).0))
+      arrays_read_back s boot rest (all_fit (new_ids m) (boot_part m.chunks) v.ids_.device (λ c h. small c (from_filter (λ (d : PlannedChunk). is_system_role d.role) m.chunks c h).0))
       (array_is m r nodes ∙ ap (λ (l : List ℕ). l ++ rest) (sym bytes)) (array_size m r nodes ∙ ap (λ (l : List ℕ). length l) (sym bytes))
 
   ranges_are : map range_of boot ≡ map range_for (boot_part m.chunks)
   ranges_are = map-map range_of (chunk_at (new_ids m)) (boot_part m.chunks)
 
   -- a chunk of the array and another lie apart
-  parts_apart : (c d : Chunk) → Contains m.chunks c → is_system_role c.role ≡ false → Contains (boot_part m.chunks) d → (1 ≤ d.length) × AreApart c d
+  parts_apart : (c d : PlannedChunk) → Contains m.chunks c → is_system_role c.role ≡ false → Contains (boot_part m.chunks) d → (1 ≤ d.length) × AreApart c d
   parts_apart c d h f k =
-      let of = from_filter (λ (e : Chunk). is_system_role e.role) m.chunks d k in (
+      let of = from_filter (λ (e : PlannedChunk). is_system_role e.role) m.chunks d k in (
         (lies d of.0).some,
-        ⊎_elim (λ (same : c ≡ d). absurd (both_ways (is_system_role c.role) f (subst (λ (e : Chunk). is_system_role e.role ≡ true) (sym same) of.1))) (λ apart. apart) (two_of m.chunks c d are_chunks.ascending h of.0),
+        ⊎_elim (λ (same : c ≡ d). absurd (both_ways (is_system_role c.role) f (subst (λ (e : PlannedChunk). is_system_role e.role ≡ true) (sym same) of.1))) (λ apart. apart) (two_of m.chunks c d are_chunks.ascending h of.0),
       )
 
   come : Come (new_ids m) (length other) (boot_part m.chunks) v.ids_.device (boot_part m.chunks) m.chunks
   come = record {
     small = small;
     lie = lies;
-    booted = λ c h t. in_filter (λ (d : Chunk). is_system_role d.role) m.chunks c h t;
+    booted = λ c h t. in_filter (λ (d : PlannedChunk). is_system_role d.role) m.chunks c h t;
     others = parts_apart;
     apart = λ c d h f k. (parts_apart c d h f k).1;
     ascend = are_chunks.ascending;
@@ -203,8 +159,8 @@ module _ (o : Options) (ids : Ids) (now : ℕ) (image other : Image) (m : Making
 
   chunk_read : (wrong other (map range_for (boot_part m.chunks)) (chunk_tree s) ≡ []) × (map bare_item (found other (map range_for (boot_part m.chunks)) (chunk_tree s)) ≡ chunk_items (new_ids m) m.volume.sup.blocks m.chunks)
   chunk_read =
-      by_tree m r nodes other (map range_for (boot_part m.chunks)) (chunk_tree s) 3 (root_pointer r.chunk) (chunk_items (new_ids m) m.volume.sup.blocks m.chunks) (chunk_tree_is m r nodes)
-      (read_by other (form m) 3 (chunk_slots m) (chunk_items (new_ids m) m.volume.sup.blocks m.chunks) r.chunk trees.chunk (map range_for (boot_part m.chunks))
+      by_tree m r nodes other (map range_for (boot_part m.chunks)) (chunk_tree s) CHUNK_TREE (pointer_to_root r.chunk) (chunk_items (new_ids m) m.volume.sup.blocks m.chunks) (chunk_tree_is m r nodes)
+      (read_by other (form m) CHUNK_TREE (chunk_slots m) (chunk_items (new_ids m) m.volume.sup.blocks m.chunks) r.chunk trees.chunk (map range_for (boot_part m.chunks))
       (all_from_contains (GivesItself (map range_for (boot_part m.chunks)) m.options.nodesize) (chunk_slots m) (boot_nodes image m making fit_size)))
 
   items_read : AreRead (new_ids m) (length other) (boot_part m.chunks) v.ids_.device (boot_part m.chunks) m.chunks (found other (map range_for (boot_part m.chunks)) (chunk_tree s))
@@ -215,30 +171,30 @@ module _ (o : Options) (ids : Ids) (now : ℕ) (image other : Image) (m : Making
   pub slots_give : All (GivesItself (map_for m.chunks) m.options.nodesize) (slots m)
   slots_give = all_from_contains (GivesItself (map_for m.chunks) m.options.nodesize) (slots m) (all_itself image m making fit_size).nodes
 
-  pub later_read : (owner k : ℕ) (items : List Item) (root : Root) → TreeStands other (form m) owner (drop k (slots m)) items root → (wrong other (map_for m.chunks) (tree_of (super_for m r nodes) owner (root_pointer root)) ≡ [])
-      × (map bare_item (found other (map_for m.chunks) (tree_of (super_for m r nodes) owner (root_pointer root))) ≡ items)
+  pub later_read : (owner k : ℕ) (items : List Item) (root : Root) → TreeStands other (form m) owner (drop k (slots m)) items root → (wrong other (map_for m.chunks) (tree_of (super_for m r nodes) owner (pointer_to_root root)) ≡ [])
+      × (map bare_item (found other (map_for m.chunks) (tree_of (super_for m r nodes) owner (pointer_to_root root))) ≡ items)
   later_read owner k items root stands =
-      by_tree m r nodes other (map_for m.chunks) (tree_of s owner (root_pointer root)) owner (root_pointer root) items (tree_is m r nodes owner (root_pointer root))
+      by_tree m r nodes other (map_for m.chunks) (tree_of s owner (pointer_to_root root)) owner (pointer_to_root root) items (tree_is m r nodes owner (pointer_to_root root))
       (read_by other (form m) owner (drop k (slots m)) items root stands (map_for m.chunks) (All-drop (GivesItself (map_for m.chunks) m.options.nodesize) k (slots m) slots_give))
 
   pub root_read : (wrong other (map_for m.chunks) (root_tree (super_for m r nodes)) ≡ []) × (map bare_item (found other (map_for m.chunks) (root_tree (super_for m r nodes))) ≡ root_tree_items m r)
   root_read =
-      by_tree m r nodes other (map_for m.chunks) (root_tree s) 1 (root_pointer r.root) (root_tree_items m r) (root_tree_is m r nodes)
-      (read_by other (form m) 1 (take r.root.nodes (drop (root_from r) (slots m))) (root_tree_items m r) r.root trees.root (map_for m.chunks)
+      by_tree m r nodes other (map_for m.chunks) (root_tree s) ROOT_TREE (pointer_to_root r.root) (root_tree_items m r) (root_tree_is m r nodes)
+      (read_by other (form m) ROOT_TREE (take r.root.nodes (drop (root_from r) (slots m))) (root_tree_items m r) r.root trees.root (map_for m.chunks)
       (All-take (GivesItself (map_for m.chunks) m.options.nodesize) r.root.nodes (drop (root_from r) (slots m)) (All-drop (GivesItself (map_for m.chunks) m.options.nodesize) (root_from r) (slots m) slots_give)))
 
   whole : (trees_refusals other s boot ≡ []) × (map_from other s boot ≡ map_for m.chunks)
   whole =
       trees_none other s boot (map range_for (boot_part m.chunks)) (map_for m.chunks) ranges_are chunk_read.0 items_read.sound items_read.map_is root_read.0
 
-  pub opened : IsOpened other (super_for m r nodes) (map_for m.chunks)
+  pub opened : IsBtrfsOpened other (super_for m r nodes) (map_for m.chunks)
   opened =
       opened_by other s boot (map_for m.chunks) (super_reads o ids now image other m r nodes v) boot_is
-      (array_sound (new_ids m) (length other) [] (boot_part m.chunks) (λ c h. lies c (from_filter (λ (d : Chunk). is_system_role d.role) m.chunks c h).0) (λ c d h k. absurd (omega (arith, k.1))) parts_ascend)
+      (array_sound (new_ids m) (length other) [] (boot_part m.chunks) (λ c h. lies c (from_filter (λ (d : PlannedChunk). is_system_role d.role) m.chunks c h).0) (λ c d h k. absurd (omega (arith, k.1))) parts_ascend)
       whole.0 whole.1
     where
       parts_ascend : AllPairs (λ c d. c.start + c.length ≤ d.start) (boot_part m.chunks)
-      parts_ascend = AllPairs-filter (λ (c d : Chunk). c.start + c.length ≤ d.start) (λ (d : Chunk). is_system_role d.role) m.chunks are_chunks.ascending
+      parts_ascend = AllPairs-filter (λ (c d : PlannedChunk). c.start + c.length ≤ d.start) (λ (d : PlannedChunk). is_system_role d.role) m.chunks are_chunks.ascending
 
   pub maps_chunks : MapsChunks other m r nodes
   maps_chunks = record { boot = boot_is; map_is = sym opened.map_is; ranges = are_ranges_of m.chunks; own = all_itself image m making fit_size }

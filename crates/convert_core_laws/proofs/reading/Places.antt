@@ -1,56 +1,25 @@
 -- Each block of a node and of a piece lies in a chunk.
-use Rattle.std.proofs.Common.{◌≡◌, ◌≢◌, ◌≤◌, ◌<◌, ℕ, ◌+◌, ◌-◌, ◌*◌, ◌/◌, inl, inr, ◌||◌, Bool, true, false, List, length, zero, suc, Some, None, refl, sym, subst, ◌∙◌, ⊎_elim, arith}
-use Rattle.std.specs.Prelude.{Contains, if◌then◌else◌, not}
-use Rattle.std.specs.List.{range_with_len}
-use Rattle.std.proofs.lemmas.Bool.{and_from, cases_Bool, cases_lt, not_from_false, or_left, or_right}
-use Rattle.std.proofs.lemmas.List.Folds.{list_any-from_Any}
-use Rattle.reiser_volume.specs.vol_block.Volume.{IsReserved, is_reserved}
-use Rattle.reiser_volume.proofs.vol_block.Reserved.{decides_reserved}
-use Rattle.reiser_volume.specs.outside.History.{Image}
-use Rattle.btr_reader.specs.btr_node.NodeSize.{IsNodeSize}
-use Rattle.convert_core.specs.btr_tree.Writing.{IsInSlots}
-use Rattle.reiser_volume.specs.reiser_bitmap.Bits.{has}
-use Rattle.reiser_volume.specs.reiser_bitmap.Units.{IsFreeUnit}
-use Rattle.reiser_volume.proofs.reiser_bitmap.Ranges.{contains_range}
-use Rattle.reiser_volume.specs.Volume.{used_of}
-use Rattle.convert_core.specs.extent_pieces.Laws.{LieWell, LiesInUnit}
-use Rattle.convert_core.proofs.extent_pieces.Lists.{all_at, any_from}
-use Rattle.convert_core.specs.unit_plan.Choice.{holds_data, is_among, is_data}
-use Rattle.convert_core.specs.unit_plan.Chunks.{AreChunks, HoldsUnit, IsChunk, is_data_unit, role_of, usable_end, use_of}
-use Rattle.convert_core.specs.unit_plan.Needed.{need}
-use Rattle.convert_core.specs.unit_plan.Laws.{IsSoundPlan}
-use Rattle.convert_core.specs.unit_plan.declared.chunk.Chunk.{Chunk}
-use Rattle.convert_core.specs.unit_plan.declared.chunk.Role.{Role}
-use Rattle.convert_core.specs.unit_plan.declared.chunk.Role.TheVariants.{System, Metadata, Data}
-use Rattle.convert_core.specs.unit_plan.declared.piece.Piece.{Piece}
-use Rattle.convert_core.proofs.unit_plan.Starts.{contains_among}
-use Rattle.convert_core.proofs.unit_plan.Uses.{free_of, role_is}
-use Rattle.convert_core.specs.convert_steps.Making.{IsMaking, Making, chunk_slots, slots}
-use Rattle.convert_core.specs.convert_steps.Source.{HasPieces}
-use Rattle.convert_core.specs.Converted.{IsFree}
-use Rattle.convert_core.proofs.Moving.{can_move, metadata_free, sound, stays_or_moves, system_free, well}
-use Rattle.convert_core.proofs.Reserved.{piece_apart}
-use Rattle.convert_core.proofs.Slots.{slot_unit}
-use Rattle.convert_trees_laws.proofs.Booting.{chunks_of}
+use Rattle.convert_core_laws.proofs.Imports.{◌≡◌, ◌≢◌, ◌≤◌, ◌<◌, ℕ, ◌+◌, ◌-◌, ◌*◌, ◌/◌, inl, inr, ◌||◌, Bool, true, false, List, length, zero, suc, Some, None, refl, sym, subst, ◌∙◌, ⊎_elim, arith, Contains, if◌then◌else◌, range_with_len, and_from, cases_Bool, cases_lt, not_from_false, or_left, or_right, list_any-from_Any, IsReserved, is_reserved, decides_reserved, Image, IsNodeSize, IsInSlots, has, IsFreeUnit, contains_range, used_of, LieWell, LiesInUnit, all_at, any_from, holds_data, is_among, is_data, AreChunks, HoldsUnit, IsChunk, is_data_unit, is_filler, role_of, usable_end, use_of, need, IsSoundPlan, PlannedChunk, Role, System, Metadata, Data, Piece, contains_among, free_of, role_is, IsMaking, Making, chunk_slots, slots, HasPieces, IsFree, can_move, metadata_free, sound, stays_or_moves, system_free, well, piece_apart, slot_unit, chunks_of}
+use Rattle.std.specs.Prelude.{not}
 
 -- a chunk holds the block
-pub record HasBlock (chunks : List Chunk) (b : ℕ) : Type 0 where
-  pub chunk : Chunk
+pub record HasBlock (chunks : List PlannedChunk) (b : ℕ) : Type 0 where
+  pub chunk : PlannedChunk
   pub among : Contains chunks chunk
   pub low : chunk.start ≤ b
   pub high : b < chunk.start + chunk.length
 
 -- and has this role
-pub record HasBlockOf (role : Role) (chunks : List Chunk) (b : ℕ) : Type 0 where
+pub record HasBlockOf (role : Role) (chunks : List PlannedChunk) (b : ℕ) : Type 0 where
   pub has : HasBlock chunks b
   pub role_is : has.chunk.role ≡ role
 
 -- a unit that is used for something
-by_uses : (s m d : Bool) → (s || (m || d)) ≡ true → (role : Role) × ((if s then Some System else if m then Some Metadata else if d then Some Data else None) ≡ Some role)
-by_uses true m d t = (System, refl)
-by_uses false true d t = (Metadata, refl)
-by_uses false false true t = (Data, refl)
-by_uses false false false t = absurd (cc)
+by_uses : (s m d f : Bool) → (s || (m || d)) ≡ true → (role : Role) × ((if s then Some System else if m then Some Metadata else if d || f then Some Data else None) ≡ Some role)
+by_uses true m d f t = (System, refl)
+by_uses false true d f t = (Metadata, refl)
+by_uses false false true f t = (Data, refl)
+by_uses false false false f t = absurd (cc)
 
 some_role : (a b : Role) → Some a ≡ Some b → a ≡ b
 some_role a b is = cc
@@ -80,7 +49,7 @@ module _ (image : Image) (m : Making) (made : IsMaking image m) where
   in_role role b is inside =
       let are : AreChunks m.plan n m.chunks = chunks_of image m made in
       let at = are.whole (b / 256) role is in
-      let c : Chunk = at.1 in
+      let c : PlannedChunk = at.1 in
       let among : Contains m.chunks c = (at.0, at.2, at.3) in
       let holds : HoldsUnit c (b / 256) = at.4 in
       let chunk : IsChunk (role_of m.plan n) (usable_end n) c = all_at (IsChunk (role_of m.plan n) (usable_end n)) m.chunks c are.each among in
@@ -109,7 +78,7 @@ module _ (image : Image) (m : Making) (made : IsMaking image m) where
   -- a block of a unit that is used
   in_use : (b : ℕ) → 1 ≤ b / 256 → b < usable_end n → (is_among m.plan.system (b / 256) || (is_among m.plan.metadata (b / 256) || is_data_unit used m.plan (b / 256))) ≡ true → HasBlock m.chunks b
   in_use b some inside t =
-      let role = by_uses (is_among m.plan.system (b / 256)) (is_among m.plan.metadata (b / 256)) (is_data_unit used m.plan (b / 256)) t in
+      let role = by_uses (is_among m.plan.system (b / 256)) (is_among m.plan.metadata (b / 256)) (is_data_unit used m.plan (b / 256)) (is_filler used m.plan (b / 256)) t in
       let is : role_of m.plan n (b / 256) ≡ Some role.0 = role_is used (need of.found.counts m.options) m.plan plan_sound (b / 256) some ∙ role.1 in
       (in_role role.0 b is inside).has
 

@@ -1,41 +1,5 @@
 -- The trees of a converted volume are read, and it is readable.
-use Rattle.std.proofs.Common.{◌≡◌, ◌⊎◌, ◌≤◌, ◌<◌, ℕ, ◌^◌, ◌-◌, inl, inr, List, [], ◌∷◌, map, drop, length, Option, Some, None, Ok, Err, sym, ap, subst, ◌∙◌, ⊎_elim, arith, length-drop}
-use Rattle.std.specs.Prelude.{Contains}
-use Rattle.std.proofs.lemmas.List.Elements.{All-drop}
-use Rattle.reiser_volume.specs.outside.History.{Image}
-use Rattle.reiser_volume.specs.refusals.declared.refusal.BtrRefusal.{BtrRefusal}
-use Rattle.reiser_volume.specs.vol_block.declared.ids.Ids.{Ids}
-use Rattle.btr_reader.specs.btr_reader_names.Roots.{has_root}
-use Rattle.btr_reader.specs.btr_reader_names.Rules.{BreaksNames}
-use Rattle.btr_reader.specs.btr_node.Leaf.{Item}
-use Rattle.btr_reader.specs.Opening.{chunk_map, opening_refusals, tree_of}
-use Rattle.btr_reader.specs.Parts.{own_map, own_super}
-use Rattle.btr_reader.specs.Roots.{pointer_of, root_item}
-use Rattle.btr_reader.specs.Rows.{BreaksExtents, IsTreeRefusal, roots_on, no_root_item, bad_root_item, bad_tree, bad_names, bad_extents}
-use Rattle.btr_reader.specs.btr_super.declared.superblock.Super.{Super}
-use Rattle.btr_reader.specs.btr_super.Rules.{super_refusals, unless_refused, super_of}
-use Rattle.btr_reader.specs.btr_super.Super.{super_in}
-use Rattle.convert_core.specs.btr_tree.declared.climb.Root.{Root}
-use Rattle.btr_reader.specs.btr_reader_walk.Events.{TreeItem}
-use Rattle.btr_reader.specs.btr_reader_walk.Tree.{bare_item}
-use Rattle.btr_reader.specs.btr_reader_walk.Walks.{found, wrong}
-use Rattle.btr_reader.specs.btr_reader_walk.declared.map.MapRange.{MapRange}
-use Rattle.btr_reader.specs.btr_reader_walk.declared.tree.Pointer.{Pointer}
-use Rattle.convert_core.specs.convert_steps.Making.{IsMaking, Making, new_ids, saved_index, slots}
-use Rattle.convert_core.specs.convert_steps.Standing.{HasTrees, device_from, extents_from, file_tree_items, form, image_from, image_tree_items, relocation_from, root_tree_items, sum_tree_items, sums_from}
-use Rattle.convert_core.specs.convert_steps.declared.trees.VolumeTrees.{VolumeTrees}
-use Rattle.convert_core.specs.file_items.Small.{relocation_items}
-use Rattle.reiser_volume.specs.outside.History.{block_at}
-use Rattle.reiser_volume.proofs.reiser_bitmap.Ranges.{all_from_contains}
-use Rattle.convert_core.specs.space_items.Chunks.{device_items}
-use Rattle.convert_core.specs.space_items.Extents.{extent_items}
-use Rattle.convert_core.specs.space_items.Roots.{root_item as item_of_root}
-use Rattle.convert_core.specs.space_items.declared.node.TreeNode.{TreeNode}
-use Rattle.convert_core.specs.space_items.declared.node.TreeRoot.{TreeRoot}
-use Rattle.convert_core.specs.btr_tree_writer.Trees.{TreeStands, root_pointer}
-use Rattle.convert_core.specs.convert_options.declared.options.Options.{Options}
-use Rattle.convert_core_laws.specs.reading.Laws.{ConvertedIsReadable, IsReadableWithTrees, OpensWithTrees, TreesRead}
-use Rattle.convert_core_laws.specs.reading.Opened.{AreRangesFor, GivesItsOwn, IsNewVolume, ReadsTree, ReadsTrees, map_for, super_for}
+use Rattle.convert_core_laws.proofs.Imports.{◌≡◌, ◌⊎◌, ◌≤◌, ◌<◌, ℕ, ◌^◌, ◌-◌, inl, inr, List, [], ◌∷◌, map, drop, length, Option, Some, None, Ok, Err, sym, ap, subst, ◌∙◌, ⊎_elim, arith, length-drop, Contains, All-drop, SUPER_BLOCK, CONV_IMAGE_SUBVOL, CSUM_TREE, DATA_RELOC_TREE, DEV_TREE, EXTENT_TREE, FIRST_FREE_OBJECTID, FS_TREE, Image, block_at, BtrRefusal, Ids, has_root, BreaksNames, Item, chunk_map, opening_refusals, tree_of, own_map, own_super, pointer_of, root_item, BreaksExtents, IsFileTreeRefusal, roots_on, no_root_item, bad_root_item, bad_tree, bad_names, bad_extents, Super, super_refusals, unless_refused, super_of, super_in, Root, TreeItem, bare_item, found, wrong, MapRange, NodePointer, IsMaking, Making, new_ids, saved_index, slots, HasTrees, device_from, extents_from, file_tree_items, form, image_from, image_tree_items, relocation_from, root_tree_items, sum_tree_items, sums_from, VolumeTrees, relocation_items, all_from_contains, device_items, extent_items, tree_root_item as item_of_root, TreeNode, TreeRoot, TreeStands, pointer_to_root, Options, ConvertedIsReadable, IsReadableWithTrees, OpensWithTrees, TreesRead, AreRangesFor, GivesItsOwn, IsNewVolume, ReadsTree, ReadsTrees, map_for, super_for}
 use Rattle.convert_core_laws.proofs.reading.Mapped.{slot_small}
 use Rattle.convert_core_laws.proofs.reading.Numbers.{size_small, slots_few}
 use Rattle.convert_core_laws.proofs.reading.Opening.{later_read, maps_chunks, opened, root_read}
@@ -47,7 +11,7 @@ pub none_of : (xs : List BtrRefusal) (r : BtrRefusal) → xs ≡ [] → ¬ Conta
 none_of [] r is h = omega (arith, h.1)
 none_of (x ∷ xs) r is h = cc is
 
-some_pointer : (p q : Pointer) → Some p ≡ Some q → p ≡ q
+some_pointer : (p q : NodePointer) → Some p ≡ Some q → p ≡ q
 some_pointer p q e = cc
 
 some_item : (i j : TreeItem) → Some i ≡ Some j → i ≡ j
@@ -56,7 +20,7 @@ some_item i j e = cc
 no_item : (o : Option TreeItem) (i : TreeItem) → o ≡ None → o ≡ Some i → ⊥
 no_item o i none some = absurd (cc)
 
-no_pointer : (o : Option Pointer) (p : Pointer) → o ≡ None → o ≡ Some p → ⊥
+no_pointer : (o : Option NodePointer) (p : NodePointer) → o ≡ None → o ≡ Some p → ⊥
 no_pointer o p none some = absurd (cc)
 
 -- a superblock that is read is what the block is
@@ -64,25 +28,25 @@ is_super : (rs : List BtrRefusal) (x y : Super) → unless_refused rs x ≡ Ok y
 is_super [] x y e = cc e
 is_super (r ∷ rs) x y e = absurd (cc e)
 
-super_is : (block : List ℕ) (device : ℕ) (s : Super) → super_of block 16 device ≡ Ok s → super_in block ≡ s
+super_is : (block : List ℕ) (device : ℕ) (s : Super) → super_of block SUPER_BLOCK device ≡ Ok s → super_in block ≡ s
 unfolding super_of
-super_is block device s e = is_super (super_refusals block 16 device) (super_in block) s e
+super_is block device s e = is_super (super_refusals block SUPER_BLOCK device) (super_in block) s e
 
 -- the file tree is refused for its names or its extents alone
-module _ (image : Image) (s : Super) (ranges : List MapRange) (root : Root) (items : List Item) (tree : ReadsTree image s ranges 5 root items) where
-  pointer_is : (i : TreeItem) (p : Pointer) → root_item 5 (roots_on image s ranges) ≡ Some i → pointer_of i.body ≡ Some p → p ≡ root_pointer root
+module _ (image : Image) (s : Super) (ranges : List MapRange) (root : Root) (items : List Item) (tree : ReadsTree image s ranges FS_TREE root items) where
+  pointer_is : (i : TreeItem) (p : NodePointer) → root_item FS_TREE (roots_on image s ranges) ≡ Some i → pointer_of i.body ≡ Some p → p ≡ pointer_to_root root
   pointer_is i p has leads_to =
       let same : i ≡ tree.item = some_item i tree.item (sym has ∙ tree.has_item) in
-      some_pointer p (root_pointer root) (sym leads_to ∙ (ap (λ (j : TreeItem). pointer_of j.body) same ∙ tree.leads))
+      some_pointer p (pointer_to_root root) (sym leads_to ∙ (ap (λ (j : TreeItem). pointer_of j.body) same ∙ tree.leads))
 
-  pub rest : (r : BtrRefusal) → IsTreeRefusal image s ranges r
-      → BreaksNames (has_root (roots_on image s ranges)) (found image ranges (tree_of s 5 (root_pointer root))) root.address r ⊎ BreaksExtents ranges (found image ranges (tree_of s 5 (root_pointer root))) r
-  rest r (no_root_item none is) = absurd (no_item (root_item 5 (roots_on image s ranges)) tree.item none tree.has_item)
-  rest r (bad_root_item i has none is) = absurd (no_pointer (pointer_of i.body) (root_pointer root) none (ap (λ (j : TreeItem). pointer_of j.body) (some_item i tree.item (sym has ∙ tree.has_item)) ∙ tree.leads))
-  rest r (bad_tree i p has leads_to among) = absurd (none_of (wrong image ranges (tree_of s 5 p)) r (ap (λ (q : Pointer). wrong image ranges (tree_of s 5 q)) (pointer_is i p has leads_to) ∙ tree.sound) among)
+  pub rest : (r : BtrRefusal) → IsFileTreeRefusal image s ranges r
+      → BreaksNames (has_root (roots_on image s ranges)) (found image ranges (tree_of s FS_TREE (pointer_to_root root))) root.address r ⊎ BreaksExtents ranges (found image ranges (tree_of s FS_TREE (pointer_to_root root))) r
+  rest r (no_root_item none is) = absurd (no_item (root_item FS_TREE (roots_on image s ranges)) tree.item none tree.has_item)
+  rest r (bad_root_item i has none is) = absurd (no_pointer (pointer_of i.body) (pointer_to_root root) none (ap (λ (j : TreeItem). pointer_of j.body) (some_item i tree.item (sym has ∙ tree.has_item)) ∙ tree.leads))
+  rest r (bad_tree i p has leads_to among) = absurd (none_of (wrong image ranges (tree_of s FS_TREE p)) r (ap (λ (q : NodePointer). wrong image ranges (tree_of s FS_TREE q)) (pointer_is i p has leads_to) ∙ tree.sound) among)
   rest r (bad_names i p has leads_to breaks) =
-      inl (subst (λ (q : Pointer). BreaksNames (has_root (roots_on image s ranges)) (found image ranges (tree_of s 5 q)) q.address r) (pointer_is i p has leads_to) breaks)
-  rest r (bad_extents i p has leads_to breaks) = inr (subst (λ (q : Pointer). BreaksExtents ranges (found image ranges (tree_of s 5 q)) r) (pointer_is i p has leads_to) breaks)
+      inl (subst (λ (q : NodePointer). BreaksNames (has_root (roots_on image s ranges)) (found image ranges (tree_of s FS_TREE q)) q.address r) (pointer_is i p has leads_to) breaks)
+  rest r (bad_extents i p has leads_to breaks) = inr (subst (λ (q : NodePointer). BreaksExtents ranges (found image ranges (tree_of s FS_TREE q)) r) (pointer_is i p has leads_to) breaks)
 
 module _ (o : Options) (ids : Ids) (now : ℕ) (image other : Image) (m : Making) (r : VolumeTrees) (nodes : List TreeNode) (v : IsNewVolume o ids now image other m r nodes) where
   abbrev making : IsMaking image m
@@ -128,23 +92,23 @@ module _ (o : Options) (ids : Ids) (now : ℕ) (image other : Image) (m : Making
   all_read = record {
     roots_sound = (root_read o ids now image other m r nodes v).0;
     roots_are = roots_are;
-    extents = read_tree 2 (extents_from r) r.extents (extent_items m.chunks m.pieces nodes m.options.nodesize) trees.extents (extents_found r (saved_index m) (new_ids m) m.now m.options.nodesize roots roots_are);
-    device = read_tree 4 (device_from r) r.device (device_items (new_ids m) m.chunks) trees.device (device_found r (saved_index m) (new_ids m) m.now m.options.nodesize roots roots_are);
-    files = read_tree 5 0 r.files (file_tree_items image m) trees.files (files_found r (saved_index m) (new_ids m) m.now m.options.nodesize roots roots_are);
-    sums = read_tree 7 (sums_from r) r.sums (sum_tree_items other m) trees.sums (sums_found r (saved_index m) (new_ids m) m.now m.options.nodesize roots roots_are);
-    saved = read_tree 256 (image_from r) r.image (image_tree_items m) trees.image_ saved_root;
-    relocation = read_tree (2 ^ 64 - 9) (relocation_from r) r.relocation (relocation_items m.now) trees.relocation (relocation_found r (saved_index m) (new_ids m) m.now m.options.nodesize roots roots_are);
-    names_saved = named 256 roots saved_root.item saved_root.has;
+    extents = read_tree EXTENT_TREE (extents_from r) r.extents (extent_items m.chunks m.pieces nodes m.options.nodesize) trees.extents (extents_found r (saved_index m) (new_ids m) m.now m.options.nodesize roots roots_are);
+    device = read_tree DEV_TREE (device_from r) r.device (device_items (new_ids m) m.chunks) trees.device (device_found r (saved_index m) (new_ids m) m.now m.options.nodesize roots roots_are);
+    files = read_tree FS_TREE 0 r.files (file_tree_items image m) trees.files (files_found r (saved_index m) (new_ids m) m.now m.options.nodesize roots roots_are);
+    sums = read_tree CSUM_TREE (sums_from r) r.sums (sum_tree_items other m) trees.sums (sums_found r (saved_index m) (new_ids m) m.now m.options.nodesize roots roots_are);
+    saved = read_tree CONV_IMAGE_SUBVOL (image_from r) r.image (image_tree_items m) trees.image_ saved_root;
+    relocation = read_tree DATA_RELOC_TREE (relocation_from r) r.relocation (relocation_items m.now) trees.relocation (relocation_found r (saved_index m) (new_ids m) m.now m.options.nodesize roots roots_are);
+    names_saved = named FIRST_FREE_OBJECTID roots saved_root.item saved_root.has;
   }
     where
-      saved_root : IsFoundRoot 256 roots (item_of_root (new_ids m) m.options.nodesize (record { tree = 256; root = r.image }))
+      saved_root : IsFoundRoot CONV_IMAGE_SUBVOL roots (item_of_root (new_ids m) m.options.nodesize (record { tree = CONV_IMAGE_SUBVOL; root = r.image }))
       saved_root = saved_found r (saved_index m) (new_ids m) m.now m.options.nodesize roots roots_are
 
   pub opens : OpensWithTrees image other m r nodes
   opens = record { opened = opened o ids now image other m r nodes v; trees = all_read }
 
   own_super_is : own_super other ≡ super_for m r nodes
-  own_super_is = super_is (block_at other 16) (length other) (super_for m r nodes) (super_reads o ids now image other m r nodes v)
+  own_super_is = super_is (block_at other SUPER_BLOCK) (length other) (super_for m r nodes) (super_reads o ids now image other m r nodes v)
 
   own_map_is : own_map other ≡ map_for m.chunks
   own_map_is = ap (λ (t : Super). chunk_map other t) own_super_is ∙ sym (opened o ids now image other m r nodes v).map_is

@@ -1,32 +1,7 @@
 -- Each tree is found by its root item.
-use Rattle.std.proofs.Common.{◌≡◌, ◌≤◌, ◌<◌, ℕ, ◌*◌, ◌^◌, ◌-◌, eqb, Bool, true, false, ◌&&◌, ◌||◌, List, [], ◌∷◌, length, map, replicate, Option, Some, None, refl, ap, ◌∙◌, arith}
-use Rattle.std.specs.Prelude.{if◌then◌else◌, codes, pos}
-use Rattle.std.specs.List.{list_any}
-use Rattle.std.specs.Option.{option_and_then, option_map}
-use Rattle.std.proofs.lemmas.Bool.{le-ltb, or_left, or_right}
-use Rattle.std.specs.Int.{w64}
-use Rattle.std.proofs.lemmas.Int.{fits_signed_from_abs}
-use Rattle.std.proofs.lemmas.Nat.{mul-le}
-use Rattle.std.proofs.lemmas.List.{length-replicate}
-use Rattle.reiser_volume.specs.vol_block.declared.ids.Ids.{Ids}
-use Rattle.btr_reader.specs.btr_keys.Inode.{inode_layout}
-use Rattle.btr_reader.specs.btr_keys.Key.{key_layout, make_key}
-use Rattle.btr_reader.specs.btr_keys.Stamp.{stamp_layout}
-use Rattle.btr_reader.specs.btr_reader_names.Roots.{has_root, is_root_of}
-use Rattle.btr_reader.specs.btr_node.Leaf.{Item}
-use Rattle.btr_reader.specs.Roots.{last_or, pointer_of, root_item, root_pointer as read_pointer}
-use Rattle.btr_reader.specs.btr_space_items.RootItem.{root_item_bytes, root_item_layout}
+use Rattle.convert_core_laws.proofs.Imports.{◌≡◌, ◌≤◌, ◌<◌, ℕ, ◌*◌, ◌^◌, ◌-◌, eqb, Bool, true, false, ◌&&◌, ◌||◌, List, [], ◌∷◌, length, map, replicate, Option, Some, None, refl, ap, ◌∙◌, arith, if◌then◌else◌, codes, pos, list_any, option_and_then, option_map, le-ltb, or_left, or_right, w64, fits_signed_from_abs, mul-le, length-replicate, ROOT_BACKREF, ROOT_ITEM, ROOT_REF, CONV_IMAGE_SUBVOL, CSUM_TREE, DATA_RELOC_TREE, DEV_TREE, EXTENT_TREE, FS_TREE, ROOT_TREE_DIR_OBJECTID, DIRECTORY_MODE, Ids, inode_layout, key_layout, make_key, stamp_layout, has_root, is_root_of, Item, last_or, pointer_of, root_item, root_pointer as read_pointer, root_items_read_back, TreeItem, bare_item, rooted_trees, VolumeTrees, AreIds, default_item, is_file_tree, root_body, root_dirid, root_items, tree_root_item as item_of_root, saved_ref, tree_uuid, TreeRoot, pointer_to_root, inode_item, inode_made, ref_item}
+use Rattle.btr_reader.specs.btr_space_items.RootItem.{root_item_bytes, root_item_layout, root_item_of}
 use Rattle.btr_reader.specs.btr_space_items.declared.root_item.RootItem.{RootItem}
-use Rattle.btr_reader.proofs.btr_space_items.Records.{root_items_read_back}
-use Rattle.btr_reader.specs.btr_reader_walk.Events.{TreeItem}
-use Rattle.btr_reader.specs.btr_reader_walk.Tree.{bare_item}
-use Rattle.convert_core.specs.convert_steps.Standing.{listed}
-use Rattle.convert_core.specs.convert_steps.declared.trees.VolumeTrees.{VolumeTrees}
-use Rattle.convert_core.specs.space_items.Laws.{AreIds}
-use Rattle.convert_core.specs.space_items.Roots.{default_item, is_file_tree, root_body, root_dirid, root_items, root_item as item_of_root, saved_ref, tree_uuid}
-use Rattle.convert_core.specs.space_items.declared.node.TreeRoot.{TreeRoot}
-use Rattle.convert_core.specs.btr_tree_writer.Trees.{root_pointer}
-use Rattle.convert_core.specs.btr_item_list.Inodes.{inode_item, inode_made, ref_item}
 
 -- ---- what a root item leads to
 
@@ -61,34 +36,38 @@ body_fits ids nodesize r are small address low few =
 low_pointer : (r : RootItem) → r.level ≤ 7 → read_pointer r ≡ Some (record { address = r.bytenr; level = r.level; generation = r.generation })
 low_pointer r low = ap (λ (b : Bool). if b then None else Some (record { address = r.bytenr; level = r.level; generation = r.generation })) (le-ltb 7 r.level low)
 
+pub root_reads : (ids : Ids) (nodesize : ℕ) (r : TreeRoot) → AreIds ids → nodesize ≤ 65536 → r.root.address < 2 ^ 64 → r.root.level ≤ 7 → r.root.nodes ≤ 2 ^ 40
+    → root_item_of (root_item_bytes (root_body ids nodesize r)) ≡ Some (root_body ids nodesize r)
+root_reads ids nodesize r are small address low few = root_items_read_back (root_body ids nodesize r) (body_fits ids nodesize r are small address low few)
+
 pub leads : (ids : Ids) (nodesize : ℕ) (r : TreeRoot) → AreIds ids → nodesize ≤ 65536 → r.root.address < 2 ^ 64 → r.root.level ≤ 7 → r.root.nodes ≤ 2 ^ 40
-    → pointer_of (root_item_bytes (root_body ids nodesize r)) ≡ Some (root_pointer r.root)
+    → pointer_of (root_item_bytes (root_body ids nodesize r)) ≡ Some (pointer_to_root r.root)
 leads ids nodesize r are small address low few =
-    ap (λ (o : Option RootItem). option_and_then read_pointer o) (root_items_read_back (root_body ids nodesize r) (body_fits ids nodesize r are small address low few))
+    ap (λ (o : Option RootItem). option_and_then read_pointer o) (root_reads ids nodesize r are small address low few)
     ∙ low_pointer (root_body ids nodesize r) low
 
 -- ---- the items of the root tree, one after the other
 
 abbrev in_order : VolumeTrees → ℕ → Ids → ℕ → ℕ → List Item
 in_order r index ids now nodesize =
-    item_of_root ids nodesize (record { tree = 2; root = r.extents })
-    ∷ (item_of_root ids nodesize (record { tree = 4; root = r.device })
-    ∷ (item_of_root ids nodesize (record { tree = 5; root = r.files })
-    ∷ ((make_key 5 156 256, saved_ref index)
-    ∷ (inode_item 6 (inode_made now 0x41ED 0 0 0)
-    ∷ (ref_item 6 6 0 (codes "..")
+    item_of_root ids nodesize (record { tree = EXTENT_TREE; root = r.extents })
+    ∷ (item_of_root ids nodesize (record { tree = DEV_TREE; root = r.device })
+    ∷ (item_of_root ids nodesize (record { tree = FS_TREE; root = r.files })
+    ∷ ((make_key FS_TREE ROOT_REF CONV_IMAGE_SUBVOL, saved_ref index)
+    ∷ (inode_item ROOT_TREE_DIR_OBJECTID (inode_made now DIRECTORY_MODE 0 0 0)
+    ∷ (ref_item ROOT_TREE_DIR_OBJECTID ROOT_TREE_DIR_OBJECTID 0 (codes "..")
     ∷ (default_item
-    ∷ (item_of_root ids nodesize (record { tree = 7; root = r.sums })
-    ∷ (item_of_root ids nodesize (record { tree = 256; root = r.image })
-    ∷ ((make_key 256 144 5, saved_ref index)
-    ∷ (item_of_root ids nodesize (record { tree = 2 ^ 64 - 9; root = r.relocation }) ∷ []))))))))))
+    ∷ (item_of_root ids nodesize (record { tree = CSUM_TREE; root = r.sums })
+    ∷ (item_of_root ids nodesize (record { tree = CONV_IMAGE_SUBVOL; root = r.image })
+    ∷ ((make_key CONV_IMAGE_SUBVOL ROOT_BACKREF FS_TREE, saved_ref index)
+    ∷ (item_of_root ids nodesize (record { tree = DATA_RELOC_TREE; root = r.relocation }) ∷ []))))))))))
 
-pub order_is : (r : VolumeTrees) (index : ℕ) (ids : Ids) (now nodesize : ℕ) → root_items (listed r) index ids now nodesize ≡ in_order r index ids now nodesize
+pub order_is : (r : VolumeTrees) (index : ℕ) (ids : Ids) (now nodesize : ℕ) → root_items (rooted_trees r) index ids now nodesize ≡ in_order r index ids now nodesize
 order_is r index ids now nodesize = refl
 
 -- the root item of a tree among items without their leaves
 abbrev is_root : ℕ → Item → Bool
-is_root number i = eqb i.0.objectid number && eqb i.0.kind 132
+is_root number i = eqb i.0.objectid number && eqb i.0.kind ROOT_ITEM
 
 abbrev last_of : Option Item → Option Item → Option Item
 last_of None first = first
@@ -131,24 +110,24 @@ named number (j ∷ items) i e = by (root_item number items) (named number items
     by None later is false t e = absurd (cc e)
     by (Some k) later is false t e = or_right (is_root_of number j) _ (later k is)
 
-module _ (r : VolumeTrees) (index : ℕ) (ids : Ids) (now nodesize : ℕ) (items : List TreeItem) (are : map bare_item items ≡ root_items (listed r) index ids now nodesize) where
+module _ (r : VolumeTrees) (index : ℕ) (ids : Ids) (now nodesize : ℕ) (items : List TreeItem) (are : map bare_item items ≡ root_items (rooted_trees r) index ids now nodesize) where
   found_in : (number : ℕ) (x : Item) → bare_root number (in_order r index ids now nodesize) ≡ Some x → IsFoundRoot number items x
   found_in number x e = find number items x (ap (bare_root number) (are ∙ order_is r index ids now nodesize) ∙ e)
 
-  pub extents_found : IsFoundRoot 2 items (item_of_root ids nodesize (record { tree = 2; root = r.extents }))
-  extents_found = found_in 2 _ refl
+  pub extents_found : IsFoundRoot EXTENT_TREE items (item_of_root ids nodesize (record { tree = EXTENT_TREE; root = r.extents }))
+  extents_found = found_in EXTENT_TREE _ refl
 
-  pub device_found : IsFoundRoot 4 items (item_of_root ids nodesize (record { tree = 4; root = r.device }))
-  device_found = found_in 4 _ refl
+  pub device_found : IsFoundRoot DEV_TREE items (item_of_root ids nodesize (record { tree = DEV_TREE; root = r.device }))
+  device_found = found_in DEV_TREE _ refl
 
-  pub files_found : IsFoundRoot 5 items (item_of_root ids nodesize (record { tree = 5; root = r.files }))
-  files_found = found_in 5 _ refl
+  pub files_found : IsFoundRoot FS_TREE items (item_of_root ids nodesize (record { tree = FS_TREE; root = r.files }))
+  files_found = found_in FS_TREE _ refl
 
-  pub sums_found : IsFoundRoot 7 items (item_of_root ids nodesize (record { tree = 7; root = r.sums }))
-  sums_found = found_in 7 _ refl
+  pub sums_found : IsFoundRoot CSUM_TREE items (item_of_root ids nodesize (record { tree = CSUM_TREE; root = r.sums }))
+  sums_found = found_in CSUM_TREE _ refl
 
-  pub saved_found : IsFoundRoot 256 items (item_of_root ids nodesize (record { tree = 256; root = r.image }))
-  saved_found = found_in 256 _ refl
+  pub saved_found : IsFoundRoot CONV_IMAGE_SUBVOL items (item_of_root ids nodesize (record { tree = CONV_IMAGE_SUBVOL; root = r.image }))
+  saved_found = found_in CONV_IMAGE_SUBVOL _ refl
 
-  pub relocation_found : IsFoundRoot (2 ^ 64 - 9) items (item_of_root ids nodesize (record { tree = 2 ^ 64 - 9; root = r.relocation }))
-  relocation_found = found_in (2 ^ 64 - 9) _ refl
+  pub relocation_found : IsFoundRoot DATA_RELOC_TREE items (item_of_root ids nodesize (record { tree = DATA_RELOC_TREE; root = r.relocation }))
+  relocation_found = found_in DATA_RELOC_TREE _ refl

@@ -1,57 +1,7 @@
 -- The saved image of a converted volume is read.
-use Rattle.std.proofs.Common.{◌≡◌, ◌≤◌, ◌<◌, ℕ, ◌+◌, ◌-◌, ◌*◌, ◌/◌, ◌%◌, ◌^◌, ◌&&◌, eqb, nat_lt, Bool, true, false, not, cond, List, [], ◌∷◌, ◌++◌, map, Option, Some, None, refl, sym, ap, subst, ◌∙◌, ⊎_elim, arith}
-use Rattle.std.specs.Prelude.{Contains, codes, if◌then◌else◌, pos, ◌||◌}
-use Rattle.std.specs.Int.{w64}
-use Rattle.std.specs.List.{list_any}
-use Rattle.std.specs.Option.{option_and_then}
-use Rattle.std.proofs.lemmas.Bool.{both_ways, eq-eqb, lt-ltb}
-use Rattle.std.proofs.lemmas.Int.{fits_signed_from_abs}
-use Rattle.std.proofs.lemmas.List.{append-nil}
-use Rattle.reiser_volume.specs.castagnoli.Castagnoli.{name_hash}
-use Rattle.reiser_volume.specs.outside.History.{Image, block_at}
-use Rattle.reiser_volume.specs.refusals.declared.refusal.BtrRefusal.{BtrRefusal}
-use Rattle.reiser_volume.specs.vol_block.declared.ids.Ids.{Ids}
-use Rattle.reiser_volume.specs.fs_rows.declared.row.Kind.TheVariants.{File}
-use Rattle.btr_reader.specs.btr_reader_contents.Extents.{extents_of, extents_refusals}
-use Rattle.btr_reader.specs.btr_keys.DirEntry.{DirEntryValue, dir_entry_bytes, dir_entry_head, dir_items_of}
-use Rattle.btr_reader.specs.btr_keys.FileExtent.{FileExtentValue, file_extent_bytes, file_extent_of}
-use Rattle.btr_reader.specs.btr_keys.Inode.{inode_bytes, inode_layout, inode_of}
-use Rattle.btr_reader.specs.btr_keys.Key.{key_layout, make_key}
-use Rattle.btr_reader.specs.btr_keys.Stamp.{stamp_layout}
-use Rattle.btr_reader.specs.btr_keys.declared.inode.Inode.{Inode}
-use Rattle.btr_reader.specs.btr_keys.declared.key.Key.{Key}
-use Rattle.btr_reader.proofs.btr_keys.Records.{dir_items_read_back, inodes_read_back}
-use Rattle.btr_reader.specs.btr_reader_names.Inodes.{inode_item}
-use Rattle.btr_reader.specs.btr_reader_names.Links.{index_entry, naming_at, namings, only_one, own_naming}
-use Rattle.btr_reader.specs.btr_reader_names.declared.naming.Naming.{Naming}
-use Rattle.btr_reader.specs.btr_node.Leaf.{Item, keys_of}
-use Rattle.btr_reader.specs.btr_node.NodeSize.{IsNodeSize}
-use Rattle.btr_reader.specs.btr_node.Order.{ascends}
-use Rattle.btr_reader.specs.Image.{ImageFile, entry_named, file_block, file_if_image, file_refusals, if_there, image_at, image_entry, image_in, image_place, image_refusals_in, index_refusals, index_refusals_at, inode_number, is_called, is_inline, own_index_refusals, own_refusals, root_refusals, twice_refusals}
-use Rattle.btr_reader.specs.btr_reader_walk.Events.{TreeItem}
-use Rattle.btr_reader.specs.btr_reader_walk.Tree.{bare_item}
-use Rattle.btr_reader.specs.btr_reader_walk.declared.map.MapRange.{MapRange}
-use Rattle.convert_core.specs.convert_steps.Making.{IsMaking, Making}
-use Rattle.convert_core.specs.convert_steps.Standing.{image_tree_items}
-use Rattle.convert_core.specs.convert_steps.declared.trees.VolumeTrees.{VolumeTrees}
-use Rattle.convert_core.proofs.Moving.{can_move}
-use Rattle.convert_core.proofs.Wholeness.{blocks_few}
-use Rattle.convert_core.proofs.extent_pieces.Covering.{used_inside}
-use Rattle.convert_core.specs.file_items.Extents.{extents_at, piece_bytes, pieces_of_volume, source_block}
-use Rattle.convert_core.specs.file_items.Names.{entry_to, letters, root_ref}
-use Rattle.convert_core.specs.file_items.Small.{image_entries, image_flags, image_head, image_items, image_name}
-use Rattle.convert_trees_laws.specs.Keys.{ImageKeysAscend}
-use Rattle.convert_core.specs.btr_item_list.Extents.{regular_extent}
-use Rattle.convert_core.specs.btr_item_list.Inodes.{inode_item as new_item, inode_made, ref_item, stamp_of}
-use Rattle.reiser_volume.specs.reiser_bitmap.Bits.{has}
-use Rattle.reiser_volume.proofs.reiser_bitmap.Ranges.{contains_head, contains_tail}
-use Rattle.reiser_volume.specs.Volume.{used_of}
-use Rattle.convert_core.specs.space_items.declared.node.TreeNode.{TreeNode}
-use Rattle.convert_trees_laws.proofs.Booting.{blocks_are}
-use Rattle.convert_core.specs.convert_options.declared.options.Options.{Options}
-use Rattle.convert_core.specs.unit_plan.declared.piece.Piece.{Piece}
-use Rattle.convert_core_laws.specs.reading.Opened.{IsNewVolume, map_for}
-use Rattle.convert_core_laws.specs.reading.Saved.{HasImage, IsImageOf, SavedImageReads}
+use Rattle.convert_core_laws.proofs.Imports.{◌≡◌, ◌≤◌, ◌<◌, ℕ, ◌+◌, ◌-◌, ◌*◌, ◌/◌, ◌%◌, ◌^◌, ◌&&◌, eqb, nat_lt, Bool, true, false, not, cond, List, [], ◌∷◌, ◌++◌, map, Option, Some, None, refl, sym, ap, subst, ◌∙◌, ⊎_elim, arith, Contains, codes, if◌then◌else◌, pos, w64, list_any, option_and_then, both_ways, eq-eqb, lt-ltb, fits_signed_from_abs, append-nil, DIR_INDEX, DIR_ITEM, EXTENT_DATA, INODE_ITEM, INODE_REF, FIRST_FREE_OBJECTID, DIRECTORY_MODE, IMAGE_MODE, name_hash, Image, block_at, BtrRefusal, Ids, File, extents_of, extents_refusals, DirEntryValue, dir_entry_bytes, dir_entry_head, dir_items_of, FileExtentValue, file_extent_bytes, file_extent_of, inode_bytes, inode_layout, inode_of, key_layout, make_key, stamp_layout, Inode, Key, dir_items_read_back, inodes_read_back, find_inode_item, index_entry, naming_at, dir_indexes, only_one, own_naming, DirIndex, Item, keys_of, IsNodeSize, ascends, ImageFile, entry_named, file_if_image, file_refusals, if_there, image_at, image_entry, image_in, image_place, image_refusals_in, index_refusals, index_refusals_at, inode_number, is_called, is_inline, own_index_refusals, own_refusals, root_refusals, twice_refusals, TreeItem, bare_item, MapRange, IsMaking, Making, image_tree_items, VolumeTrees, can_move, blocks_few, used_inside, extents_at, piece_bytes, pieces_of_volume, source_block, entry_to, letters, root_ref, image_entries, image_flags, image_head, image_items, image_name, ImageKeysAscend, regular_extent, inode_item as new_item, inode_made, ref_item, stamp_of, has, contains_head, contains_tail, used_of, TreeNode, blocks_are, Options, Piece, IsNewVolume, map_for, HasSavedImage, IsImageOf, SavedImageReads}
+use Rattle.std.specs.Prelude.{◌||◌}
+use Rattle.btr_reader.specs.Image.{file_block}
 use Rattle.convert_core_laws.proofs.reading.Chunks.{item_parts}
 use Rattle.convert_core_laws.proofs.reading.SavedExtents.{AreSources, FoundIn, IsSource, extents_sound, place_of, reads_extent, source_in, sources_bytes}
 use Rattle.convert_core_laws.proofs.reading.SavedPieces.{are_sources, held, member, six_behind}
@@ -61,7 +11,7 @@ use Rattle.convert_core_laws.proofs.reading.Superblock.{size}
 
 -- the image's inode
 abbrev file_inode : ℕ → ℕ → Bool → ℕ → Inode
-file_inode blocks nbytes datasum now = inode_made now 0x8100 (4096 * blocks) nbytes (image_flags datasum)
+file_inode blocks nbytes datasum now = inode_made now IMAGE_MODE (4096 * blocks) nbytes (image_flags datasum)
 
 -- the entry that names it
 abbrev entry : DirEntryValue
@@ -70,12 +20,12 @@ entry = entry_to 257 File image_name
 -- the whole, one item after the other
 abbrev in_order : ℕ → List Piece → Bool → ℕ → List Item
 in_order blocks pieces datasum now =
-    new_item 256 (inode_made now 0x41ED (2 * letters image_entries) 0 0)
+    new_item FIRST_FREE_OBJECTID (inode_made now DIRECTORY_MODE (2 * letters image_entries) 0 0)
     ∷ (root_ref
-    ∷ ((make_key 256 84 (name_hash image_name), dir_entry_bytes entry ++ [])
-    ∷ ((make_key 256 96 2, dir_entry_bytes entry)
+    ∷ ((make_key FIRST_FREE_OBJECTID DIR_ITEM (name_hash image_name), dir_entry_bytes entry ++ [])
+    ∷ ((make_key FIRST_FREE_OBJECTID DIR_INDEX 2, dir_entry_bytes entry)
     ∷ (new_item 257 (file_inode blocks (piece_bytes (pieces_of_volume pieces)) datasum now)
-    ∷ (ref_item 257 256 2 image_name
+    ∷ (ref_item 257 FIRST_FREE_OBJECTID 2 image_name
     ∷ extents_at 257 source_block (pieces_of_volume pieces))))))
 
 order_is : (blocks : ℕ) (pieces : List Piece) (datasum : Bool) (now : ℕ) → image_items blocks pieces datasum now ≡ in_order blocks pieces datasum now
@@ -84,24 +34,24 @@ order_is blocks pieces datasum now = refl
 
 -- ---- what other items are
 
-no_naming : (i : TreeItem) (key : Key) → i.key ≡ key → eqb key.kind 96 ≡ false → own_naming i ≡ []
-no_naming i key is off = ap (λ (k : Key). if eqb k.kind 96 then naming_at i (index_entry i.body) else []) is ∙ ap (λ (b : Bool). if b then naming_at i (index_entry i.body) else []) off
+no_naming : (i : TreeItem) (key : Key) → i.key ≡ key → eqb key.kind DIR_INDEX ≡ false → own_naming i ≡ []
+no_naming i key is off = ap (λ (k : Key). if eqb k.kind DIR_INDEX then naming_at i (index_entry i.body) else []) is ∙ ap (λ (b : Bool). if b then naming_at i (index_entry i.body) else []) off
 
-no_index : (i : TreeItem) (key : Key) → i.key ≡ key → eqb key.kind 96 ≡ false → own_index_refusals i ≡ []
+no_index : (i : TreeItem) (key : Key) → i.key ≡ key → eqb key.kind DIR_INDEX ≡ false → own_index_refusals i ≡ []
 no_index i key is off =
-    ap (λ (k : Key). if eqb k.kind 96 && eqb k.objectid 256 then index_refusals_at i (index_entry i.body) else []) is
+    ap (λ (k : Key). if eqb k.kind DIR_INDEX && eqb k.objectid 256 then index_refusals_at i (index_entry i.body) else []) is
     ∙ ap (λ (b : Bool). if b && eqb key.objectid 256 then index_refusals_at i (index_entry i.body) else []) off
 
 -- extents name nothing, and are all of the file
-extents_names : (ps : List Piece) (items : List TreeItem) → map bare_item items ≡ extents_at 257 source_block ps → (namings items ≡ []) × (index_refusals items ≡ [])
+extents_names : (ps : List Piece) (items : List TreeItem) → map bare_item items ≡ extents_at 257 source_block ps → (dir_indexes items ≡ []) × (index_refusals items ≡ [])
 extents_names [] [] are = (refl, refl)
 extents_names [] (i ∷ items) are = absurd (cc are)
 extents_names (p ∷ ps) [] are = absurd (cc are)
 extents_names (p ∷ ps) (i ∷ items) are =
-    let parts = item_parts i items (make_key 257 108 (4096 * source_block p), file_extent_bytes (regular_extent p.place p.count)) (extents_at 257 source_block ps) are in
+    let parts = item_parts i items (make_key 257 EXTENT_DATA (4096 * source_block p), file_extent_bytes (regular_extent p.place p.count)) (extents_at 257 source_block ps) are in
     let rest = extents_names ps items parts.2 in (
-      ap (λ (l : List Naming). l ++ namings items) (no_naming i (make_key 257 108 (4096 * source_block p)) parts.0 refl) ∙ rest.0,
-      ap (λ (l : List BtrRefusal). l ++ index_refusals items) (no_index i (make_key 257 108 (4096 * source_block p)) parts.0 refl) ∙ rest.1,
+      ap (λ (l : List DirIndex). l ++ dir_indexes items) (no_naming i (make_key 257 EXTENT_DATA (4096 * source_block p)) parts.0 refl) ∙ rest.0,
+      ap (λ (l : List BtrRefusal). l ++ index_refusals items) (no_index i (make_key 257 EXTENT_DATA (4096 * source_block p)) parts.0 refl) ∙ rest.1,
     )
 
 extents_own : (ps : List Piece) (items : List TreeItem) → map bare_item items ≡ extents_at 257 source_block ps → extents_of items 257 ≡ items
@@ -109,18 +59,18 @@ extents_own [] [] are = refl
 extents_own [] (i ∷ items) are = absurd (cc are)
 extents_own (p ∷ ps) [] are = absurd (cc are)
 extents_own (p ∷ ps) (i ∷ items) are =
-    let parts = item_parts i items (make_key 257 108 (4096 * source_block p), file_extent_bytes (regular_extent p.place p.count)) (extents_at 257 source_block ps) are in
-    ap (λ (k : Key). cond (eqb k.objectid 257 && eqb k.kind 108) (i ∷ extents_of items 257) (extents_of items 257)) parts.0 ∙ ap (λ (l : List TreeItem). i ∷ l) (extents_own ps items parts.2)
+    let parts = item_parts i items (make_key 257 EXTENT_DATA (4096 * source_block p), file_extent_bytes (regular_extent p.place p.count)) (extents_at 257 source_block ps) are in
+    ap (λ (k : Key). cond (eqb k.objectid 257 && eqb k.kind EXTENT_DATA) (i ∷ extents_of items 257) (extents_of items 257)) parts.0 ∙ ap (λ (l : List TreeItem). i ∷ l) (extents_own ps items parts.2)
 
-not_extent : (i : TreeItem) (items : List TreeItem) (key : Key) → i.key ≡ key → (eqb key.objectid 257 && eqb key.kind 108) ≡ false → extents_of (i ∷ items) 257 ≡ extents_of items 257
+not_extent : (i : TreeItem) (items : List TreeItem) (key : Key) → i.key ≡ key → (eqb key.objectid 257 && eqb key.kind EXTENT_DATA) ≡ false → extents_of (i ∷ items) 257 ≡ extents_of items 257
 not_extent i items key is off =
-    ap (λ (k : Key). cond (eqb k.objectid 257 && eqb k.kind 108) (i ∷ extents_of items 257) (extents_of items 257)) is
+    ap (λ (k : Key). cond (eqb k.objectid 257 && eqb k.kind EXTENT_DATA) (i ∷ extents_of items 257) (extents_of items 257)) is
     ∙ ap (λ (b : Bool). cond b (i ∷ extents_of items 257) (extents_of items 257)) off
 
-not_inode : (i : TreeItem) (items : List TreeItem) (key : Key) → i.key ≡ key → (eqb key.objectid 257 && (eqb key.kind 1 && eqb key.offset 0)) ≡ false → inode_item (i ∷ items) 257 ≡ inode_item items 257
+not_inode : (i : TreeItem) (items : List TreeItem) (key : Key) → i.key ≡ key → (eqb key.objectid 257 && (eqb key.kind INODE_ITEM && eqb key.offset 0)) ≡ false → find_inode_item (i ∷ items) 257 ≡ find_inode_item items 257
 not_inode i items key is off =
-    ap (λ (k : Key). if eqb k.objectid 257 && (eqb k.kind 1 && eqb k.offset 0) then Some i else inode_item items 257) is
-    ∙ ap (λ (b : Bool). if b then Some i else inode_item items 257) off
+    ap (λ (k : Key). if eqb k.objectid 257 && (eqb k.kind INODE_ITEM && eqb k.offset 0) then Some i else find_inode_item items 257) is
+    ∙ ap (λ (b : Bool). if b then Some i else find_inode_item items 257) off
 
 -- ---- the inode and the entry that are read back
 
@@ -155,12 +105,12 @@ record IsTold (blocks : ℕ) (pieces : List Piece) (datasum : Bool) (now : ℕ) 
   inode : TreeItem
   extents : List TreeItem
   are : map bare_item extents ≡ extents_at 257 source_block (pieces_of_volume pieces)
-  index_key : index.key ≡ make_key 256 96 2
+  index_key : index.key ≡ make_key FIRST_FREE_OBJECTID DIR_INDEX 2
   index_body : index.body ≡ dir_entry_bytes entry
   inode_body : inode.body ≡ inode_bytes (file_inode blocks (piece_bytes (pieces_of_volume pieces)) datasum now)
-  namings_are : namings items ≡ own_naming index
+  namings_are : dir_indexes items ≡ own_naming index
   refusals_are : index_refusals items ≡ own_index_refusals index
-  inode_is : inode_item items 257 ≡ Some inode
+  inode_is : find_inode_item items 257 ≡ Some inode
   extents_are : extents_of items 257 ≡ extents
 
 one_left : {A : Type 0} (a b c d e f g : List A) → a ≡ [] → b ≡ [] → c ≡ [] → e ≡ [] → f ≡ [] → g ≡ [] → a ++ (b ++ (c ++ (d ++ (e ++ (f ++ g))))) ≡ d
@@ -168,8 +118,8 @@ one_left a b c d e f g is_a is_b is_c is_e is_f is_g = rw (is_a, is_b, is_c, is_
 
 -- the same of the items by themselves
 module _ (blocks : ℕ) (pieces : List Piece) (datasum : Bool) (now : ℕ) (a b c d f g : TreeItem) (extents : List TreeItem) where
-  told_by : a.key ≡ make_key 256 1 0 → b.key ≡ make_key 256 12 256 → c.key ≡ make_key 256 84 (name_hash image_name) → d.key ≡ make_key 256 96 2 → d.body ≡ dir_entry_bytes entry → f.key ≡ make_key 257 1 0
-      → f.body ≡ inode_bytes (file_inode blocks (piece_bytes (pieces_of_volume pieces)) datasum now) → g.key ≡ make_key 257 12 256 → map bare_item extents ≡ extents_at 257 source_block (pieces_of_volume pieces)
+  told_by : a.key ≡ make_key FIRST_FREE_OBJECTID INODE_ITEM 0 → b.key ≡ make_key FIRST_FREE_OBJECTID INODE_REF FIRST_FREE_OBJECTID → c.key ≡ make_key FIRST_FREE_OBJECTID DIR_ITEM (name_hash image_name) → d.key ≡ make_key FIRST_FREE_OBJECTID DIR_INDEX 2 → d.body ≡ dir_entry_bytes entry → f.key ≡ make_key 257 INODE_ITEM 0
+      → f.body ≡ inode_bytes (file_inode blocks (piece_bytes (pieces_of_volume pieces)) datasum now) → g.key ≡ make_key 257 INODE_REF FIRST_FREE_OBJECTID → map bare_item extents ≡ extents_at 257 source_block (pieces_of_volume pieces)
       → IsTold blocks pieces datasum now (a ∷ (b ∷ (c ∷ (d ∷ (f ∷ (g ∷ extents))))))
   told_by ka kb kc kd bd kf bf kg are =
       let names = extents_names (pieces_of_volume pieces) extents are in
@@ -182,26 +132,26 @@ module _ (blocks : ℕ) (pieces : List Piece) (datasum : Bool) (now : ℕ) (a b 
         index_body = bd;
         inode_body = bf;
         namings_are =
-            one_left (own_naming a) (own_naming b) (own_naming c) (own_naming d) (own_naming f) (own_naming g) (namings extents)
-            (no_naming a (make_key 256 1 0) ka refl) (no_naming b (make_key 256 12 256) kb refl) (no_naming c (make_key 256 84 (name_hash image_name)) kc refl)
-            (no_naming f (make_key 257 1 0) kf refl) (no_naming g (make_key 257 12 256) kg refl) names.0;
+            one_left (own_naming a) (own_naming b) (own_naming c) (own_naming d) (own_naming f) (own_naming g) (dir_indexes extents)
+            (no_naming a (make_key FIRST_FREE_OBJECTID INODE_ITEM 0) ka refl) (no_naming b (make_key FIRST_FREE_OBJECTID INODE_REF FIRST_FREE_OBJECTID) kb refl) (no_naming c (make_key FIRST_FREE_OBJECTID DIR_ITEM (name_hash image_name)) kc refl)
+            (no_naming f (make_key 257 INODE_ITEM 0) kf refl) (no_naming g (make_key 257 INODE_REF FIRST_FREE_OBJECTID) kg refl) names.0;
         refusals_are =
             one_left (own_index_refusals a) (own_index_refusals b) (own_index_refusals c) (own_index_refusals d) (own_index_refusals f) (own_index_refusals g) (index_refusals extents)
-            (no_index a (make_key 256 1 0) ka refl) (no_index b (make_key 256 12 256) kb refl) (no_index c (make_key 256 84 (name_hash image_name)) kc refl)
-            (no_index f (make_key 257 1 0) kf refl) (no_index g (make_key 257 12 256) kg refl) names.1;
+            (no_index a (make_key FIRST_FREE_OBJECTID INODE_ITEM 0) ka refl) (no_index b (make_key FIRST_FREE_OBJECTID INODE_REF FIRST_FREE_OBJECTID) kb refl) (no_index c (make_key FIRST_FREE_OBJECTID DIR_ITEM (name_hash image_name)) kc refl)
+            (no_index f (make_key 257 INODE_ITEM 0) kf refl) (no_index g (make_key 257 INODE_REF FIRST_FREE_OBJECTID) kg refl) names.1;
         inode_is =
-            not_inode a (b ∷ (c ∷ (d ∷ (f ∷ (g ∷ extents))))) (make_key 256 1 0) ka refl
-            ∙ (not_inode b (c ∷ (d ∷ (f ∷ (g ∷ extents)))) (make_key 256 12 256) kb refl
-            ∙ (not_inode c (d ∷ (f ∷ (g ∷ extents))) (make_key 256 84 (name_hash image_name)) kc refl
-            ∙ (not_inode d (f ∷ (g ∷ extents)) (make_key 256 96 2) kd refl
-            ∙ ap (λ (k : Key). if eqb k.objectid 257 && (eqb k.kind 1 && eqb k.offset 0) then Some f else inode_item (g ∷ extents) 257) kf)));
+            not_inode a (b ∷ (c ∷ (d ∷ (f ∷ (g ∷ extents))))) (make_key FIRST_FREE_OBJECTID INODE_ITEM 0) ka refl
+            ∙ (not_inode b (c ∷ (d ∷ (f ∷ (g ∷ extents)))) (make_key FIRST_FREE_OBJECTID INODE_REF FIRST_FREE_OBJECTID) kb refl
+            ∙ (not_inode c (d ∷ (f ∷ (g ∷ extents))) (make_key FIRST_FREE_OBJECTID DIR_ITEM (name_hash image_name)) kc refl
+            ∙ (not_inode d (f ∷ (g ∷ extents)) (make_key FIRST_FREE_OBJECTID DIR_INDEX 2) kd refl
+            ∙ ap (λ (k : Key). if eqb k.objectid 257 && (eqb k.kind INODE_ITEM && eqb k.offset 0) then Some f else find_inode_item (g ∷ extents) 257) kf)));
         extents_are =
-            not_extent a (b ∷ (c ∷ (d ∷ (f ∷ (g ∷ extents))))) (make_key 256 1 0) ka refl
-            ∙ (not_extent b (c ∷ (d ∷ (f ∷ (g ∷ extents)))) (make_key 256 12 256) kb refl
-            ∙ (not_extent c (d ∷ (f ∷ (g ∷ extents))) (make_key 256 84 (name_hash image_name)) kc refl
-            ∙ (not_extent d (f ∷ (g ∷ extents)) (make_key 256 96 2) kd refl
-            ∙ (not_extent f (g ∷ extents) (make_key 257 1 0) kf refl
-            ∙ (not_extent g extents (make_key 257 12 256) kg refl ∙ extents_own (pieces_of_volume pieces) extents are)))));
+            not_extent a (b ∷ (c ∷ (d ∷ (f ∷ (g ∷ extents))))) (make_key FIRST_FREE_OBJECTID INODE_ITEM 0) ka refl
+            ∙ (not_extent b (c ∷ (d ∷ (f ∷ (g ∷ extents)))) (make_key FIRST_FREE_OBJECTID INODE_REF FIRST_FREE_OBJECTID) kb refl
+            ∙ (not_extent c (d ∷ (f ∷ (g ∷ extents))) (make_key FIRST_FREE_OBJECTID DIR_ITEM (name_hash image_name)) kc refl
+            ∙ (not_extent d (f ∷ (g ∷ extents)) (make_key FIRST_FREE_OBJECTID DIR_INDEX 2) kd refl
+            ∙ (not_extent f (g ∷ extents) (make_key 257 INODE_ITEM 0) kf refl
+            ∙ (not_extent g extents (make_key 257 INODE_REF FIRST_FREE_OBJECTID) kg refl ∙ extents_own (pieces_of_volume pieces) extents are)))));
       }
 
 told : (blocks : ℕ) (pieces : List Piece) (datasum : Bool) (now : ℕ) (items : List TreeItem) → map bare_item items ≡ in_order blocks pieces datasum now → IsTold blocks pieces datasum now items
@@ -212,11 +162,11 @@ told blocks pieces datasum now (a ∷ (b ∷ (c ∷ []))) e = absurd (cc e)
 told blocks pieces datasum now (a ∷ (b ∷ (c ∷ (d ∷ [])))) e = absurd (cc e)
 told blocks pieces datasum now (a ∷ (b ∷ (c ∷ (d ∷ (f ∷ []))))) e = absurd (cc e)
 told blocks pieces datasum now (a ∷ (b ∷ (c ∷ (d ∷ (f ∷ (g ∷ extents)))))) e =
-    let root : Item = new_item 256 (inode_made now 0x41ED (2 * letters image_entries) 0 0) in
-    let hashed : Item = (make_key 256 84 (name_hash image_name), dir_entry_bytes entry ++ []) in
-    let indexed : Item = (make_key 256 96 2, dir_entry_bytes entry) in
+    let root : Item = new_item FIRST_FREE_OBJECTID (inode_made now DIRECTORY_MODE (2 * letters image_entries) 0 0) in
+    let hashed : Item = (make_key FIRST_FREE_OBJECTID DIR_ITEM (name_hash image_name), dir_entry_bytes entry ++ []) in
+    let indexed : Item = (make_key FIRST_FREE_OBJECTID DIR_INDEX 2, dir_entry_bytes entry) in
     let inode : Item = new_item 257 (file_inode blocks (piece_bytes (pieces_of_volume pieces)) datasum now) in
-    let named : Item = ref_item 257 256 2 image_name in
+    let named : Item = ref_item 257 FIRST_FREE_OBJECTID 2 image_name in
     let last : List Item = extents_at 257 source_block (pieces_of_volume pieces) in
     let pa = item_parts a (b ∷ (c ∷ (d ∷ (f ∷ (g ∷ extents))))) root (root_ref ∷ (hashed ∷ (indexed ∷ (inode ∷ (named ∷ last))))) e in
     let pb = item_parts b (c ∷ (d ∷ (f ∷ (g ∷ extents)))) root_ref (hashed ∷ (indexed ∷ (inode ∷ (named ∷ last)))) pa.2 in
@@ -232,7 +182,7 @@ no_inline [] [] small are = refl
 no_inline [] (i ∷ items) small are = absurd (cc are)
 no_inline (p ∷ ps) [] small are = absurd (cc are)
 no_inline (p ∷ ps) (i ∷ items) small are =
-    let parts = item_parts i items (make_key 257 108 (4096 * source_block p), file_extent_bytes (regular_extent p.place p.count)) (extents_at 257 source_block ps) are in
+    let parts = item_parts i items (make_key 257 EXTENT_DATA (4096 * source_block p), file_extent_bytes (regular_extent p.place p.count)) (extents_at 257 source_block ps) are in
     ap (λ (o : Option FileExtentValue). is_inline o || list_any (λ e. is_inline (file_extent_of e.body)) items) (reads_extent p i.body (small p (contains_head p ps)) parts.1)
     ∙ no_inline ps items (λ q h. small q (contains_tail q p ps h)) parts.2
 
@@ -240,31 +190,31 @@ module _ (blocks : ℕ) (pieces : List Piece) (datasum : Bool) (now : ℕ) (item
   abbrev own : Inode
   own = file_inode blocks (piece_bytes (pieces_of_volume pieces)) datasum now
 
-  abbrev naming : Naming
-  naming = record { leaf = t.index.leaf; dir = 256; index = 2; location = make_key 257 1 0; name = image_name }
+  abbrev naming : DirIndex
+  naming = record { leaf = t.index.leaf; dir = FIRST_FREE_OBJECTID; index = 2; location = make_key 257 INODE_ITEM 0; name = image_name }
 
   naming_is : own_naming t.index ≡ naming ∷ []
   naming_is =
-      ap (λ (b : List ℕ). if eqb t.index.key.kind 96 then naming_at t.index (index_entry b) else []) t.index_body
-      ∙ (ap (λ (o : Option DirEntryValue). if eqb t.index.key.kind 96 then naming_at t.index o else []) entry_read
-      ∙ ap (λ (k : Key). if eqb k.kind 96 then (let n : Naming = record { leaf = t.index.leaf; dir = k.objectid; index = k.offset; location = make_key 257 1 0; name = image_name } in n ∷ []) else []) t.index_key)
+      ap (λ (b : List ℕ). if eqb t.index.key.kind DIR_INDEX then naming_at t.index (index_entry b) else []) t.index_body
+      ∙ (ap (λ (o : Option DirEntryValue). if eqb t.index.key.kind DIR_INDEX then naming_at t.index o else []) entry_read
+      ∙ ap (λ (k : Key). if eqb k.kind DIR_INDEX then (let n : DirIndex = record { leaf = t.index.leaf; dir = k.objectid; index = k.offset; location = make_key 257 INODE_ITEM 0; name = image_name } in n ∷ []) else []) t.index_key)
 
   names_sound : root_refusals items ≡ []
   names_sound =
-      ap (λ (rs : List BtrRefusal). rs ++ twice_refusals (namings items)) (t.refusals_are ∙ index_sound)
+      ap (λ (rs : List BtrRefusal). rs ++ twice_refusals (dir_indexes items)) (t.refusals_are ∙ index_sound)
       ∙ ap twice_refusals (t.namings_are ∙ naming_is)
     where
       index_sound : own_index_refusals t.index ≡ []
       index_sound =
-          ap (λ (b : List ℕ). if eqb t.index.key.kind 96 && eqb t.index.key.objectid 256 then index_refusals_at t.index (index_entry b) else []) t.index_body
-          ∙ (ap (λ (o : Option DirEntryValue). if eqb t.index.key.kind 96 && eqb t.index.key.objectid 256 then index_refusals_at t.index o else []) entry_read ∙ none (eqb t.index.key.kind 96 && eqb t.index.key.objectid 256))
+          ap (λ (b : List ℕ). if eqb t.index.key.kind DIR_INDEX && eqb t.index.key.objectid 256 then index_refusals_at t.index (index_entry b) else []) t.index_body
+          ∙ (ap (λ (o : Option DirEntryValue). if eqb t.index.key.kind DIR_INDEX && eqb t.index.key.objectid 256 then index_refusals_at t.index o else []) entry_read ∙ none (eqb t.index.key.kind DIR_INDEX && eqb t.index.key.objectid 256))
         where
           none : (b : Bool) → (if b then index_refusals_at t.index (Some entry) else []) ≡ []
           none true = refl
           none false = refl
 
   number_is : option_and_then inode_number (image_entry items) ≡ Some 257
-  number_is = ap (λ (ns : List Naming). option_and_then inode_number (entry_named (is_called (codes "image")) ns)) (t.namings_are ∙ naming_is)
+  number_is = ap (λ (ns : List DirIndex). option_and_then inode_number (entry_named (is_called (codes "image")) ns)) (t.namings_are ∙ naming_is)
 
   own_is : inode_of t.inode.body ≡ Some own
   own_is = ap inode_of t.inode_body ∙ inode_read blocks (piece_bytes (pieces_of_volume pieces)) datasum now few small low
@@ -272,7 +222,7 @@ module _ (blocks : ℕ) (pieces : List Piece) (datasum : Bool) (now : ℕ) (item
   module _ (ranges : List MapRange) (sources : AreSources ranges 0 (pieces_of_volume pieces)) (lie : (p : Piece) → Contains (pieces_of_volume pieces) p → p.place + p.count ≤ 2 ^ 29) where
     extents_none : image_refusals_in ranges items ≡ []
     extents_none =
-        ap (λ (o : Option ℕ). if_there (λ ino. file_refusals ranges items ino (inode_item items ino)) o) number_is
+        ap (λ (o : Option ℕ). if_there (λ ino. file_refusals ranges items ino (find_inode_item items ino)) o) number_is
         ∙ (ap (λ (o : Option TreeItem). file_refusals ranges items 257 o) t.inode_is
         ∙ (ap (λ (o : Option Inode). own_refusals ranges (extents_of items 257) t.inode.leaf o) own_is
         ∙ (ap (extents_refusals ranges 0 0) t.extents_are ∙ extents_sound ranges (pieces_of_volume pieces) t.extents 0 0 t.are sources (omega arith))))
@@ -282,7 +232,7 @@ module _ (blocks : ℕ) (pieces : List Piece) (datasum : Bool) (now : ℕ) (item
 
     file_is : image_in items ≡ Some (record { extents = t.extents; blocks = 4096 * blocks / 4096 })
     file_is =
-        ap (λ (o : Option ℕ). option_and_then (λ ino. image_at items ino (inode_item items ino)) o) number_is
+        ap (λ (o : Option ℕ). option_and_then (λ ino. image_at items ino (find_inode_item items ino)) o) number_is
         ∙ (ap (λ (o : Option TreeItem). image_at items 257 o) t.inode_is
         ∙ (ap (λ (o : Option Inode). file_if_image (extents_of items 257) o) own_is
         ∙ (ap (λ (es : List TreeItem). file_if_image es (Some own)) t.extents_are
@@ -316,8 +266,8 @@ module _ (rising : ImageKeysAscend) (o : Options) (ids : Ids) (now : ℕ) (image
   sources : AreSources (map_for m.chunks) 0 (pieces_of_volume m.pieces)
   sources =
       are_sources image m making fit
-      (six_behind (new_item 256 (inode_made m.now 0x41ED (2 * letters image_entries) 0 0)) root_ref (make_key 256 84 (name_hash image_name), dir_entry_bytes entry ++ []) (make_key 256 96 2, dir_entry_bytes entry)
-      (new_item 257 (file_inode m.volume.sup.blocks (piece_bytes (pieces_of_volume m.pieces)) m.options.datasum m.now)) (ref_item 257 256 2 image_name) (extents_at 257 source_block (pieces_of_volume m.pieces))
+      (six_behind (new_item FIRST_FREE_OBJECTID (inode_made m.now DIRECTORY_MODE (2 * letters image_entries) 0 0)) root_ref (make_key FIRST_FREE_OBJECTID DIR_ITEM (name_hash image_name), dir_entry_bytes entry ++ []) (make_key FIRST_FREE_OBJECTID DIR_INDEX 2, dir_entry_bytes entry)
+      (new_item 257 (file_inode m.volume.sup.blocks (piece_bytes (pieces_of_volume m.pieces)) m.options.datasum m.now)) (ref_item 257 FIRST_FREE_OBJECTID 2 image_name) (extents_at 257 source_block (pieces_of_volume m.pieces))
       (ap (λ (items : List Item). ascends (keys_of items)) (sym (order_is m.volume.sup.blocks m.pieces m.options.datasum m.now)) ∙ (rising m.volume image m.options m.plan m.pieces m.now making.has_pieces).saved))
 
   small : piece_bytes (pieces_of_volume m.pieces) ≤ 2 ^ 41
@@ -373,7 +323,7 @@ module _ (rising : ImageKeysAscend) (o : Options) (ids : Ids) (now : ℕ) (image
       nowhere true o is = is
       nowhere false o is = refl
 
-  pub has_image : HasImage image other (map_for m.chunks) m.volume.sup.blocks items
+  pub has_image : HasSavedImage image other (map_for m.chunks) m.volume.sup.blocks items
   has_image = record {
     file = record { extents = tell.extents; blocks = 4096 * m.volume.sup.blocks / 4096 };
     found_ = file_is m.volume.sup.blocks m.pieces m.options.datasum m.now items tell few small made_low (map_for m.chunks) sources lie;

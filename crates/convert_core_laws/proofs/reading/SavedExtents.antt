@@ -1,27 +1,6 @@
 -- The extents of the saved image.
-use Rattle.std.proofs.Common.{◌≡◌, ◌⊎◌, ◌≤◌, ◌<◌, ℕ, zero, suc, ◌+◌, ◌-◌, ◌*◌, ◌/◌, ◌%◌, ◌^◌, inl, inr, ◌&&◌, ◌||◌, eqb, ltb, Bool, true, false, List, [], ◌∷◌, ◌++◌, map, Option, Some, None, refl, sym, ap, subst, ◌∙◌, ⊎_elim, arith}
-use Rattle.std.specs.Prelude.{Contains, if◌then◌else◌}
-use Rattle.std.specs.Option.{option_map}
-use Rattle.std.proofs.lemmas.List.Sums.{sum_by-cons}
-use Rattle.std.proofs.lemmas.Bool.{and_from, and_parts, both_ways, cases_Bool, eq-eqb, le-leb, leb-true, lt-ltb, ltb-true, ne_eqb}
-use Rattle.reiser_volume.specs.refusals.declared.refusal.BtrRefusal.{BtrRefusal}
-use Rattle.reiser_volume.specs.refusals.declared.refusal.BtrRefusal.TheVariants.{BadBtrfs}
-use Rattle.reiser_volume.specs.refusals.declared.rule.BtrRule.TheVariants.{ExtentForm}
-use Rattle.btr_reader.specs.btr_reader_contents.Extents.{at_unmapped, covered_after, covers, end_after, extent_refusals, extents_refusals, has_form, place_refusals, refusals_at, unless, unmapped_in}
-use Rattle.btr_reader.specs.btr_keys.FileExtent.{FileExtentValue, Regular, disk_range_layout, file_extent_bytes, file_extent_head, file_extent_of}
-use Rattle.btr_reader.specs.btr_keys.Key.{make_key}
-use Rattle.btr_reader.specs.btr_keys.declared.key.Key.{Key}
-use Rattle.btr_reader.specs.btr_keys.declared.file_extent.DiskRange.{DiskRange}
-use Rattle.btr_reader.proofs.btr_keys.Records.{file_extents_read_back}
-use Rattle.btr_reader.specs.Image.{block_from, content_block, file_block}
-use Rattle.btr_reader.specs.btr_reader_walk.Events.{TreeItem}
-use Rattle.btr_reader.specs.btr_reader_walk.Map.{place}
-use Rattle.btr_reader.specs.btr_reader_walk.Tree.{bare_item}
-use Rattle.btr_reader.specs.btr_reader_walk.declared.map.MapRange.{MapRange}
-use Rattle.convert_core.specs.file_items.Extents.{extents_at, piece_bytes, source_block}
-use Rattle.convert_core.specs.btr_item_list.Extents.{regular_extent}
-use Rattle.reiser_volume.proofs.reiser_bitmap.Ranges.{contains_cases, contains_head, contains_tail}
-use Rattle.convert_core.specs.unit_plan.declared.piece.Piece.{Piece}
+use Rattle.convert_core_laws.proofs.Imports.{◌≡◌, ◌⊎◌, ◌≤◌, ◌<◌, ℕ, zero, suc, ◌+◌, ◌-◌, ◌*◌, ◌/◌, ◌%◌, ◌^◌, inl, inr, ◌&&◌, ◌||◌, eqb, ltb, Bool, true, false, List, [], ◌∷◌, ◌++◌, map, Option, Some, None, refl, sym, ap, subst, ◌∙◌, ⊎_elim, arith, Contains, if◌then◌else◌, option_map, sum_by-cons, and_from, and_parts, both_ways, cases_Bool, eq-eqb, le-leb, leb-true, lt-ltb, ltb-true, ne_eqb, EXTENT_DATA, BtrRefusal, BadBtrfs, ExtentForm, at_unmapped, covered_after, covers, end_after, extent_refusals, extents_refusals, has_form, place_refusals, refusals_at, refused_unless, unmapped_in, FileExtentValue, Regular, disk_range_layout, file_extent_bytes, file_extent_head, file_extent_of, make_key, Key, DiskRange, file_extents_read_back, block_by_extent, content_block, TreeItem, place, bare_item, MapRange, extents_at, piece_bytes, source_block, regular_extent, contains_cases, contains_head, contains_tail, Piece}
+use Rattle.btr_reader.specs.Image.{file_block}
 use Rattle.convert_core_laws.proofs.reading.Chunks.{item_parts}
 
 -- a piece that holds blocks of the volume, and whose addresses mean themselves
@@ -87,7 +66,7 @@ module _ (ranges : List MapRange) where
 
   extent_sound : (end covered leaf : ℕ) (p : Piece) → IsSource ranges p → end ≤ 4096 * source_block p → covered ≤ end → extent_refusals ranges end covered (4096 * source_block p) leaf (regular_extent p.place p.count) ≡ []
   extent_sound end covered leaf p is low few =
-      ap (λ (b : Bool). unless b (BadBtrfs leaf ExtentForm) ++ place_refusals ranges (Regular (range_by p))) (form_sound end covered p is low few) ∙ place_sound p is
+      ap (λ (b : Bool). refused_unless b (BadBtrfs leaf ExtentForm) ++ place_refusals ranges (Regular (range_by p))) (form_sound end covered p is low few) ∙ place_sound p is
 
   covered_more : (covered : ℕ) (p : Piece) → IsSource ranges p → covered + (if eqb (4096 * p.place) 0 then 0 else 4096 * p.count) ≡ covered + 4096 * p.count
   covered_more covered p is = ap (λ (b : Bool). covered + (if b then 0 else 4096 * p.count)) (no_hole p is)
@@ -122,7 +101,7 @@ module _ (ranges : List MapRange) where
   extents_sound [] (i ∷ items) low covered are sources few = absurd (cc are)
   extents_sound (p ∷ ps) [] low covered are sources few = absurd (cc are)
   extents_sound (p ∷ ps) (i ∷ items) low covered are sources few =
-      let parts = item_parts i items (make_key 257 108 (4096 * source_block p), file_extent_bytes (regular_extent p.place p.count)) (extents_at 257 source_block ps) are in
+      let parts = item_parts i items (make_key 257 EXTENT_DATA (4096 * source_block p), file_extent_bytes (regular_extent p.place p.count)) (extents_at 257 source_block ps) are in
       let is : IsSource ranges p = sources.0 in
       let small = is.small in
       let offset : i.key.offset ≡ 4096 * source_block p = ap (λ (k : Key). k.offset) parts.0 in
@@ -183,13 +162,13 @@ module _ (ranges : List MapRange) where
   place_of [] (i ∷ items) low b are sources = absurd (cc are)
   place_of (p ∷ ps) [] low b are sources = absurd (cc are)
   place_of (p ∷ ps) (i ∷ items) low b are sources =
-      let parts = item_parts i items (make_key 257 108 (4096 * source_block p), file_extent_bytes (regular_extent p.place p.count)) (extents_at 257 source_block ps) are in
+      let parts = item_parts i items (make_key 257 EXTENT_DATA (4096 * source_block p), file_extent_bytes (regular_extent p.place p.count)) (extents_at 257 source_block ps) are in
       let is : IsSource ranges p = sources.0 in
       let small = is.small in
       let offset : i.key.offset ≡ 4096 * source_block p = ap (λ (k : Key). k.offset) parts.0 in
       let read : file_extent_of i.body ≡ Some (regular_extent p.place p.count) = reads_extent p i.body small parts.1 in
       let step : file_block ranges (i ∷ items) b ≡ from_here p b (4096 * source_block p) (file_block ranges items b) =
-      ap (λ (o : Option FileExtentValue). block_from ranges i o b (file_block ranges items b)) read ∙ ap (λ (n : ℕ). from_here p b n (file_block ranges items b)) offset in
+      ap (λ (o : Option FileExtentValue). block_by_extent ranges i o b (file_block ranges items b)) read ∙ ap (λ (n : ℕ). from_here p b n (file_block ranges items b)) offset in
       ⊎_elim
       (λ (t : covers (4096 * source_block p) (Regular (range_by p)) (4096 * b) ≡ true).
       let h : Holds p b = of_piece p b t in

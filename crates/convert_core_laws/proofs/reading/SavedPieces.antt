@@ -1,43 +1,8 @@
 -- The pieces that hold blocks of the old volume, by these blocks.
-use Rattle.std.proofs.Common.{◌≡◌, ◌≤◌, ◌<◌, ℕ, zero, suc, ◌+◌, ◌*◌, ◌==◌, inl, is_some, eqb, Bool, true, false, List, [], ◌∷◌, ◌++◌, length, take, drop, filter, get_or, if◌then◌else◌, Option, Some, None, refl, sym, ap, subst, ◌∙◌, ⊎_elim, arith, length-drop}
-use Rattle.std.specs.Prelude.{Contains, MatchOption}
-use Rattle.std.specs.List.{AllByRecursion}
-use Rattle.std.specs.Option.{option_map_or}
-use Rattle.std.proofs.lemmas.Bool.{and_parts, both_ways, cases_lt, eq-eqb, le-ltb}
-use Rattle.std.specs.Ordering.{is_lt, nat_cmp}
-use Rattle.std.specs.declared.cmp.Ordering.TheVariants.{Less, Equal, Greater}
-use Rattle.std.proofs.lemmas.List.Elements.{All-contains_itself, All-drop, All-take, Contains-append_cases, Contains-append_left, Contains-append_right}
-use Rattle.std.proofs.lemmas.List.{get_or_default, take-append-drop}
-use Rattle.std.proofs.lemmas.List.Sorted.{Contains-permutation, IsPermutation-sym}
-use Rattle.reiser_volume.proofs.fs_paths.Lists.{from_filter, in_filter}
-use Rattle.reiser_volume.specs.outside.History.{Image}
-use Rattle.reiser_volume.specs.reiser_bitmap.Bits.{has}
-use Rattle.reiser_volume.proofs.reiser_bitmap.Ranges.{contains_cases, contains_head, contains_tail}
-use Rattle.reiser_volume.specs.Volume.{used_of}
-use Rattle.btr_reader.specs.btr_keys.Key.{make_key}
-use Rattle.btr_reader.specs.btr_keys.declared.key.Key.{Key}
-use Rattle.btr_reader.specs.btr_node.Leaf.{Item, keys_of}
-use Rattle.btr_reader.specs.btr_node.NodeSize.{IsNodeSize}
-use Rattle.btr_reader.specs.btr_node.Order.{ascends, is_before}
-use Rattle.btr_reader.specs.btr_reader_walk.declared.map.MapRange.{MapRange}
-use Rattle.convert_core.specs.convert_steps.Making.{IsMaking, Making}
-use Rattle.convert_core.specs.convert_steps.Source.{HasPieces}
-use Rattle.convert_core.proofs.Moving.{well}
-use Rattle.convert_core.proofs.Reserved.{piece_apart}
-use Rattle.convert_core.specs.extent_pieces.Files.{owner, tails}
-use Rattle.convert_core.specs.extent_pieces.Found.{files_of}
-use Rattle.convert_core.specs.extent_pieces.Laws.{CoverUsed, HasPlan, HoldsBlock, LieWell}
-use Rattle.convert_core.specs.extent_pieces.Pieces.{Owners}
-use Rattle.convert_core.specs.extent_pieces.Placed.{FitsPlan, at_place, at_places, blocks_of_units}
+use Rattle.convert_core_laws.proofs.Imports.{◌≡◌, ◌≤◌, ◌<◌, ℕ, zero, suc, ◌+◌, ◌*◌, ◌==◌, inl, eqb, Bool, true, false, List, [], ◌∷◌, ◌++◌, length, take, drop, filter, get_or, Option, Some, None, refl, sym, ap, subst, ◌∙◌, ⊎_elim, arith, length-drop, Contains, MatchOption, AllByRecursion, option_map_or, and_parts, both_ways, cases_lt, eq-eqb, le-ltb, is_lt, nat_cmp, Less, Equal, Greater, All-contains_itself, All-drop, All-take, Contains-append_cases, Contains-append_left, Contains-append_right, get_or_default, take-append-drop, Contains-permutation, IsPermutation-sym, EXTENT_DATA, from_filter, in_filter, Image, has, contains_cases, contains_head, contains_tail, used_of, make_key, Key, Item, keys_of, IsNodeSize, ascends, is_before, MapRange, IsMaking, Making, HasPieces, well, piece_apart, owner, tails, files_of, CoverUsed, HasPlan, HoldsBlock, LieWell, Owners, FitsPlan, at_place, at_places, blocks_of_units, pieces_cover_used, all_at, extents_at, pieces_of_volume, source_block, ascending_all, ascending_filter, used_few, Piece, map_for}
+use Rattle.std.proofs.Common.{is_some, if◌then◌else◌}
 use Rattle.convert_core.proofs.extent_pieces.Apart.{plans_have_room}
-use Rattle.convert_core.proofs.extent_pieces.Covering.{pieces_cover_used}
-use Rattle.convert_core.proofs.extent_pieces.Lists.{all_at}
 use Rattle.convert_core.proofs.extent_pieces.Placing.{length-blocks}
-use Rattle.convert_core.specs.file_items.Extents.{extents_at, pieces_of_volume, source_block}
-use Rattle.convert_core.proofs.btr_item_list.Sorting.{ascending_all, ascending_filter}
-use Rattle.convert_trees_laws.proofs.Booting.{used_few}
-use Rattle.convert_core.specs.unit_plan.declared.piece.Piece.{Piece}
-use Rattle.convert_core_laws.specs.reading.Opened.{map_for}
 use Rattle.convert_core_laws.proofs.reading.Mapped.{all_itself}
 use Rattle.convert_core_laws.proofs.reading.SavedExtents.{AreSources, Holds, IsSource}
 
@@ -69,7 +34,7 @@ six_behind a b c d e f items t =
 ascends_first : (k next : Key) (ks : List Key) → ascends (k ∷ (next ∷ ks)) ≡ true → is_before k next ≡ true
 ascends_first k next ks t = (and_parts (is_before k next) (ascends (next ∷ ks)) t).0
 
-source_less : (a b : ℕ) → is_before (make_key 257 108 (4096 * a)) (make_key 257 108 (4096 * b)) ≡ true → a < b
+source_less : (a b : ℕ) → is_before (make_key 257 EXTENT_DATA (4096 * a)) (make_key 257 EXTENT_DATA (4096 * b)) ≡ true → a < b
 source_less a b t = let less = less_of (4096 * a) (4096 * b) t in omega (arith, less)
 
 -- a piece of the list, of which something is known
@@ -87,11 +52,11 @@ module _ (ranges : List MapRange) where
       → ((x y : Piece) → Contains (p ∷ ps) x → Contains (p ∷ ps) y → source_block x < source_block y → source_block x + x.count ≤ source_block y) → AreSources ranges low (p ∷ ps)
   sources_are low p [] all up above apart = (all.0, above, tt)
   sources_are low p (q ∷ ps) all up above apart =
-      let less : source_block p < source_block q = source_less (source_block p) (source_block q) (ascends_first (make_key 257 108 (4096 * source_block p)) (make_key 257 108 (4096 * source_block q)) (keys_of (extents_at 257 source_block ps)) up) in
+      let less : source_block p < source_block q = source_less (source_block p) (source_block q) (ascends_first (make_key 257 EXTENT_DATA (4096 * source_block p)) (make_key 257 EXTENT_DATA (4096 * source_block q)) (keys_of (extents_at 257 source_block ps)) up) in
       let next : source_block p + p.count ≤ source_block q = apart p q (contains_head p (q ∷ ps)) (contains_tail q p (q ∷ ps) (contains_head q ps)) less in (
         all.0,
         above,
-        sources_are (source_block p + p.count) q ps all.1 (ascends_tail (make_key 257 108 (4096 * source_block p)) (keys_of (extents_at 257 source_block (q ∷ ps))) up) next
+        sources_are (source_block p + p.count) q ps all.1 (ascends_tail (make_key 257 EXTENT_DATA (4096 * source_block p)) (keys_of (extents_at 257 source_block (q ∷ ps))) up) next
             (λ x y h k. apart x y (contains_tail x p (q ∷ ps) h) (contains_tail y p (q ∷ ps) k)),
       )
 

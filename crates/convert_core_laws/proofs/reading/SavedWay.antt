@@ -1,66 +1,17 @@
 -- The way to the saved image of a converted volume.
-use Rattle.std.proofs.Common.{◌≡◌, ◌<◌, ℕ, ◌-◌, ◌^◌, eqb, true, List, [], ◌∷◌, ◌++◌, map, Option, Some, refl, sym, ap, subst, ◌∙◌, ⊎_elim, arith}
-use Rattle.std.specs.Prelude.{Contains, codes, if◌then◌else◌, unwrap_or}
-use Rattle.std.specs.List.{flat_map}
-use Rattle.std.specs.Option.{option_and_then}
-use Rattle.std.proofs.lemmas.List.Elements.{Contains-append_left, Contains-append_right}
-use Rattle.reiser_volume.proofs.fs_paths.Lists.{from_map, in_map}
-use Rattle.reiser_volume.specs.outside.History.{Image}
-use Rattle.reiser_volume.specs.refusals.declared.refusal.BtrRefusal.{BtrRefusal}
-use Rattle.reiser_volume.specs.vol_block.declared.ids.Ids.{Ids}
-use Rattle.btr_reader.specs.btr_keys.Key.{make_key}
-use Rattle.btr_reader.specs.btr_keys.declared.key.Key.{Key}
-use Rattle.btr_reader.specs.btr_reader_names.Links.{names_tree, namings}
-use Rattle.btr_reader.specs.btr_reader_names.Roots.{has_root}
-use Rattle.btr_reader.specs.btr_reader_names.declared.naming.Naming.{Naming}
-use Rattle.btr_reader.specs.Image.{after_pointer, after_root, entry_refusals, if_there, image_below, image_from, image_in, image_refusals_in, items_at, pointer_in, refusals_below, root_refusals, saved_entry as entry_of_saved, tree_number}
-use Rattle.btr_reader.specs.Opening.{or_later, tree_of}
-use Rattle.btr_reader.specs.Parts.{own_map, own_super, way_refusals}
-use Rattle.btr_reader.specs.Roots.{root_item}
-use Rattle.btr_reader.specs.Rows.{roots_on}
-use Rattle.btr_reader.specs.btr_super.declared.superblock.Super.{Super}
-use Rattle.convert_core.specs.btr_tree.declared.climb.Root.{Root}
-use Rattle.btr_reader.specs.btr_node.Leaf.{Item}
-use Rattle.btr_reader.specs.btr_reader_walk.Events.{TreeItem}
-use Rattle.btr_reader.specs.btr_reader_walk.Tree.{bare_item}
-use Rattle.btr_reader.specs.btr_reader_walk.Walks.{found}
-use Rattle.btr_reader.specs.btr_reader_walk.declared.map.MapRange.{MapRange}
-use Rattle.btr_reader.specs.btr_reader_walk.declared.tree.Pointer.{Pointer}
-use Rattle.convert_core.specs.convert_steps.Making.{IsMaking, Making}
-use Rattle.convert_core.specs.convert_steps.Source.{made_from}
-use Rattle.convert_core.specs.convert_steps.Standing.{file_tree_items, image_tree_items}
-use Rattle.convert_core.specs.convert_steps.declared.trees.VolumeTrees.{VolumeTrees}
-use Rattle.convert_core.specs.file_items.Names.{Indexed, entry_to, indexed_in, names_in, next_index, saved_entry}
-use Rattle.convert_core.specs.file_items.Tree.{Source, kind_in, number_of, stat_in}
-use Rattle.convert_trees_laws.specs.Entries.{EntriesAreThere, naming_by, namings_by, unplaced}
-use Rattle.convert_trees_laws.specs.Keys.{ImageKeysAscend}
-use Rattle.convert_trees_laws.proofs.Keys.{root_first}
-use Rattle.reiser_volume.specs.fs_rows.declared.row.Kind.{Kind}
-use Rattle.reiser_volume.specs.fs_rows.declared.row.Kind.TheVariants.{Directory, File}
-use Rattle.reiser_volume.specs.reiser_volume_names.Names.{inode_of}
-use Rattle.reiser_volume.specs.reiser_volume_objects.Keys.{root, same_key}
-use Rattle.reiser_volume.specs.reiser_volume_objects.Rules.{IsDirectory}
-use Rattle.reiser_volume.specs.reiser_volume_objects.declared.stat.ObjectStat.{ObjectStat}
-use Rattle.reiser_volume.specs.Made.{kind_by, no_stat}
-use Rattle.reiser_volume.specs.Numbers.{by_inode}
-use Rattle.reiser_volume.specs.Volume.{volume_items}
-use Rattle.convert_core.specs.space_items.declared.node.TreeNode.{TreeNode}
-use Rattle.convert_core.specs.btr_tree_writer.Trees.{root_pointer}
-use Rattle.convert_core.specs.convert_options.declared.options.Options.{Options}
-use Rattle.convert_core_laws.specs.reading.Laws.{IsReadableWithTrees}
-use Rattle.convert_core_laws.specs.reading.Opened.{IsNewVolume, ReadsTree}
-use Rattle.convert_core_laws.specs.reading.Saved.{HasImage, KeepsFileNames, ReadsSavedImage, SavedImageIsReadable}
+use Rattle.convert_core_laws.proofs.Imports.{◌≡◌, ◌<◌, ℕ, ◌-◌, ◌^◌, eqb, true, List, [], ◌∷◌, ◌++◌, map, Option, Some, refl, sym, ap, subst, ◌∙◌, ⊎_elim, arith, Contains, codes, if◌then◌else◌, unwrap_or, flat_map, option_and_then, Contains-append_left, Contains-append_right, ROOT_ITEM, CONV_IMAGE_SUBVOL, FIRST_FREE_OBJECTID, FS_TREE, from_map, in_map, Image, BtrRefusal, Ids, make_key, Key, names_tree, dir_indexes, has_root, DirIndex, after_pointer, after_root, entry_refusals, if_there, image_below, image_in, image_refusals_in, items_at, pointer_in, refusals_below, root_refusals, saved_location as entry_of_saved, tree_number, or_later, tree_of, own_map, own_super, way_refusals, root_item, roots_on, Super, Root, Item, TreeItem, bare_item, found, MapRange, NodePointer, IsMaking, Making, made_from, file_tree_items, image_tree_items, VolumeTrees, Indexed, entry_to, indexed_in, names_in, next_index, saved_entry, Source, kind_in, ino_of, stat_in, EntriesAreThere, naming_by, namings_by, unplaced, ImageKeysAscend, root_first, Kind, Directory, File, ino_of_key, root, same_key, IsDirectory, ObjectStat, kind_by, no_stat, by_inode, volume_items, TreeNode, pointer_to_root, Options, IsReadableWithTrees, IsNewVolume, ReadsTree, HasSavedImage, KeepsFileNames, ReadsSavedImage, SavedImageIsReadable}
+use Rattle.btr_reader.specs.Image.{image_from}
 use Rattle.convert_core_laws.proofs.reading.Reading.{none_of, readable}
 use Rattle.convert_core_laws.proofs.reading.RootKept.{root_sound, saved_found}
 use Rattle.convert_core_laws.proofs.reading.Saved.{has_image}
 
 -- the root directory's entry for the tree of the saved image
 pub record HasSavedEntry (items : List TreeItem) : Type 0 where
-  pub entry : Naming
-  pub among : Contains (namings items) entry
-  pub dir : entry.dir ≡ 256
+  pub entry : DirIndex
+  pub among : Contains (dir_indexes items) entry
+  pub dir : entry.dir ≡ FIRST_FREE_OBJECTID
   pub name : entry.name ≡ codes "reiserfs_saved"
-  pub location : entry.location ≡ make_key 256 132 (2 ^ 64 - 1)
+  pub location : entry.location ≡ make_key CONV_IMAGE_SUBVOL ROOT_ITEM (2 ^ 64 - 1)
 
 module _ (image : Image) (m : Making) (made : IsMaking image m) (entries : EntriesAreThere) (items : List TreeItem) (are : map bare_item items ≡ file_tree_items image m) where
   abbrev s : Source
@@ -78,38 +29,38 @@ module _ (image : Image) (m : Making) (made : IsMaking image m) (entries : Entri
 
   last_in : Contains (indexed_in (kind_in s) s.keys s.links root) last
   last_in =
-      Contains-append_right (map (λ e. (e.index, entry_to (inode_of s.keys e.link.target) (kind_in s e.link.target) e.link.name)) (names_in s.links root))
+      Contains-append_right (map (λ e. (e.index, entry_to (ino_of_key s.keys e.link.target) (kind_in s e.link.target) e.link.name)) (names_in s.links root))
       (if same_key root root then (next_index s.links root, saved_entry) ∷ [] else []) last (0, omega arith, refl)
 
   pub saved_there : HasSavedEntry items
   saved_there =
-      let own : Naming = naming_by (number_of s root) last in
-      let first : Contains (map (naming_by (number_of s root)) (indexed_in (kind_in s) s.keys s.links root)) own = in_map (naming_by (number_of s root)) (indexed_in (kind_in s) s.keys s.links root) last last_in in
+      let own : DirIndex = naming_by (ino_of s root) last in
+      let first : Contains (map (naming_by (ino_of s root)) (indexed_in (kind_in s) s.keys s.links root)) own = in_map (naming_by (ino_of s root)) (indexed_in (kind_in s) s.keys s.links root) last last_in in
       let of_root : Contains (namings_by s root (kind_in s root)) own = subst (λ (k : Kind). Contains (namings_by s root k) own) (sym root_kind) first in
       let all : Contains (flat_map (λ key. namings_by s key (kind_in s key)) (by_inode s.keys)) own = Contains-append_left (namings_by s root (kind_in s root)) _ own of_root in
-      let told : Contains (map unplaced (namings items)) own = subst (λ (l : List Naming). Contains l own) (sym (entries m.volume image m.options m.plan m.pieces items made.has_pieces are)) all in
-      let at = from_map unplaced (namings items) own told in
+      let told : Contains (map unplaced (dir_indexes items)) own = subst (λ (l : List DirIndex). Contains l own) (sym (entries m.volume image m.options m.plan m.pieces items made.has_pieces are)) all in
+      let at = from_map unplaced (dir_indexes items) own told in
       record {
         entry = at.0;
         among = at.1;
-        dir = ap (λ (n : Naming). n.dir) at.2 ∙ root_first s.keys root refl;
-        name = ap (λ (n : Naming). n.name) at.2;
-        location = ap (λ (n : Naming). n.location) at.2;
+        dir = ap (λ (n : DirIndex). n.dir) at.2 ∙ root_first s.keys root refl;
+        name = ap (λ (n : DirIndex). n.name) at.2;
+        location = ap (λ (n : DirIndex). n.location) at.2;
       }
 
 -- ---- the way, where each tree on it is read
 
 module _ (image : Image) (s : Super) (ranges : List MapRange) where
   -- a tree whose root item is found
-  below_by : (number : ℕ) (next : Pointer → List BtrRefusal) (at : Root) (items : List Item) → ReadsTree image s ranges number at items → after_root next (root_item number (roots_on image s ranges)) ≡ next (root_pointer at)
+  below_by : (number : ℕ) (next : NodePointer → List BtrRefusal) (at : Root) (items : List Item) → ReadsTree image s ranges number at items → after_root next (root_item number (roots_on image s ranges)) ≡ next (pointer_to_root at)
   below_by number next at items tree =
       ap (after_root next) tree.has_item ∙ ap (after_pointer next tree.item.leaf) tree.leads
 
-  pub pointer_by : (number : ℕ) (at : Root) (items : List Item) → ReadsTree image s ranges number at items → pointer_in (root_item number (roots_on image s ranges)) ≡ Some (root_pointer at)
+  pub pointer_by : (number : ℕ) (at : Root) (items : List Item) → ReadsTree image s ranges number at items → pointer_in (root_item number (roots_on image s ranges)) ≡ Some (pointer_to_root at)
   pointer_by number at items tree = ap pointer_in tree.has_item ∙ tree.leads
 
-  entries_none : (number : ℕ) (at : Root) (items : List Item) → ReadsTree image s ranges number at items → root_refusals (found image ranges (tree_of s number (root_pointer at))) ≡ [] → entry_refusals image ranges (tree_of s number (root_pointer at)) ≡ []
-  entries_none number at items tree names = ap (λ (rs : List BtrRefusal). rs ++ root_refusals (found image ranges (tree_of s number (root_pointer at)))) tree.sound ∙ names
+  entries_none : (number : ℕ) (at : Root) (items : List Item) → ReadsTree image s ranges number at items → root_refusals (found image ranges (tree_of s number (pointer_to_root at))) ≡ [] → entry_refusals image ranges (tree_of s number (pointer_to_root at)) ≡ []
+  entries_none number at items tree names = ap (λ (rs : List BtrRefusal). rs ++ root_refusals (found image ranges (tree_of s number (pointer_to_root at)))) tree.sound ∙ names
 
 module _ (entries : EntriesAreThere) (rising : ImageKeysAscend) (o : Options) (ids : Ids) (now : ℕ) (image other : Image) (m : Making) (r : VolumeTrees) (nodes : List TreeNode) (v : IsNewVolume o ids now image other m r nodes) (low : now < 2 ^ 63) (keeps : KeepsFileNames other r) where
   abbrev is : IsReadableWithTrees image other m r nodes
@@ -122,22 +73,22 @@ module _ (entries : EntriesAreThere) (rising : ImageKeysAscend) (o : Options) (i
   ranges = own_map other
 
   abbrev files : List TreeItem
-  files = found other (own_map other) (tree_of (own_super other) 5 (root_pointer r.files))
+  files = found other (own_map other) (tree_of (own_super other) FS_TREE (pointer_to_root r.files))
 
   abbrev saved_items : List TreeItem
-  saved_items = found other (own_map other) (tree_of (own_super other) 256 (root_pointer r.image))
+  saved_items = found other (own_map other) (tree_of (own_super other) CONV_IMAGE_SUBVOL (pointer_to_root r.image))
 
-  tree5 : ReadsTree other (own_super other) (own_map other) 5 r.files (file_tree_items image m)
+  tree5 : ReadsTree other (own_super other) (own_map other) FS_TREE r.files (file_tree_items image m)
   tree5 = is.trees.files
 
-  tree256 : ReadsTree other (own_super other) (own_map other) 256 r.image (image_tree_items m)
+  tree256 : ReadsTree other (own_super other) (own_map other) CONV_IMAGE_SUBVOL r.image (image_tree_items m)
   tree256 = is.trees.saved
 
   there : HasSavedEntry files
   there = saved_there image m v.new.conversion.making entries files tree5.items_are
 
   leads : names_tree there.entry ≡ true
-  leads = ap (λ (k : Key). eqb k.kind 132) there.location
+  leads = ap (λ (k : Key). eqb k.kind ROOT_ITEM) there.location
 
   names : root_refusals files ≡ []
   names = root_sound (has_root (roots_on other (own_super other) (own_map other))) files r.files.address keeps there.entry there.among there.dir there.name leads
@@ -147,31 +98,31 @@ module _ (entries : EntriesAreThere) (rising : ImageKeysAscend) (o : Options) (i
       ap (λ (k : Option Key). option_and_then tree_number k) (saved_found (has_root (roots_on other (own_super other) (own_map other))) files r.files.address keeps there.entry there.among there.dir there.name leads)
       ∙ ap tree_number there.location
 
-  has : HasImage image other (own_map other) m.volume.sup.blocks saved_items
+  has : HasSavedImage image other (own_map other) m.volume.sup.blocks saved_items
   has =
-      subst (λ (rs : List MapRange). HasImage image other rs m.volume.sup.blocks saved_items) (sym is.map_is)
+      subst (λ (rs : List MapRange). HasSavedImage image other rs m.volume.sup.blocks saved_items) (sym is.map_is)
       (has_image rising o ids now image other m r nodes saved_items v low tree256.items_are)
 
-  below_none : refusals_below other (own_super other) (own_map other) 256 (root_item 256 (roots_on other (own_super other) (own_map other))) ≡ []
+  below_none : refusals_below other (own_super other) (own_map other) CONV_IMAGE_SUBVOL (root_item CONV_IMAGE_SUBVOL (roots_on other (own_super other) (own_map other))) ≡ []
   below_none =
-      below_by other t ranges 256 (λ p. or_later (entry_refusals other ranges (tree_of t 256 p)) (image_refusals_in ranges (items_at other t ranges 256 p))) r.image (image_tree_items m) tree256
-      ∙ (ap (λ (rs : List BtrRefusal). or_later rs (image_refusals_in ranges saved_items)) (entries_none other t ranges 256 r.image (image_tree_items m) tree256 has.names) ∙ has.extents)
+      below_by other t ranges CONV_IMAGE_SUBVOL (λ p. or_later (entry_refusals other ranges (tree_of t CONV_IMAGE_SUBVOL p)) (image_refusals_in ranges (items_at other t ranges CONV_IMAGE_SUBVOL p))) r.image (image_tree_items m) tree256
+      ∙ (ap (λ (rs : List BtrRefusal). or_later rs (image_refusals_in ranges saved_items)) (entries_none other t ranges CONV_IMAGE_SUBVOL r.image (image_tree_items m) tree256 has.names) ∙ has.extents)
 
   way_none : way_refusals other ≡ []
   way_none =
-      below_by other t ranges 5
-      (λ p. or_later (entry_refusals other ranges (tree_of t 5 p)) (if_there (λ number. refusals_below other t ranges number (root_item number (roots_on other t ranges))) (option_and_then tree_number (entry_of_saved (items_at other t ranges 5 p)))))
+      below_by other t ranges FS_TREE
+      (λ p. or_later (entry_refusals other ranges (tree_of t FS_TREE p)) (if_there (λ number. refusals_below other t ranges number (root_item number (roots_on other t ranges))) (option_and_then tree_number (entry_of_saved (items_at other t ranges FS_TREE p)))))
       r.files (file_tree_items image m) tree5
-      ∙ (ap (λ (rs : List BtrRefusal). or_later rs (if_there (λ number. refusals_below other t ranges number (root_item number (roots_on other t ranges))) (option_and_then tree_number (entry_of_saved files)))) (entries_none other t ranges 5 r.files (file_tree_items image m) tree5 names)
+      ∙ (ap (λ (rs : List BtrRefusal). or_later rs (if_there (λ number. refusals_below other t ranges number (root_item number (roots_on other t ranges))) (option_and_then tree_number (entry_of_saved files)))) (entries_none other t ranges FS_TREE r.files (file_tree_items image m) tree5 names)
       ∙ (ap (λ (n : Option ℕ). if_there (λ number. refusals_below other t ranges number (root_item number (roots_on other t ranges))) n) number_is ∙ below_none))
 
-  below_is : image_below other (own_super other) (own_map other) 256 (root_item 256 (roots_on other (own_super other) (own_map other))) ≡ Some has.file
+  below_is : image_below other (own_super other) (own_map other) CONV_IMAGE_SUBVOL (root_item CONV_IMAGE_SUBVOL (roots_on other (own_super other) (own_map other))) ≡ Some has.file
   below_is =
-      ap (λ (p : Option Pointer). option_and_then (λ q. image_in (items_at other t ranges 256 q)) p) (pointer_by other t ranges 256 r.image (image_tree_items m) tree256) ∙ has.found_
+      ap (λ (p : Option NodePointer). option_and_then (λ q. image_in (items_at other t ranges CONV_IMAGE_SUBVOL q)) p) (pointer_by other t ranges CONV_IMAGE_SUBVOL r.image (image_tree_items m) tree256) ∙ has.found_
 
-  saved_is : image_from other (own_super other) (own_map other) (root_item 5 (roots_on other (own_super other) (own_map other))) ≡ Some has.file
+  saved_is : image_from other (own_super other) (own_map other) (root_item FS_TREE (roots_on other (own_super other) (own_map other))) ≡ Some has.file
   saved_is =
-      ap (λ (p : Option Pointer). option_and_then (λ q. option_and_then (λ number. image_below other t ranges number (root_item number (roots_on other t ranges))) (option_and_then tree_number (entry_of_saved (items_at other t ranges 5 q)))) p) (pointer_by other t ranges 5 r.files (file_tree_items image m) tree5)
+      ap (λ (p : Option NodePointer). option_and_then (λ q. option_and_then (λ number. image_below other t ranges number (root_item number (roots_on other t ranges))) (option_and_then tree_number (entry_of_saved (items_at other t ranges FS_TREE q)))) p) (pointer_by other t ranges FS_TREE r.files (file_tree_items image m) tree5)
       ∙ (ap (λ (n : Option ℕ). option_and_then (λ number. image_below other t ranges number (root_item number (roots_on other t ranges))) n) number_is ∙ below_is)
 
   pub reads_saved : ReadsSavedImage image other m.volume.sup.blocks

@@ -1,41 +1,8 @@
 -- The superblock of a converted volume reads back.
-use Rattle.std.proofs.Common.{◌≡◌, ◌≤◌, ◌<◌, ℕ, ◌-◌, ◌*◌, ◌%◌, ◌^◌, ◌++◌, ◌&&◌, eqb, Bool, true, false, List, [], ◌∷◌, length, take, drop, replicate, Some, None, Ok, refl, sym, ap, subst, ◌∙◌, ⊎_elim, arith, length-append, length-drop}
-use Rattle.std.specs.Prelude.{if◌then◌else◌}
-use Rattle.std.specs.List.{sum_by}
-use Rattle.std.proofs.lemmas.Bool.{eq-eqb, le-leb}
-use Rattle.std.proofs.lemmas.List.{length-replicate, length-take}
-use Rattle.std.proofs.lemmas.List.Elements.{All-drop, All-take}
-use Rattle.reiser_volume.specs.outside.History.{Image}
-use Rattle.reiser_volume.specs.refusals.declared.refusal.BtrRefusal.{BtrRefusal}
-use Rattle.reiser_volume.specs.refusals.declared.refusal.BtrRefusal.TheVariants.{Unsupported}
-use Rattle.reiser_volume.specs.refusals.declared.rule.Feature.TheVariants.{DeviceCount, Incompat, NodeSize, SectorSize}
-use Rattle.reiser_volume.specs.vol_block.declared.ids.Ids.{Ids}
-use Rattle.btr_reader.specs.btr_node.NodeSize.{IsNodeSize}
-use Rattle.btr_reader.specs.btr_space_items.Device.{device_layout}
-use Rattle.btr_reader.specs.csum_kinds.declared.kind.SumKind.TheVariants.{Crc32c}
-use Rattle.btr_reader.specs.btr_super.Rules.{bad_field, failing, field_rules, has_fields, is_node_size, super_of, unread_bits}
-use Rattle.btr_reader.specs.btr_super.Sums.{known_kind}
-use Rattle.btr_reader.specs.btr_super.Super.{super_bytes, super_layout}
+use Rattle.convert_core_laws.proofs.Imports.{◌≡◌, ◌≤◌, ◌<◌, ℕ, ◌-◌, ◌*◌, ◌%◌, ◌^◌, ◌++◌, ◌&&◌, eqb, Bool, true, false, List, [], ◌∷◌, length, take, drop, replicate, Some, None, Ok, refl, sym, ap, subst, ◌∙◌, ⊎_elim, arith, length-append, length-drop, ◌+◌, if◌then◌else◌, bit_and, sum_by, eq-eqb, le-leb, length-replicate, length-take, All-drop, All-take, SUPER_BLOCK, BIG_METADATA, EXTENDED_IREF, MIXED_BACKREF, NO_HOLES, SKINNY_METADATA, METADATA_UUID, Image, BtrRefusal, Unsupported, DeviceCount, Incompat, NodeSize, SectorSize, Ids, IsNodeSize, device_layout, SumKind, bad_field, failing, field_rules, has_fields, is_node_size, super_of, unread_bits, csum_number, known_kind, super_bytes, super_layout, node_fsid, super_on, log_of, IsMaking, Making, chunk_slots, label_by, label_field, new_ids, slots, HasTrees, form, root_from, root_tree_items, used_bytes, VolumeTrees, blocks_few, blocks_inside, blocks_some, boot_bytes, features, is_system_role, new_super, record_bytes, chunk_item, chunk_items, device_body, all_from_contains, AreIds, TreeNode, chunk_blocks_fit, boot_fits, PlannedChunk, Options, ReadsSuperblock, SuperblockReads, IsNewVolume, super_for, known-number, number-small}
 use Rattle.btr_reader.proofs.btr_super.ReadBack.{supers_read_back}
-use Rattle.btr_reader.specs.Opening.{super_on}
-use Rattle.btr_reader.specs.Parts.{log_of}
-use Rattle.convert_core.specs.convert_steps.Making.{IsMaking, Making, chunk_slots, label_by, label_field, new_ids, slots}
-use Rattle.convert_core.specs.convert_steps.Standing.{HasTrees, form, root_from, root_tree_items, used_bytes}
-use Rattle.convert_core.specs.convert_steps.declared.trees.VolumeTrees.{VolumeTrees}
-use Rattle.convert_core.proofs.Wholeness.{blocks_few, blocks_inside, blocks_some}
-use Rattle.convert_core.specs.convert_steps.Superblock.{boot_bytes, features, is_system_role, new_super, record_bytes}
 use Rattle.convert_core.specs.convert_steps.declared.fields.NewRoots.{NewRoots}
 use Rattle.convert_core.proofs.convert_steps.Booting.{length_record}
-use Rattle.convert_core.specs.space_items.Chunks.{chunk_item, chunk_items, device_body}
-use Rattle.reiser_volume.proofs.reiser_bitmap.Ranges.{all_from_contains}
-use Rattle.convert_core.specs.space_items.Laws.{AreIds}
-use Rattle.convert_core.specs.space_items.declared.node.TreeNode.{TreeNode}
-use Rattle.convert_core.proofs.space_items.ChunkLists.{chunk_blocks_fit}
-use Rattle.convert_trees_laws.proofs.Booting.{boot_fits}
-use Rattle.convert_core.specs.unit_plan.declared.chunk.Chunk.{Chunk}
-use Rattle.convert_core.specs.convert_options.declared.options.Options.{Options}
-use Rattle.convert_core_laws.specs.reading.Laws.{ReadsSuperblock, SuperblockReads}
-use Rattle.convert_core_laws.specs.reading.Opened.{IsNewVolume, super_for}
 use Rattle.convert_core_laws.proofs.reading.Mapped.{chunk_slot_small, slot_small}
 use Rattle.convert_core_laws.proofs.reading.Numbers.{chunk_slots_few, size_small, slots_few, used_small}
 use Rattle.convert_core_laws.proofs.reading.Stood.{root_at, root_low}
@@ -46,13 +13,13 @@ label_long bytes =
     omega (arith, length-take 256 (bytes ++ replicate 256 0), length-append bytes (replicate 256 0), length-replicate {A = ℕ} 256 0)
 
 -- the device's numbers fit
-device_fits : (ids : Ids) (blocks : ℕ) (chunks : List Chunk) → AreIds ids → blocks ≤ 2 ^ 29 → sum_by (λ c. c.length) chunks ≤ blocks → device_layout.fits (device_body ids blocks chunks)
+device_fits : (ids : Ids) (blocks : ℕ) (chunks : List PlannedChunk) → AreIds ids → blocks ≤ 2 ^ 29 → sum_by (λ c. c.length) chunks ≤ blocks → device_layout.fits (device_body ids blocks chunks)
 unfolding device_layout
 device_fits ids blocks chunks are few fit =
     ((((((((((((((tt, omega arith), omega (arith, few)), omega (arith, few, fit)), omega arith), omega arith), omega arith), omega arith), omega arith), omega arith), omega arith), omega arith), omega arith), are.device), are.fsid)
 
 -- what is asked of the numbers
-record HasRoom (ids : Ids) (blocks nodesize : ℕ) (label : List ℕ) (chunks : List Chunk) (roots : NewRoots) : Type 0 where
+record HasRoom (ids : Ids) (blocks nodesize : ℕ) (label : List ℕ) (chunks : List PlannedChunk) (roots : NewRoots) : Type 0 where
   ids_ : AreIds ids
   small : blocks ≤ 2 ^ 29
   size : IsNodeSize nodesize
@@ -65,10 +32,24 @@ record HasRoom (ids : Ids) (blocks nodesize : ℕ) (label : List ℕ) (chunks : 
   chunk_low : roots.chunk.level ≤ 7
   used : roots.used < 2 ^ 64
 
+-- the nodes have the identifier of the volume
+nodes_fsid : (ids : Ids) (blocks nodesize : ℕ) (sums : SumKind) (label : List ℕ) (chunks : List PlannedChunk) (roots : NewRoots) → node_fsid (new_super ids blocks nodesize sums label chunks roots) ≡ ids.fsid
+unfolding new_super
+nodes_fsid ids blocks nodesize sums label chunks roots = by (eqb nodesize 4096)
+  where
+    by : (b : Bool)
+        → (if eqb (bit_and (if b then MIXED_BACKREF + EXTENDED_IREF + SKINNY_METADATA + NO_HOLES else MIXED_BACKREF + EXTENDED_IREF + SKINNY_METADATA + NO_HOLES + BIG_METADATA) METADATA_UUID) 0 then ids.fsid else replicate 16 0) ≡ ids.fsid
+    by true = refl
+    by false = refl
+
+pub own_fsid : (m : Making) (r : VolumeTrees) (nodes : List TreeNode) → node_fsid (super_for m r nodes) ≡ (new_ids m).fsid
+own_fsid m r nodes =
+    nodes_fsid (new_ids m) m.volume.sup.blocks m.options.nodesize m.options.sums (label_field (label_by m.volume.sup m.options.label)) m.chunks (record { chunk = r.chunk; root = r.root; used = used_bytes m nodes })
+
 features_read : (nodesize : ℕ) → (unread_bits (features nodesize) ≡ 0) × (features nodesize < 2 ^ 64)
 features_read nodesize = by (eqb nodesize 4096)
   where
-    by : (b : Bool) → (unread_bits (if b then 0x341 else 0x361) ≡ 0) × ((if b then 0x341 else 0x361) < 2 ^ 64)
+    by : (b : Bool) → (unread_bits (if b then MIXED_BACKREF + EXTENDED_IREF + SKINNY_METADATA + NO_HOLES else MIXED_BACKREF + EXTENDED_IREF + SKINNY_METADATA + NO_HOLES + BIG_METADATA) ≡ 0) × ((if b then MIXED_BACKREF + EXTENDED_IREF + SKINNY_METADATA + NO_HOLES else MIXED_BACKREF + EXTENDED_IREF + SKINNY_METADATA + NO_HOLES + BIG_METADATA) < 2 ^ 64)
     by true = (refl, omega arith)
     by false = (refl, omega arith)
 
@@ -79,11 +60,11 @@ sized n size =
     at : (k : ℕ) → n ≡ k → is_node_size k ≡ true → is_node_size n ≡ true
     at k e is = subst (λ (j : ℕ). is_node_size j ≡ true) (sym e) is
 
-module _ (ids : Ids) (blocks nodesize : ℕ) (label : List ℕ) (chunks : List Chunk) (roots : NewRoots) (room : HasRoom ids blocks nodesize label chunks roots) where
+module _ (ids : Ids) (blocks nodesize : ℕ) (sums : SumKind) (label : List ℕ) (chunks : List PlannedChunk) (roots : NewRoots) (room : HasRoom ids blocks nodesize label chunks roots) where
   array_long : length (boot_bytes ids chunks ++ replicate (2048 - length (boot_bytes ids chunks)) 0) ≡ 2048
   array_long = omega (arith, length-append (boot_bytes ids chunks) (replicate (2048 - length (boot_bytes ids chunks)) 0), length-replicate {A = ℕ} (2048 - length (boot_bytes ids chunks)) 0, room.boot)
 
-  fits : super_layout.fits (new_super ids blocks nodesize label chunks roots)
+  fits : super_layout.fits (new_super ids blocks nodesize sums label chunks roots)
   unfolding super_layout new_super
   fits = (
     (
@@ -103,38 +84,41 @@ module _ (ids : Ids) (blocks nodesize : ℕ) (label : List ℕ) (chunks : List C
                                 (
                                   (
                                     (
-                                      (((((((((((((tt, room.ids_.fsid), omega arith), omega arith), omega arith), omega (arith, room.root)), omega (arith, room.chunk)), omega arith), omega arith), omega (arith, room.small)), omega (arith, room.used)), omega arith), omega arith), omega arith),
+                                      (
+                                        (((((((((((((tt, room.ids_.fsid), omega arith), omega arith), omega arith), omega (arith, room.root)), omega (arith, room.chunk)), omega arith), omega arith), omega (arith, room.small)), omega (arith, room.used)), omega arith), omega arith), omega arith),
+                                        omega (arith, size_small nodesize room.size),
+                                      ),
                                       omega (arith, size_small nodesize room.size),
                                     ),
-                                    omega (arith, size_small nodesize room.size),
+                                    omega arith,
                                   ),
-                                  omega arith,
+                                  omega (arith, room.boot),
                                 ),
-                                omega (arith, room.boot),
+                                omega arith,
                               ),
                               omega arith,
                             ),
                             omega arith,
                           ),
-                          omega arith,
+                          omega (arith, (features_read nodesize).1),
                         ),
-                        omega (arith, (features_read nodesize).1),
+                        number-small sums,
                       ),
-                      omega arith,
+                      omega (arith, room.root_low),
                     ),
-                    omega (arith, room.root_low),
+                    omega (arith, room.chunk_low),
                   ),
-                  omega (arith, room.chunk_low),
+                  omega arith,
                 ),
-                omega arith,
+                device_fits ids blocks chunks room.ids_ room.small room.fit,
               ),
-              device_fits ids blocks chunks room.ids_ room.small room.fit,
+              room.labelled,
             ),
-            room.labelled,
+            omega arith,
           ),
           omega arith,
         ),
-        omega arith,
+        length-replicate {A = ℕ} 16 0,
       ),
       array_long,
     ),
@@ -147,31 +131,31 @@ module _ (ids : Ids) (blocks nodesize : ℕ) (label : List ℕ) (chunks : List C
   eight_hold : (a b c d e f g h : Bool) → a ≡ true → b ≡ true → c ≡ true → d ≡ true → e ≡ true → f ≡ true → g ≡ true → h ≡ true → (a && (b && (c && (d && (e && (f && (g && h))))))) ≡ true
   eight_hold a b c d e f g h i j k l m n o p = rw (i, j, k, l, m, n, o, p) refl
 
-  fields_hold : (device : ℕ) → blocks ≤ device → has_fields (new_super ids blocks nodesize label chunks roots) 16 device ≡ true
+  fields_hold : (device : ℕ) → blocks ≤ device → has_fields (new_super ids blocks nodesize sums label chunks roots) SUPER_BLOCK device ≡ true
   unfolding new_super
   fields_hold device inside =
       eight_hold _ _ _ _ _ _ _ _ refl (le-leb roots.root.level 7 room.root_low) (le-leb roots.chunk.level 7 room.chunk_low) refl (le-leb (length (boot_bytes ids chunks)) 2048 room.boot)
       (le-leb (4096 * blocks) (4096 * device) (omega (arith, inside))) (le-leb (4096 * blocks) (2 ^ 48) (omega (arith, room.small))) (eq-eqb ((4096 * blocks) % 4096) 0 (omega arith))
 
-  rules_hold : (device : ℕ) → blocks ≤ device → failing (field_rules (new_super ids blocks nodesize label chunks roots) 16 device) ≡ []
+  rules_hold : (device : ℕ) → blocks ≤ device → failing (field_rules (new_super ids blocks nodesize sums label chunks roots) SUPER_BLOCK device) ≡ []
   unfolding new_super
   rules_hold device inside =
       five_hold _ _ _ _ _ bad_field (Unsupported Incompat (unread_bits (features nodesize))) (Unsupported SectorSize 4096) (Unsupported NodeSize nodesize) (Unsupported DeviceCount 1) (fields_hold device inside) (eq-eqb (unread_bits (features nodesize)) 0 (features_read nodesize).0) refl (sized nodesize room.size) refl
 
-  kind_is : (new_super ids blocks nodesize label chunks roots).csum_type ≡ 0
+  kind_is : (new_super ids blocks nodesize sums label chunks roots).csum_type ≡ csum_number sums
   unfolding new_super
   kind_is = refl
 
-  log_is : (new_super ids blocks nodesize label chunks roots).log_root ≡ 0
+  log_is : (new_super ids blocks nodesize sums label chunks roots).log_root ≡ 0
   unfolding new_super
   log_is = refl
 
-  reads_back : (device : ℕ) → 16 < device → blocks ≤ device → super_of (super_bytes (new_super ids blocks nodesize label chunks roots)) 16 device ≡ Ok (new_super ids blocks nodesize label chunks roots)
+  reads_back : (device : ℕ) → 16 < device → blocks ≤ device → super_of (super_bytes (new_super ids blocks nodesize sums label chunks roots)) SUPER_BLOCK device ≡ Ok (new_super ids blocks nodesize sums label chunks roots)
   reads_back device there inside =
-      supers_read_back (new_super ids blocks nodesize label chunks roots) Crc32c 16 device fits known there (rules_hold device inside)
+      supers_read_back (new_super ids blocks nodesize sums label chunks roots) sums 16 device fits known there (rules_hold device inside)
     where
-      known : known_kind (new_super ids blocks nodesize label chunks roots).csum_type ≡ Some Crc32c
-      known = ap known_kind kind_is
+      known : known_kind (new_super ids blocks nodesize sums label chunks roots).csum_type ≡ Some sums
+      known = ap known_kind kind_is ∙ known-number sums
 
 -- of a converted volume
 module _ (o : Options) (ids : Ids) (now : ℕ) (image other : Image) (m : Making) (r : VolumeTrees) (nodes : List TreeNode) (v : IsNewVolume o ids now image other m r nodes) where
@@ -222,13 +206,13 @@ module _ (o : Options) (ids : Ids) (now : ℕ) (image other : Image) (m : Making
       let whole = v.new.stands.size in
       let inside = blocks_inside m.volume image m.options m.plan m.pieces making.has_pieces in
       let some = blocks_some m.volume image m.options m.plan m.pieces making.has_pieces in
-      ap (λ (block : List ℕ). super_of block 16 (length other)) v.new.superblock
-      ∙ reads_back (new_ids m) m.volume.sup.blocks m.options.nodesize (label_field (label_by m.volume.sup m.options.label)) m.chunks (record { chunk = r.chunk; root = r.root; used = used_bytes m nodes }) room (length other) (omega (arith, whole, inside, some)) (omega (arith, whole, inside))
+      ap (λ (block : List ℕ). super_of block SUPER_BLOCK (length other)) v.new.superblock
+      ∙ reads_back (new_ids m) m.volume.sup.blocks m.options.nodesize m.options.sums (label_field (label_by m.volume.sup m.options.label)) m.chunks (record { chunk = r.chunk; root = r.root; used = used_bytes m nodes }) room (length other) (omega (arith, whole, inside, some)) (omega (arith, whole, inside))
 
   pub reads : ReadsSuperblock other m r nodes
   reads = record {
     reads = super_reads;
-    log = ap log_of super_reads ∙ ap (λ (n : ℕ). if eqb n 0 then None else Some n) (log_is (new_ids m) m.volume.sup.blocks m.options.nodesize (label_field (label_by m.volume.sup m.options.label)) m.chunks (record { chunk = r.chunk; root = r.root; used = used_bytes m nodes }) room);
+    log = ap log_of super_reads ∙ ap (λ (n : ℕ). if eqb n 0 then None else Some n) (log_is (new_ids m) m.volume.sup.blocks m.options.nodesize m.options.sums (label_field (label_by m.volume.sup m.options.label)) m.chunks (record { chunk = r.chunk; root = r.root; used = used_bytes m nodes }) room);
   }
 
 pub superblock_reads : SuperblockReads

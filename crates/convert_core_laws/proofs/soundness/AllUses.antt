@@ -1,45 +1,13 @@
 -- The uses of data by all trees.
-use Rattle.std.proofs.Common.{◌≡◌, ◌≤◌, ℕ, ◌+◌, ◌-◌, ◌*◌, ◌^◌, eqb, Bool, true, false, List, [], ◌∷◌, map, filter, Option, Some, None, refl, sym, ap, subst, ◌∙◌, ⊎_elim, arith}
-use Rattle.std.specs.Prelude.{All, Contains, MatchOption, if◌then◌else◌, is_some}
-use Rattle.std.specs.Option.{option_map_or}
-use Rattle.std.proofs.lemmas.List.Elements.{All-contains, All-cons, All-map, Contains-append_cases}
-use Rattle.reiser_volume.proofs.fs_paths.Lists.{from_flat_map, from_map, in_filter}
-use Rattle.reiser_volume.specs.outside.History.{Image}
-use Rattle.btr_reader.specs.btr_keys.FileExtent.{file_extent_of}
-use Rattle.btr_reader.specs.btr_keys.Key.{make_key}
-use Rattle.btr_reader.specs.btr_node.Leaf.{Item}
-use Rattle.btr_reader.specs.btr_node.NodeSize.{IsNodeSize}
-use Rattle.btr_check_rules.specs.Recount.{DataUse, IsData, Recount, Span, TreeOn, all_trees, data_uses, use_in, uses_in}
-use Rattle.btr_reader.specs.btr_space_items.Device.{device_bytes}
-use Rattle.convert_core.specs.convert_steps.Making.{IsMaking, Making, new_ids}
-use Rattle.convert_core.specs.convert_steps.Standing.{file_tree_items, image_tree_items, root_tree_items, sum_tree_items}
-use Rattle.convert_core.specs.convert_steps.declared.trees.VolumeTrees.{VolumeTrees}
-use Rattle.convert_core.proofs.Moving.{well}
-use Rattle.convert_core_laws.specs.reading.Opened.{super_for}
-use Rattle.convert_core_laws.proofs.reading.SavedPieces.{member}
-use Rattle.convert_core.proofs.extent_pieces.Lists.{all_at}
-use Rattle.convert_core.specs.file_items.Extents.{extents_at, piece_bytes, pieces_of_volume, source_block}
-use Rattle.convert_core.specs.file_items.Small.{image_head, image_items, relocation_items}
-use Rattle.convert_core.specs.btr_item_list.Extents.{extent_item, regular_extent}
-use Rattle.reiser_volume.proofs.reiser_bitmap.Ranges.{all_from_contains, contains_cases}
-use Rattle.reiser_volume.specs.Volume.{used_of}
-use Rattle.convert_core.specs.space_items.Chunks.{chunk_item, chunk_items, dev_extent_item, device_body, device_items}
-use Rattle.convert_core.specs.space_items.Extents.{extent_items, group_item, node_item, piece_item, used_in}
-use Rattle.convert_core.specs.space_items.Merging.{item_cmp, merged}
-use Rattle.convert_core.specs.space_items.Sums.{run_items, sum_items}
-use Rattle.convert_core.specs.space_items.declared.node.TreeNode.{TreeNode}
-use Rattle.convert_core.proofs.space_items.Merges.{all-merge}
-use Rattle.convert_trees_laws.proofs.Booting.{used_few}
-use Rattle.convert_core.specs.unit_plan.declared.chunk.Chunk.{Chunk}
-use Rattle.convert_core.specs.unit_plan.declared.piece.Piece.{Piece}
+use Rattle.convert_core_laws.proofs.Imports.{◌≡◌, ◌≤◌, ℕ, ◌+◌, ◌-◌, ◌*◌, ◌^◌, eqb, Bool, true, false, List, [], ◌∷◌, map, filter, Option, Some, None, refl, sym, ap, subst, ◌∙◌, ⊎_elim, arith, All, Contains, MatchOption, if◌then◌else◌, is_some, option_map_or, All-contains, All-cons, All-map, Contains-append_cases, DEV_ITEM, EXTENT_DATA, CONV_IMAGE_SUBVOL, CSUM_TREE, DATA_RELOC_TREE, DEV_ITEMS_OBJECTID, DEV_TREE, EXTENT_TREE, FS_TREE, from_flat_map, from_map, in_filter, Image, file_extent_of, make_key, Item, IsNodeSize, DataUse, IsData, Recount, Span, TreeOn, all_trees, data_uses, use_in, uses_in, device_bytes, IsMaking, Making, new_ids, file_tree_items, image_tree_items, root_tree_items, sum_tree_items, VolumeTrees, well, super_for, all_at, extents_at, piece_bytes, pieces_of_volume, source_block, image_head, image_items, relocation_items, extent_item, regular_extent, all_from_contains, contains_cases, used_of, chunk_item, chunk_items, dev_extent_item, device_body, device_items, extent_items, group_item, node_item, piece_item, used_in, item_cmp, merged, run_items, sum_items, TreeNode, all-merge, used_few, PlannedChunk, Piece, recount_for, tree_for}
 use Rattle.std.specs.Prelude.{length}
-use Rattle.convert_core_laws.specs.soundness.Recounted.{recount_for, tree_for}
+use Rattle.convert_core_laws.proofs.reading.SavedPieces.{member}
 use Rattle.convert_core_laws.proofs.soundness.Lists.{filter_none}
 use Rattle.convert_core_laws.proofs.soundness.Trees.{six_all}
 use Rattle.convert_core_laws.proofs.soundness.Uses.{IsUse, by_file, by_image, file_uses, piece_use, use_at, uses_from}
 
 abbrev is_file_extent : Item → Bool
-is_file_extent i = eqb i.0.kind 108
+is_file_extent i = eqb i.0.kind EXTENT_DATA
 
 -- the range of a piece
 abbrev pub span_of : Piece → Span
@@ -77,7 +45,7 @@ module _ (image : Image) (m : Making) (made : IsMaking image m) (size : IsNodeSi
       let few = used_few image m made in
       omega (arith, low, few)
 
-  image_uses : (i : Item) (u : DataUse) → Contains (image_tree_items m) i → is_file_extent i ≡ true → Contains (use_in 256 i (file_extent_of i.1)) u → IsUse m u
+  image_uses : (i : Item) (u : DataUse) → Contains (image_tree_items m) i → is_file_extent i ≡ true → Contains (use_in CONV_IMAGE_SUBVOL i (file_extent_of i.1)) u → IsUse m u
   image_uses i u h is k =
       let at = from_map (λ (p : Piece). extent_item 257 (source_block p) (regular_extent p.place p.count)) (pieces_of_volume m.pieces) i (image_parts m.volume.sup.blocks m.pieces m.options.datasum m.now i h is) in
       let p : Piece = at.0 in
@@ -85,10 +53,10 @@ module _ (image : Image) (m : Making) (made : IsMaking image m) (size : IsNodeSi
       let from : p.from ≡ Some (source_block p) = from_is p of_all.1 in
       let low = source_low p of_all.0 from in
       let told = piece_use image m made 256 257 (source_block p) p of_all.0 (omega (arith, low)) in
-      let one : Contains (use_at 256 257 (source_block p) p ∷ []) u =
-      subst (λ (l : List DataUse). Contains l u) told (subst (λ (j : Item). Contains (use_in 256 j (file_extent_of j.1)) u) (sym at.2) k) in
-      ⊎_elim (λ (e : use_at 256 257 (source_block p) p ≡ u). by_image p (source_block p) of_all.0 from (sym e)) (λ (none : Contains [] u). absurd (omega (arith, none.1)))
-      (contains_cases u (use_at 256 257 (source_block p) p) [] one)
+      let one : Contains (use_at CONV_IMAGE_SUBVOL 257 (source_block p) p ∷ []) u =
+      subst (λ (l : List DataUse). Contains l u) told (subst (λ (j : Item). Contains (use_in CONV_IMAGE_SUBVOL j (file_extent_of j.1)) u) (sym at.2) k) in
+      ⊎_elim (λ (e : use_at CONV_IMAGE_SUBVOL 257 (source_block p) p ≡ u). by_image p (source_block p) of_all.0 from (sym e)) (λ (none : Contains [] u). absurd (omega (arith, none.1)))
+      (contains_cases u (use_at CONV_IMAGE_SUBVOL 257 (source_block p) p) [] one)
 
   -- ---- no other tree has file extents
 
@@ -105,7 +73,7 @@ module _ (image : Image) (m : Making) (made : IsMaking image m) (size : IsNodeSi
     chunk_none : filter is_file_extent (chunk_items (new_ids m) m.volume.sup.blocks m.chunks) ≡ []
     chunk_none =
         filter_none is_file_extent (chunk_items (new_ids m) m.volume.sup.blocks m.chunks)
-        (All-cons (λ i. is_file_extent i ≡ false) (make_key 1 216 1, device_bytes (device_body (new_ids m) m.volume.sup.blocks m.chunks)) (map (chunk_item (new_ids m)) m.chunks) refl
+        (All-cons (λ i. is_file_extent i ≡ false) (make_key DEV_ITEMS_OBJECTID DEV_ITEM 1, device_bytes (device_body (new_ids m) m.volume.sup.blocks m.chunks)) (map (chunk_item (new_ids m)) m.chunks) refl
         (All-map (λ i. is_file_extent i ≡ false) (chunk_item (new_ids m)) m.chunks (λ n d h. refl)))
 
     root_none : filter is_file_extent (root_tree_items m r) ≡ []
@@ -113,7 +81,7 @@ module _ (image : Image) (m : Making) (made : IsMaking image m) (size : IsNodeSi
 
     extents_none : filter is_file_extent (extent_items m.chunks m.pieces nodes m.options.nodesize) ≡ []
     extents_none =
-        let group : Chunk → Item = λ c. group_item (used_in m.pieces nodes m.options.nodesize c) c in
+        let group : PlannedChunk → Item = λ c. group_item (used_in m.pieces nodes m.options.nodesize c) c in
         filter_none is_file_extent (extent_items m.chunks m.pieces nodes m.options.nodesize)
         (all-merge item_cmp (λ (i : Item). is_file_extent i ≡ false) (map group m.chunks) (merged (map node_item nodes) (map piece_item m.pieces)) (All-map (λ (i : Item). is_file_extent i ≡ false) group m.chunks (λ n d h. refl))
         (all-merge item_cmp (λ (i : Item). is_file_extent i ≡ false) (map node_item nodes) (map piece_item m.pieces)
@@ -142,12 +110,12 @@ module _ (image : Image) (m : Making) (made : IsMaking image m) (size : IsNodeSi
     all_uses : All OnlyUses (all_trees k)
     all_uses =
         let s = super_for m r nodes in
-        let extents : TreeOn = tree_for other s 2 r.extents (extent_items m.chunks m.pieces nodes m.options.nodesize) in
-        let device : TreeOn = tree_for other s 4 r.device (device_items (new_ids m) m.chunks) in
-        let files : TreeOn = tree_for other s 5 r.files (file_tree_items image m) in
-        let sums : TreeOn = tree_for other s 7 r.sums (sum_tree_items other m) in
-        let saved : TreeOn = tree_for other s 256 r.image (image_tree_items m) in
-        let relocation : TreeOn = tree_for other s (2 ^ 64 - 9) r.relocation (relocation_items m.now) in
+        let extents : TreeOn = tree_for other s EXTENT_TREE r.extents (extent_items m.chunks m.pieces nodes m.options.nodesize) in
+        let device : TreeOn = tree_for other s DEV_TREE r.device (device_items (new_ids m) m.chunks) in
+        let files : TreeOn = tree_for other s FS_TREE r.files (file_tree_items image m) in
+        let sums : TreeOn = tree_for other s CSUM_TREE r.sums (sum_tree_items other m) in
+        let saved : TreeOn = tree_for other s CONV_IMAGE_SUBVOL r.image (image_tree_items m) in
+        let relocation : TreeOn = tree_for other s DATA_RELOC_TREE r.relocation (relocation_items m.now) in
         All-cons OnlyUses k.chunk_tree (k.root_tree ∷ k.others) (no_uses k.chunk_tree chunk_none)
         (All-cons OnlyUses k.root_tree k.others (no_uses k.root_tree root_none)
         (six_all OnlyUses extents device files sums saved relocation (no_uses extents extents_none) (no_uses device device_none)

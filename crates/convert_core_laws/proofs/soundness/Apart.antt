@@ -1,40 +1,7 @@
 -- The extents of a converted volume lie apart.
-use Rattle.std.proofs.Common.{◌≡◌, ◌≢◌, ◌⊎◌, ◌≤◌, ◌<◌, ℕ, zero, suc, ◌+◌, ◌*◌, ◌/◌, ◌%◌, ◌^◌, inl, inr, eqb, Bool, cond, List, [], ◌∷◌, length, length-drop, drop, get_or, refl, sym, ap, subst, ◌∙◌, ⊎_elim, arith}
-use Rattle.std.specs.Prelude.{All, AllPairs, Contains}
-use Rattle.std.specs.List.{flat_map, sum_by}
-use Rattle.std.proofs.lemmas.Bool.{cases_eq, cases_lt, eq-eqb, ne_eqb}
-use Rattle.std.proofs.lemmas.List.Sums.{sum_by-cons}
-use Rattle.reiser_volume.specs.outside.History.{Image}
-use Rattle.reiser_volume.specs.vol_block.declared.ids.Ids.{Ids}
-use Rattle.btr_reader.specs.btr_node.NodeSize.{IsNodeSize}
-use Rattle.btr_check_rules.specs.Places.{EndsBefore, IsExtent, a_node, node_kind, some_data}
-use Rattle.btr_check_rules.specs.Recount.{Recount, Span, TreeOn, all_trees}
-use Rattle.convert_core.specs.btr_tree.Writing.{IsInSlots}
-use Rattle.btr_reader.specs.btr_reader_walk.declared.tree.Pointer.{Pointer}
-use Rattle.convert_core.specs.convert_steps.Making.{IsMaking, Making, chunk_slots, new_ids, slots}
-use Rattle.convert_core.specs.convert_steps.Standing.{HasTrees, extents_from, other_nodes}
-use Rattle.convert_core.specs.convert_steps.declared.trees.VolumeTrees.{VolumeTrees}
-use Rattle.convert_core.proofs.Moving.{piece_not_metadata, piece_not_system, sound, well}
-use Rattle.convert_core.proofs.Slots.{slot_unit}
-use Rattle.convert_core_laws.specs.reading.Opened.{IsNewVolume}
-use Rattle.convert_core_laws.proofs.reading.Numbers.{chunk_slots_few, slots_few}
-use Rattle.convert_core.specs.btr_tree.Counting.{tree_nodes}
-use Rattle.convert_core.specs.btr_tree.Roots.{lengths_of}
-use Rattle.convert_core.proofs.extent_pieces.Lists.{all_at, pairs_head, pairs_tail}
-use Rattle.convert_core.proofs.extent_pieces.Owning.{two_cases}
-use Rattle.reiser_volume.specs.Volume.{used_of}
+use Rattle.convert_core_laws.proofs.Imports.{◌≡◌, ◌≢◌, ◌⊎◌, ◌≤◌, ◌<◌, ℕ, zero, suc, ◌+◌, ◌*◌, ◌/◌, ◌%◌, ◌^◌, inl, inr, eqb, Bool, cond, List, [], ◌∷◌, length, length-drop, drop, get_or, refl, sym, ap, subst, ◌∙◌, ⊎_elim, arith, All, AllPairs, Contains, flat_map, sum_by, cases_eq, cases_lt, eq-eqb, ne_eqb, sum_by-cons, CHUNK_TREE, EXTENT_TREE, Image, Ids, IsNodeSize, EndsBefore, IsExtent, a_node, node_kind, some_data, Recount, Span, TreeOn, all_trees, IsInSlots, NodePointer, IsMaking, Making, chunk_slots, new_ids, slots, HasTrees, extents_from, nodes_of_others, VolumeTrees, piece_not_metadata, piece_not_system, sound, well, slot_unit, IsNewVolume, tree_nodes, lengths_of, all_at, pairs_head, pairs_tail, two_cases, used_of, chunk_items, extent_items, AreNodes, TreeNode, merged_ascend, nodes_at_slots, tree_at, used_few, node_places, places_serve, Options, Piece, recount_for}
 use Rattle.reiser_volume.proofs.Reaching.{sum_two}
-use Rattle.convert_core.specs.space_items.Chunks.{chunk_items}
-use Rattle.convert_core.specs.space_items.Extents.{extent_items}
-use Rattle.convert_core.specs.space_items.Nodes.{AreNodes}
-use Rattle.convert_core.specs.space_items.declared.node.TreeNode.{TreeNode}
-use Rattle.convert_core.proofs.space_items.Ascending.{merged_ascend, nodes_at_slots, tree_at}
-use Rattle.convert_trees_laws.proofs.Booting.{used_few}
-use Rattle.convert_core.specs.unit_plan.Places.{node_places}
-use Rattle.convert_core.proofs.unit_plan.Placing.{places_serve}
-use Rattle.convert_core.specs.convert_options.declared.options.Options.{Options}
-use Rattle.convert_core.specs.unit_plan.declared.piece.Piece.{Piece}
-use Rattle.convert_core_laws.specs.soundness.Recounted.{recount_for}
+use Rattle.convert_core_laws.proofs.reading.Numbers.{chunk_slots_few, slots_few}
 use Rattle.convert_core_laws.proofs.soundness.AllUses.{data_is, span_of}
 use Rattle.convert_core_laws.proofs.soundness.Nodes.{LiesAt, node_lies, of_chunks, of_others}
 use Rattle.convert_core_laws.proofs.soundness.Recounting.{nodesize_is}
@@ -151,12 +118,12 @@ module _ (o : Options) (ids : Ids) (now : ℕ) (image other : Image) (m : Making
       let first : AreNodes (row o ids now image other m r nodes v) = nodes_at_slots (row o ids now image other m r nodes v) (slots m) (extents_from r) (row_ends o ids now image other m r nodes v) all (omega (arith, few)) in
       let second : AreNodes (chunked o ids now image other m r nodes v) =
       nodes_at_slots (chunked o ids now image other m r nodes v) (chunk_slots m) (tree_nodes n (lengths_of (chunk_items (new_ids m) m.volume.sup.blocks m.chunks)))
-      (tree_at 3 n (lengths_of (chunk_items (new_ids m) m.volume.sup.blocks m.chunks)) (chunk_slots m)) chunk_slots_ascend (omega (arith, chunk_few)) in
+      (tree_at CHUNK_TREE n (lengths_of (chunk_items (new_ids m) m.volume.sup.blocks m.chunks)) (chunk_slots m)) chunk_slots_ascend (omega (arith, chunk_few)) in
       let third : AreNodes (extended o ids now image other m r nodes v) =
       nodes_at_slots (extended o ids now image other m r nodes v) rest (tree_nodes n (lengths_of (extent_items m.chunks m.pieces nodes n)))
-      (tree_at 2 n (lengths_of (extent_items m.chunks m.pieces nodes n)) rest) (left_pairs (extents_from r) (slots m) all) (shorter few) in
+      (tree_at EXTENT_TREE n (lengths_of (extent_items m.chunks m.pieces nodes n)) rest) (left_pairs (extents_from r) (slots m) all) (shorter few) in
       subst (AllPairs (λ (t u : TreeNode). t.address < u.address)) (sym stand.nodes_are.is)
-      (merged_ascend (other_nodes image other m r) (extended o ids now image other m r nodes v)
+      (merged_ascend (nodes_of_others image other m r) (extended o ids now image other m r nodes v)
       (merged_ascend (row o ids now image other m r nodes v) (chunked o ids now image other m r nodes v) first.ascending second.ascending) third.ascending)
     where
       shorter : length (slots m) ≤ 2 ^ 37 → length (drop (extents_from r) (slots m)) < 2 ^ 44
@@ -164,9 +131,9 @@ module _ (o : Options) (ids : Ids) (now : ℕ) (image other : Image) (m : Making
 
   pub once : AllPairs (λ p q. p.address ≢ q.address) (flat_map (λ (t : TreeOn). t.nodes) (all_trees k))
   once = λ i j d l h e.
-      let all : List Pointer = flat_map (λ (t : TreeOn). t.nodes) (all_trees k) in
+      let all : List NodePointer = flat_map (λ (t : TreeOn). t.nodes) (all_trees k) in
       let x : ℕ = (get_or all i d).address in
-      let both = sum_two (λ (p : Pointer). hits x p.address) all i j d l h in
+      let both = sum_two (λ (p : NodePointer). hits x p.address) all i j d l h in
       let told = nodes_sum o ids now image other m r nodes v (hits x) in
       let most = one_hit x nodes nodes_ascend in
       let first : hits x (get_or all i d).address ≡ 1 = ap (λ (b : Bool). cond b 1 0) (eq-eqb (get_or all i d).address x refl) in

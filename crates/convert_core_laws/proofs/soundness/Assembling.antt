@@ -1,34 +1,20 @@
 -- A tree has its names where its items tell the same ones in each way.
-use Rattle.std.proofs.Common.{◌≡◌, ◌≢◌, ◌<◌, ℕ, ◌*◌, ◌==◌, true, false, cond, List, [], ◌∷◌, ◌++◌, map, filter, flat_map, Contains, sum_by, count_by, length, Some, refl, sym, ap, ap₂, subst, ◌∙◌, ⊎_elim, arith}
-use Rattle.std.specs.Prelude.{All}
-use Rattle.std.specs.List.{AllByRecursion}
-use Rattle.std.specs.List.Sorted.{IsPermutation}
-use Rattle.std.proofs.lemmas.Bool.{eqb-true}
-use Rattle.std.proofs.lemmas.List.{append-nil, map-append}
-use Rattle.std.proofs.lemmas.List.Sorted.{IsPermutation-append, IsPermutation-refl, IsPermutation-trans, sum_by-IsPermutation}
-use Rattle.reiser_volume.proofs.fs_paths.Lists.{at_head, from_filter, head_or_tail, in_tail}
-use Rattle.btr_reader.specs.btr_keys.Inode.{inode_of}
-use Rattle.btr_reader.specs.btr_keys.declared.inode.Inode.{Inode}
-use Rattle.btr_reader.specs.btr_node.Leaf.{Item}
-use Rattle.btr_check_rules.specs.Names.{AreNames, AreOnForm, BackName, Entry, IndexEntry, IsInode, IsThere, IsTreeEntry, back_name, directory_size, hashed_entries, index_entries, name_count, names_inode, of_kind, own_name, ref_names}
-use Rattle.btr_check_rules.specs.Recount.{TreeOn}
-use Rattle.convert_trees_laws.proofs.Rising.{Climb, all_append}
-use Rattle.reiser_volume.proofs.reiser_bitmap.Ranges.{all_from_contains}
-use Rattle.convert_trees_laws.proofs.Lists.{all_in}
+use Rattle.convert_core_laws.proofs.Imports.{◌≡◌, ◌≢◌, ◌<◌, ℕ, ◌*◌, ◌==◌, true, false, cond, List, [], ◌∷◌, ◌++◌, map, filter, count_by, length, Some, refl, sym, ap, ap₂, subst, ◌∙◌, ⊎_elim, arith, All, AllByRecursion, IsPermutation, eqb-true, append-nil, map-append, IsPermutation-append, IsPermutation-refl, IsPermutation-trans, sum_by-IsPermutation, DIR_INDEX, DIR_ITEM, EXTENT_DATA, INODE_EXTREF, INODE_ITEM, INODE_REF, at_head, from_filter, head_or_tail, in_tail, inode_of, Inode, Item, AreTreeNames, AreOnForm, BackName, NamedEntry, IndexEntry, IsInode, IsThere, IsTreeEntry, back_name, directory_size, hashed_entries, index_entries, ref_name_count, names_inode_item, own_name, ref_names, TreeOn, of_kind, Climb, all_append, all_from_contains, all_in}
+use Rattle.std.proofs.Common.{flat_map, Contains, sum_by}
 use Rattle.convert_core_laws.proofs.soundness.NameLists.{flat_append, flat_kept, middle_swap}
 use Rattle.convert_core_laws.proofs.soundness.Telling.{IsOnForm, Told, far_of, hashed_of, if_kind, indexed_of, ref_of}
 
-abbrev pub entry_part : IndexEntry → Entry
+abbrev pub entry_part : IndexEntry → NamedEntry
 entry_part e = e.entry
 
 -- What items tell: these entries by their indexes, the same ones by their hashes, and these names of inodes.
 pub record Tells (items : List Item) (indexes : List IndexEntry) (names : List BackName) : Type 0 where
-  pub index : flat_map (if_kind 96 indexed_of) items ≡ indexes
-  pub hashed : IsPermutation (map entry_part indexes) (flat_map (if_kind 84 hashed_of) items)
-  pub refs : IsPermutation names (flat_map (if_kind 12 ref_of) items ++ flat_map (if_kind 13 far_of) items)
+  pub index : flat_map (if_kind DIR_INDEX indexed_of) items ≡ indexes
+  pub hashed : IsPermutation (map entry_part indexes) (flat_map (if_kind DIR_ITEM hashed_of) items)
+  pub refs : IsPermutation names (flat_map (if_kind INODE_REF ref_of) items ++ flat_map (if_kind INODE_EXTREF far_of) items)
   pub forms : AllByRecursion IsOnForm items
 
-pub tells_of : (items : List Item) (h : List Entry) (x : List IndexEntry) (r f names : List BackName) → Told items h x r f → IsPermutation (map entry_part x) h → IsPermutation names (r ++ f) → Tells items x names
+pub tells_of : (items : List Item) (h : List NamedEntry) (x : List IndexEntry) (r f names : List BackName) → Told items h x r f → IsPermutation (map entry_part x) h → IsPermutation names (r ++ f) → Tells items x names
 tells_of items h x r f names told entries back = record {
   index = told.index_is;
   hashed = subst (IsPermutation (map entry_part x)) (sym told.hash_is) entries;
@@ -41,19 +27,19 @@ tells_none = record { index = refl; hashed = IsPermutation-refl []; refs = IsPer
 
 pub tells_append : (xs ys : List Item) (a b : List IndexEntry) (m n : List BackName) → Tells xs a m → Tells ys b n → Tells (xs ++ ys) (a ++ b) (m ++ n)
 tells_append xs ys a b m n one two =
-    let rx : List BackName = flat_map (if_kind 12 ref_of) xs in
-    let ry : List BackName = flat_map (if_kind 12 ref_of) ys in
-    let fx : List BackName = flat_map (if_kind 13 far_of) xs in
-    let fy : List BackName = flat_map (if_kind 13 far_of) ys in
-    let hx : List Entry = flat_map (if_kind 84 hashed_of) xs in
-    let hy : List Entry = flat_map (if_kind 84 hashed_of) ys in
+    let rx : List BackName = flat_map (if_kind INODE_REF ref_of) xs in
+    let ry : List BackName = flat_map (if_kind INODE_REF ref_of) ys in
+    let fx : List BackName = flat_map (if_kind INODE_EXTREF far_of) xs in
+    let fy : List BackName = flat_map (if_kind INODE_EXTREF far_of) ys in
+    let hx : List NamedEntry = flat_map (if_kind DIR_ITEM hashed_of) xs in
+    let hy : List NamedEntry = flat_map (if_kind DIR_ITEM hashed_of) ys in
     record {
-      index = flat_append (if_kind 96 indexed_of) xs ys ∙ (ap (λ (l : List IndexEntry). l ++ flat_map (if_kind 96 indexed_of) ys) one.index ∙ ap (λ (l : List IndexEntry). a ++ l) two.index);
+      index = flat_append (if_kind DIR_INDEX indexed_of) xs ys ∙ (ap (λ (l : List IndexEntry). l ++ flat_map (if_kind DIR_INDEX indexed_of) ys) one.index ∙ ap (λ (l : List IndexEntry). a ++ l) two.index);
       hashed =
-          subst (λ (l : List Entry). IsPermutation l (flat_map (if_kind 84 hashed_of) (xs ++ ys))) (sym (map-append entry_part a b))
-          (subst (IsPermutation (map entry_part a ++ map entry_part b)) (sym (flat_append (if_kind 84 hashed_of) xs ys)) (IsPermutation-append (map entry_part a) hx (map entry_part b) hy one.hashed two.hashed));
+          subst (λ (l : List NamedEntry). IsPermutation l (flat_map (if_kind DIR_ITEM hashed_of) (xs ++ ys))) (sym (map-append entry_part a b))
+          (subst (IsPermutation (map entry_part a ++ map entry_part b)) (sym (flat_append (if_kind DIR_ITEM hashed_of) xs ys)) (IsPermutation-append (map entry_part a) hx (map entry_part b) hy one.hashed two.hashed));
       refs =
-          subst (IsPermutation (m ++ n)) (sym (ap₂ (λ (r f : List BackName). r ++ f) (flat_append (if_kind 12 ref_of) xs ys) (flat_append (if_kind 13 far_of) xs ys)))
+          subst (IsPermutation (m ++ n)) (sym (ap₂ (λ (r f : List BackName). r ++ f) (flat_append (if_kind INODE_REF ref_of) xs ys) (flat_append (if_kind INODE_EXTREF far_of) xs ys)))
           (IsPermutation-trans (m ++ n) ((rx ++ fx) ++ (ry ++ fy)) ((rx ++ ry) ++ (fx ++ fy)) (IsPermutation-append m (rx ++ fx) n (ry ++ fy) one.refs two.refs) (middle_swap rx fx ry fy));
       forms = all_append IsOnForm xs ys one.forms two.forms;
     }
@@ -66,13 +52,13 @@ tells_flat f g h (k ∷ ks) each = tells_append (f k) (flat_map f ks) (g k) (fla
 
 module _ (t : TreeOn) (indexes : List IndexEntry) (names : List BackName) (tells : Tells t.items indexes names) where
   pub entries_are : index_entries t ≡ indexes
-  entries_are = flat_kept (λ (i : Item). i.0.kind == 96) indexed_of t.items ∙ tells.index
+  entries_are = flat_kept (λ (i : Item). i.0.kind == DIR_INDEX) indexed_of t.items ∙ tells.index
 
-  hashed_are : hashed_entries t ≡ flat_map (if_kind 84 hashed_of) t.items
-  hashed_are = flat_kept (λ (i : Item). i.0.kind == 84) hashed_of t.items
+  hashed_are : hashed_entries t ≡ flat_map (if_kind DIR_ITEM hashed_of) t.items
+  hashed_are = flat_kept (λ (i : Item). i.0.kind == DIR_ITEM) hashed_of t.items
 
-  refs_are : ref_names t ≡ flat_map (if_kind 12 ref_of) t.items ++ flat_map (if_kind 13 far_of) t.items
-  refs_are = ap₂ (λ (a b : List BackName). a ++ b) (flat_kept (λ (i : Item). i.0.kind == 12) ref_of t.items) (flat_kept (λ (i : Item). i.0.kind == 13) far_of t.items)
+  refs_are : ref_names t ≡ flat_map (if_kind INODE_REF ref_of) t.items ++ flat_map (if_kind INODE_EXTREF far_of) t.items
+  refs_are = ap₂ (λ (a b : List BackName). a ++ b) (flat_kept (λ (i : Item). i.0.kind == INODE_REF) ref_of t.items) (flat_kept (λ (i : Item). i.0.kind == INODE_EXTREF) far_of t.items)
 
   refs_told : IsPermutation names (ref_names t)
   refs_told = subst (IsPermutation names) (sym refs_are) tells.refs
@@ -85,12 +71,12 @@ module _ (t : TreeOn) (indexes : List IndexEntry) (names : List BackName) (tells
 
   forms : AreOnForm t.items
   forms = record {
-    inodes = of_form 1 _ (λ i is form. form.inode is);
-    refs = of_form 12 _ (λ i is form. form.refs is);
-    extrefs = of_form 13 _ (λ i is form. form.extrefs is);
-    hashed = of_form 84 _ (λ i is form. form.hashed is);
-    indexed = of_form 96 _ (λ i is form. form.indexed is);
-    extents = of_form 108 _ (λ i is form. form.extent is);
+    inodes = of_form INODE_ITEM _ (λ i is form. form.inode is);
+    refs = of_form INODE_REF _ (λ i is form. form.refs is);
+    extrefs = of_form INODE_EXTREF _ (λ i is form. form.extrefs is);
+    hashed = of_form DIR_ITEM _ (λ i is form. form.hashed is);
+    indexed = of_form DIR_INDEX _ (λ i is form. form.indexed is);
+    extents = of_form EXTENT_DATA _ (λ i is form. form.extent is);
   }
 
   -- the letters of a directory
@@ -98,21 +84,21 @@ module _ (t : TreeOn) (indexes : List IndexEntry) (names : List BackName) (tells
   size_is ino = ap (λ (l : List IndexEntry). 2 * sum_by (λ e. length e.entry.name) (filter (λ e. e.entry.dir == ino) l)) entries_are
 
   -- the names of an inode
-  pub count_is : (ino : ℕ) → name_count t ino ≡ count_by (λ n. n.inode == ino) names
+  pub count_is : (ino : ℕ) → ref_name_count t ino ≡ count_by (λ n. n.inode == ino) names
   count_is ino = sum_by-IsPermutation (λ (n : BackName). cond (n.inode == ino) 1 0) names (ref_names t) refs_told
 
-  pub have_names : (roots : List Item) → IsPermutation (own_name ∷ map back_name (filter names_inode indexes)) names
-      → ((e : IndexEntry) → Contains indexes e → names_inode e ≡ false → IsTreeEntry roots t.number e)
-      → ((e : IndexEntry) → Contains indexes e → IsThere t e.entry.dir × (names_inode e ≡ true → IsThere t e.entry.location.objectid))
-      → ((ino : ℕ) (body : List ℕ) (inode : Inode) → Contains t.items (record { objectid = ino; kind = 1; offset = 0 }, body) → inode_of body ≡ Some inode → IsInode t ino inode) → AreNames roots t
+  pub have_names : (roots : List Item) → IsPermutation (own_name ∷ map back_name (filter names_inode_item indexes)) names
+      → ((e : IndexEntry) → Contains indexes e → names_inode_item e ≡ false → IsTreeEntry roots t.number e)
+      → ((e : IndexEntry) → Contains indexes e → IsThere t e.entry.dir × (names_inode_item e ≡ true → IsThere t e.entry.location.objectid))
+      → ((ino : ℕ) (body : List ℕ) (inode : Inode) → Contains t.items (record { objectid = ino; kind = INODE_ITEM; offset = 0 }, body) → inode_of body ≡ Some inode → IsInode t ino inode) → AreTreeNames roots t
   have_names roots same trees there inodes = record {
     forms = forms;
     entries = subst (λ (l : List IndexEntry). IsPermutation (map entry_part l) (hashed_entries t)) (sym entries_are) (subst (IsPermutation (map entry_part indexes)) (sym hashed_are) tells.hashed);
-    names = subst (λ (l : List IndexEntry). IsPermutation (own_name ∷ map back_name (filter names_inode l)) (ref_names t)) (sym entries_are)
-        (IsPermutation-trans (own_name ∷ map back_name (filter names_inode indexes)) names (ref_names t) same refs_told);
-    trees = subst (All (λ e. names_inode e ≡ false → IsTreeEntry roots t.number e)) (sym entries_are) (all_from_contains (λ e. names_inode e ≡ false → IsTreeEntry roots t.number e) indexes trees);
-    there = subst (All (λ e. IsThere t e.entry.dir × (names_inode e ≡ true → IsThere t e.entry.location.objectid))) (sym entries_are)
-        (all_from_contains (λ e. IsThere t e.entry.dir × (names_inode e ≡ true → IsThere t e.entry.location.objectid)) indexes there);
+    names = subst (λ (l : List IndexEntry). IsPermutation (own_name ∷ map back_name (filter names_inode_item l)) (ref_names t)) (sym entries_are)
+        (IsPermutation-trans (own_name ∷ map back_name (filter names_inode_item indexes)) names (ref_names t) same refs_told);
+    trees = subst (All (λ e. names_inode_item e ≡ false → IsTreeEntry roots t.number e)) (sym entries_are) (all_from_contains (λ e. names_inode_item e ≡ false → IsTreeEntry roots t.number e) indexes trees);
+    there = subst (All (λ e. IsThere t e.entry.dir × (names_inode_item e ≡ true → IsThere t e.entry.location.objectid))) (sym entries_are)
+        (all_from_contains (λ e. IsThere t e.entry.dir × (names_inode_item e ≡ true → IsThere t e.entry.location.objectid)) indexes there);
     inodes = inodes;
   }
 

@@ -1,37 +1,6 @@
 -- The block groups of a converted volume tell what its chunks hold.
-use Rattle.std.proofs.Common.{◌≡◌, ◌≤◌, ℕ, ◌+◌, ◌*◌, ◌&&◌, Bool, cond, List, [], ◌∷◌, map, get_or, Some, refl, sym, ap, subst, ◌∙◌, ⊎_elim, arith, nat_le, nat_lt}
-use Rattle.std.specs.Prelude.{All, AllPairs, Contains}
-use Rattle.std.specs.List.{flat_map, sum_by}
-use Rattle.std.proofs.lemmas.List.Elements.{All-map}
-use Rattle.std.proofs.lemmas.List.Sums.{sum_by-cons}
-use Rattle.reiser_volume.proofs.fs_paths.Lists.{from_map, in_map}
-use Rattle.reiser_volume.specs.outside.History.{Image}
-use Rattle.reiser_volume.specs.vol_block.declared.ids.Ids.{Ids}
-use Rattle.btr_reader.specs.btr_node.Leaf.{Item}
-use Rattle.btr_reader.specs.btr_node.NodeSize.{IsNodeSize}
-use Rattle.btr_check_rules.specs.Groups.{AreGroups, AreRanges, IsGroupOf, chunk_span, data_bytes_in, groups, node_bytes_in, used_in}
-use Rattle.btr_check_rules.specs.Recount.{IsData, Recount, Span, TreeOn, all_trees, is_within}
-use Rattle.btr_reader.specs.declared.chunk.ChunkAt.{ChunkAt}
-use Rattle.btr_reader.specs.btr_space_items.declared.block_group.BlockGroup.{BlockGroup}
-use Rattle.btr_reader.specs.btr_reader_walk.declared.tree.Pointer.{Pointer}
-use Rattle.convert_core.specs.convert_steps.Making.{IsMaking, Making, new_ids}
-use Rattle.convert_core.specs.convert_steps.declared.trees.VolumeTrees.{VolumeTrees}
-use Rattle.convert_core.proofs.Moving.{well}
-use Rattle.convert_core_laws.specs.reading.Identifiers.{NewIdsFit}
-use Rattle.convert_core_laws.specs.reading.Opened.{IsNewVolume, chunk_at}
+use Rattle.convert_core_laws.proofs.Imports.{◌≡◌, ◌≤◌, ℕ, ◌+◌, ◌*◌, ◌&&◌, Bool, cond, List, [], ◌∷◌, map, get_or, Some, refl, sym, ap, subst, ◌∙◌, ⊎_elim, arith, nat_le, nat_lt, All, AllPairs, Contains, flat_map, sum_by, All-map, sum_by-cons, FIRST_CHUNK_TREE_OBJECTID, from_map, in_map, Image, Ids, Item, IsNodeSize, AreBlockGroups, AreRanges, IsGroupOf, chunk_span, data_bytes_in, groups, node_bytes_in, bytes_used_in, IsData, Recount, Span, TreeOn, all_trees, is_within, ChunkAt, BlockGroup, NodePointer, IsMaking, Making, new_ids, VolumeTrees, well, NewIdsFit, IsNewVolume, chunk_at, pairs_map, FilesAreHeld, sum_alike, sum_kept, sum_mapped, all_from_contains, contains_cases, chunk_kind, bytes_of_nodes, bytes_of_pieces, group_item, is_in_chunk, used_in as used_of_chunk, TreeNode, PlannedChunk, Options, Piece, ConvertedBlockGroupsAreSound, recount_for}
 use Rattle.convert_core_laws.proofs.reading.Numbers.{used_small}
-use Rattle.convert_core.proofs.extent_pieces.Lists.{pairs_map}
-use Rattle.convert_trees_laws.specs.Held.{FilesAreHeld}
-use Rattle.convert_trees_laws.proofs.Short.{sum_alike, sum_kept, sum_mapped}
-use Rattle.reiser_volume.proofs.reiser_bitmap.Ranges.{all_from_contains, contains_cases}
-use Rattle.convert_core.specs.space_items.Chunks.{chunk_kind}
-use Rattle.convert_core.specs.space_items.Extents.{bytes_of_nodes, bytes_of_pieces, group_item, is_in_chunk, used_in as used_of_chunk}
-use Rattle.convert_core.specs.space_items.declared.node.TreeNode.{TreeNode}
-use Rattle.convert_core.specs.unit_plan.declared.chunk.Chunk.{Chunk}
-use Rattle.convert_core.specs.convert_options.declared.options.Options.{Options}
-use Rattle.convert_core.specs.unit_plan.declared.piece.Piece.{Piece}
-use Rattle.convert_core_laws.specs.soundness.Laws.{ConvertedBlockGroupsAreSound}
-use Rattle.convert_core_laws.specs.soundness.Recounted.{recount_for}
 use Rattle.convert_core_laws.proofs.soundness.AllUses.{data_is, span_of}
 use Rattle.convert_core_laws.proofs.soundness.Recounting.{nodesize_is, volume_for}
 use Rattle.convert_core_laws.proofs.soundness.Row.{nodes_sum}
@@ -47,7 +16,7 @@ part_of_sum {X} f (y ∷ ys) x h =
     ⊎_elim (λ (same : y ≡ x). let is : f y ≡ f x = ap f same in omega (arith, whole, is)) (λ (later : Contains ys x). let rest = part_of_sum f ys x later in omega (arith, whole, rest)) (contains_cases x y ys h)
 
 -- the same test of an address
-same_test : (ids : Ids) (c : Chunk) (a : ℕ) → is_within (chunk_span (chunk_at ids c)) a ≡ is_in_chunk c a
+same_test : (ids : Ids) (c : PlannedChunk) (a : ℕ) → is_within (chunk_span (chunk_at ids c)) a ≡ is_in_chunk c a
 same_test ids c a = let end : 4096 * c.start + 4096 * c.length ≡ 4096 * (c.start + c.length) = omega arith in ap (λ (n : ℕ). nat_le (4096 * c.start) a && nat_lt a n) end
 
 module _ (o : Options) (ids : Ids) (now : ℕ) (image other : Image) (m : Making) (r : VolumeTrees) (nodes : List TreeNode) (v : IsNewVolume o ids now image other m r nodes) (held : FilesAreHeld) where
@@ -82,18 +51,18 @@ module _ (o : Options) (ids : Ids) (now : ℕ) (image other : Image) (m : Making
 
   -- ---- the bytes in a chunk
 
-  abbrev span : Chunk → Span
+  abbrev span : PlannedChunk → Span
   span c = chunk_span (chunk_at (new_ids m) c)
 
-  of_nodes : (c : Chunk) → node_bytes_in k (span c) ≡ bytes_of_nodes nodes m.options.nodesize c
+  of_nodes : (c : PlannedChunk) → node_bytes_in k (span c) ≡ bytes_of_nodes nodes m.options.nodesize c
   of_nodes c =
-      sum_kept (λ (p : Pointer). is_within (span c) p.address) (λ (p : Pointer). k.super.nodesize) (flat_map (λ (t : TreeOn). t.nodes) (all_trees k))
+      sum_kept (λ (p : NodePointer). is_within (span c) p.address) (λ (p : NodePointer). k.super.nodesize) (flat_map (λ (t : TreeOn). t.nodes) (all_trees k))
       ∙ (nodes_sum o ids now image other m r nodes v (λ (a : ℕ). cond (is_within (span c) a) k.super.nodesize 0)
       ∙ (sum_alike (λ (t : TreeNode). cond (is_within (span c) t.address) k.super.nodesize 0) (λ (t : TreeNode). cond (is_in_chunk c t.address) m.options.nodesize 0) nodes
       (λ t. ap (λ (b : Bool). cond b k.super.nodesize 0) (same_test (new_ids m) c t.address) ∙ ap (λ (n : ℕ). cond (is_in_chunk c t.address) n 0) (nodesize_is m r nodes))
       ∙ sym (sum_kept (λ (t : TreeNode). is_in_chunk c t.address) (λ (t : TreeNode). m.options.nodesize) nodes)))
 
-  of_data : (c : Chunk) → data_bytes_in spans (span c) ≡ bytes_of_pieces m.pieces c
+  of_data : (c : PlannedChunk) → data_bytes_in spans (span c) ≡ bytes_of_pieces m.pieces c
   of_data c =
       sum_kept (λ (s : Span). is_within (span c) s.start) (λ (s : Span). s.length) spans
       ∙ (sum_mapped span_of (λ (s : Span). cond (is_within (span c) s.start) s.length 0) m.pieces
@@ -101,29 +70,29 @@ module _ (o : Options) (ids : Ids) (now : ℕ) (image other : Image) (m : Making
       (λ p. ap (λ (b : Bool). cond b (4096 * p.count) 0) (same_test (new_ids m) c (4096 * p.place)))
       ∙ sym (sum_kept (λ (p : Piece). is_in_chunk c (4096 * p.place)) (λ (p : Piece). 4096 * p.count) m.pieces)))
 
-  used_is : (c : Chunk) → used_in k spans (chunk_at (new_ids m) c) ≡ used_of_chunk m.pieces nodes m.options.nodesize c
+  used_is : (c : PlannedChunk) → bytes_used_in k spans (chunk_at (new_ids m) c) ≡ used_of_chunk m.pieces nodes m.options.nodesize c
   used_is c = let one = of_nodes c in let two = of_data c in omega (arith, one, two)
 
-  abbrev group_of : Chunk → Item
+  abbrev group_of : PlannedChunk → Item
   group_of c = group_item (used_of_chunk m.pieces nodes m.options.nodesize c) c
 
-  is_group : (c : Chunk) → Contains m.chunks c → IsGroupOf k spans (chunk_at (new_ids m) c) (group_of c)
+  is_group : (c : PlannedChunk) → Contains m.chunks c → IsGroupOf k spans (chunk_at (new_ids m) c) (group_of c)
   is_group c h =
       let part = part_of_sum (used_of_chunk m.pieces nodes m.options.nodesize) m.chunks c h in
       let whole = used_small image m making size other r nodes v.new.stands.trees in
       record {
         key = refl;
         body = group_reads (used_of_chunk m.pieces nodes m.options.nodesize c) c (omega (arith, part, whole))
-            ∙ ap (λ (n : ℕ). let g : BlockGroup = record { used = n; chunk_objectid = 256; flags = chunk_kind c.role } in Some g) (sym (used_is c));
+            ∙ ap (λ (n : ℕ). let g : BlockGroup = record { used = n; chunk_objectid = FIRST_CHUNK_TREE_OBJECTID; flags = chunk_kind c.role } in Some g) (sym (used_is c));
       }
 
-  pub block_groups : AreGroups k
+  pub block_groups : AreBlockGroups k
   block_groups = record {
     spans = spans;
     ranges = spans_are;
     each = subst (All (λ i. (c : ChunkAt) × Contains k.chunks c × IsGroupOf k spans c i)) (sym (groups_are image other m r nodes))
         (All-map (λ i. (c : ChunkAt) × Contains k.chunks c × IsGroupOf k spans c i) group_of m.chunks
-        (all_from_contains (λ (c : Chunk). (d : ChunkAt) × Contains k.chunks d × IsGroupOf k spans d (group_of c)) m.chunks (λ c h. (chunk_at (new_ids m) c, chunk_there o ids now image other m r nodes v c h, is_group c h))));
+        (all_from_contains (λ (c : PlannedChunk). (d : ChunkAt) × Contains k.chunks d × IsGroupOf k spans d (group_of c)) m.chunks (λ c h. (chunk_at (new_ids m) c, chunk_there o ids now image other m r nodes v c h, is_group c h))));
     whole = all_from_contains (λ (c : ChunkAt). (i : Item) × Contains (groups k) i × IsGroupOf k spans c i) k.chunks (λ c h.
         let at = chunk_from o ids now image other m r nodes v c h in (
           group_of at.0,

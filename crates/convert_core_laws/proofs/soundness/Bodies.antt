@@ -1,16 +1,8 @@
 -- The bodies of extents are read back.
-use Rattle.std.proofs.Common.{◌≡◌, ◌<◌, ℕ, ◌^◌, List, length, refl, ap, ◌∙◌, arith}
-use Rattle.std.specs.List.{AllByRecursion, flat_map}
-use Rattle.std.proofs.lemmas.List.{drop_at}
-use Rattle.btr_check_rules.specs.References.{HasRefs}
+use Rattle.convert_core_laws.proofs.Imports.{◌≡◌, ◌≤◌, ◌<◌, ℕ, ◌^◌, nat_lt, true, false, List, [], ◌∷◌, length, refl, ap, ◌∙◌, arith, AllPairs, AllByRecursion, flat_map, nat_tests, drop_at, All-cons, All-nil, AllPairs-cons, HasRefs, StandsBefore, FitsInline, data_ref_layout, inline_ref_bytes, inline_refs_of, tree_block_layout, InlineRef, DataRef, TreeBlock, extent_heads_read_back, extent_body}
 use Rattle.btr_reader.specs.btr_space_items.ExtentHead.{extent_head_bytes, extent_head_layout}
-use Rattle.btr_reader.specs.btr_space_items.InlineRef.{FitsInline, data_ref_layout, inline_ref_bytes, inline_refs_of, tree_block_layout}
 use Rattle.btr_reader.specs.btr_space_items.declared.extent_head.ExtentHead.{ExtentHead}
-use Rattle.btr_reader.specs.btr_space_items.declared.inline_ref.InlineRef.{InlineRef}
-use Rattle.btr_reader.specs.btr_space_items.declared.inline_ref.InlineRef.TheVariants.{DataRef, TreeBlock}
 use Rattle.btr_reader.proofs.btr_space_items.InlineLaw.{inline_refs_read_back}
-use Rattle.btr_reader.proofs.btr_space_items.Records.{extent_heads_read_back}
-use Rattle.convert_core.specs.space_items.Extents.{extent_body}
 
 abbrev head_of : ℕ → ℕ → ExtentHead
 head_of count flags = record { refs = count; generation = 1; flags = flags }
@@ -32,9 +24,23 @@ pub data_fits : (tree inode offset : ℕ) → tree < 2 ^ 64 → inode < 2 ^ 64 �
 unfolding data_ref_layout
 data_fits tree inode offset one two three = (((((tt, omega arith), omega (arith, one)), omega (arith, two)), omega (arith, three)), omega arith)
 
+-- the order of one reference, and of two
+pub one_alone : (a : InlineRef) → AllPairs StandsBefore (a ∷ [])
+one_alone a = λ i j d l h. absurd (omega (arith, l, h))
+
+pub two_ordered : (a b : InlineRef) → StandsBefore a b → AllPairs StandsBefore (a ∷ (b ∷ []))
+two_ordered a b before = AllPairs-cons StandsBefore a (b ∷ []) (All-cons (StandsBefore a) b [] before (All-nil (StandsBefore a))) (one_alone b)
+
+-- what the test of two hashes says
+pub hash_above : (a b : ℕ) → nat_lt a b ≡ true → a ≤ b
+hash_above a b t = grind (arith, nat_tests)
+
+pub hash_below : (a b : ℕ) → nat_lt a b ≡ false → b ≤ a
+hash_below a b f = grind (arith, nat_tests)
+
 -- the body has just these references
-pub has_refs : (flags : ℕ) (refs : List InlineRef) → flags < 2 ^ 64 → length refs < 2 ^ 64 → AllByRecursion FitsInline refs → HasRefs (extent_body flags refs) flags (length refs) refs
-has_refs flags refs low few fits =
+pub has_refs : (newest flags : ℕ) (refs : List InlineRef) → 1 ≤ newest → flags < 2 ^ 64 → length refs < 2 ^ 64 → AllByRecursion FitsInline refs → AllPairs StandsBefore refs → HasRefs newest (extent_body flags refs) flags (length refs) refs
+has_refs newest flags refs some low few fits order =
     let head : ExtentHead = head_of (length refs) flags in
     let rest : List ℕ = flat_map inline_ref_bytes refs in
     record {
@@ -43,4 +49,6 @@ has_refs flags refs low few fits =
       refs_are = ap inline_refs_of (drop_at (extent_head_bytes head) rest 24 (head_long head)) ∙ inline_refs_read_back refs fits;
       count_is = refl;
       kind_is = refl;
+      generation = some;
+      order = order;
     }

@@ -1,55 +1,12 @@
 -- The checksums of a converted volume are sound.
-use Rattle.std.proofs.Common.{◌≡◌, ◌≢◌, ◌≤◌, ◌<◌, ℕ, ◌+◌, ◌*◌, ◌/◌, ◌%◌, ◌^◌, Bool, true, false, List, [], map, Option, Some, None, refl, sym, ap, subst, ◌∙◌, ⊎_elim, true≢false, arith}
-use Rattle.std.specs.Prelude.{All, AllPairs, Contains, if◌then◌else◌, is_some, ◌↔◌}
-use Rattle.std.proofs.lemmas.List.{append-nil}
-use Rattle.reiser_volume.proofs.fs_paths.Lists.{from_flat_map, in_flat_map}
-use Rattle.reiser_volume.specs.outside.History.{Image}
-use Rattle.reiser_volume.specs.vol_block.declared.ids.Ids.{Ids}
-use Rattle.btr_reader.specs.btr_keys.Inode.{inode_bytes, inode_of}
-use Rattle.btr_reader.specs.btr_keys.Key.{make_key}
-use Rattle.btr_reader.specs.btr_keys.declared.inode.Inode.{Inode}
-use Rattle.btr_reader.specs.btr_node.Leaf.{Item}
-use Rattle.btr_reader.specs.btr_node.NodeSize.{IsNodeSize}
-use Rattle.btr_reader.specs.Chunks.{data_kind, range_of}
-use Rattle.btr_reader.specs.Opening.{form_of}
-use Rattle.btr_check_rules.specs.Names.{has_no_sums}
-use Rattle.btr_check_rules.specs.Places.{IsExtent, some_data}
-use Rattle.btr_check_rules.specs.Recount.{DataUse, Recount, TreeOn, all_trees, data_uses, items_of_tree, uses_in}
-use Rattle.btr_check_rules.specs.Sums.{AreSums, HasSum, IsRight, IsSumItem, WantsSum, sum_count}
-use Rattle.btr_reader.specs.btr_reader_walk.Map.{place}
-use Rattle.btr_reader.specs.btr_reader_walk.declared.tree.Form.{Form}
-use Rattle.convert_core.specs.convert_steps.Making.{IsMaking, Making}
-use Rattle.convert_core.specs.convert_steps.Source.{HasPieces, made_from}
-use Rattle.convert_core.specs.convert_steps.Standing.{file_tree_items, image_tree_items, sum_tree_items}
-use Rattle.convert_core.specs.convert_steps.declared.trees.VolumeTrees.{VolumeTrees}
-use Rattle.convert_core.proofs.Moving.{well}
-use Rattle.convert_core.proofs.Wholeness.{blocks_few}
-use Rattle.convert_core_laws.specs.reading.Identifiers.{NewIdsFit}
-use Rattle.convert_core_laws.specs.reading.Opened.{IsNewVolume, map_for, super_for}
+use Rattle.convert_core_laws.proofs.Imports.{◌≡◌, ◌≢◌, ◌≤◌, ◌<◌, ℕ, ◌+◌, ◌*◌, ◌/◌, ◌%◌, ◌^◌, Bool, true, false, List, [], map, Option, Some, None, refl, sym, ap, subst, ◌∙◌, ⊎_elim, true≢false, arith, All, AllPairs, Contains, if◌then◌else◌, is_some, ◌↔◌, append-nil, INODE_ITEM, CONV_IMAGE_SUBVOL, CSUM_TREE, FS_TREE, from_flat_map, in_flat_map, Image, Ids, inode_bytes, inode_of, make_key, Inode, Item, IsNodeSize, data_kind, range_of, form_of, has_no_sums, IsExtent, some_data, DataUse, Recount, TreeOn, all_trees, data_uses, recounted_items, uses_in, AreSums, HasBlockSum, AreSumsRight, IsSumItem, WantsSum, sum_count, place, Form, IsMaking, Making, HasPieces, made_from, file_tree_items, image_tree_items, sum_tree_items, VolumeTrees, well, blocks_few, NewIdsFit, IsNewVolume, map_for, super_for, SumKind, two_cases, piece_bytes, pieces_of_volume, source_block, Source, inode_in, kind_in, ino_of, FilesAreHeld, InodesAreThere, ImageKeysAscend, File, all_from_contains, ObjectKey, HasBytes, block_sum, sum_items, sums_item, TreeNode, Options, Piece, recount_for, tree_for, ConvertedChecksumsAreSound}
 use Rattle.convert_core_laws.proofs.reading.SavedExtents.{AreSources, sources_bytes}
 use Rattle.convert_core_laws.proofs.reading.SavedPieces.{are_sources}
-use Rattle.btr_reader.specs.csum_kinds.declared.kind.SumKind.{SumKind}
-use Rattle.convert_core.proofs.extent_pieces.Owning.{two_cases}
-use Rattle.convert_core.specs.file_items.Extents.{piece_bytes, pieces_of_volume, source_block}
-use Rattle.convert_core.specs.file_items.Tree.{Source, inode_in, kind_in, number_of}
-use Rattle.convert_trees_laws.specs.Held.{FilesAreHeld}
-use Rattle.convert_trees_laws.specs.Inodes.{InodesAreThere}
-use Rattle.convert_trees_laws.specs.Keys.{ImageKeysAscend}
-use Rattle.reiser_volume.specs.fs_rows.declared.row.Kind.TheVariants.{File}
-use Rattle.reiser_volume.proofs.reiser_bitmap.Ranges.{all_from_contains}
-use Rattle.reiser_volume.specs.reiser_volume_objects.declared.key.ObjectKey.{ObjectKey}
-use Rattle.convert_trees_laws.specs.Rows.{HasBytes}
-use Rattle.convert_core.specs.space_items.Sums.{block_sum, sum_items, sums_item}
-use Rattle.convert_core.specs.space_items.declared.node.TreeNode.{TreeNode}
-use Rattle.convert_core.specs.convert_options.declared.options.Options.{Options}
-use Rattle.convert_core.specs.unit_plan.declared.piece.Piece.{Piece}
-use Rattle.convert_core_laws.specs.soundness.Recounted.{recount_for, tree_for}
 use Rattle.convert_core_laws.proofs.soundness.AllUses.{span_of, uses_are}
 use Rattle.convert_core_laws.proofs.soundness.Recounting.{form_is, volume_for}
 use Rattle.convert_core_laws.proofs.soundness.Unreserved.{fit_size, good, means_itself}
 use Rattle.convert_core_laws.proofs.soundness.Used.{file_use, is_data, owned, saved_use}
 use Rattle.convert_core_laws.proofs.soundness.Uses.{IsUse, by_file, by_image, use_at}
-use Rattle.convert_core_laws.specs.soundness.Laws.{ConvertedChecksumsAreSound}
 use Rattle.convert_core_laws.proofs.soundness.Flags.{file_no_sums, file_sums, image_extents_ascend, image_inode, image_inode_reads, image_inode_there, inode_reads, inode_there, same_item}
 use Rattle.convert_core_laws.proofs.soundness.Keyed.{all_other, files_rise, saved_rise, uses_tree}
 use Rattle.convert_core_laws.proofs.soundness.Runs.{Covers}
@@ -81,15 +38,15 @@ module _ (o : Options) (ids : Ids) (now : ℕ) (image other : Image) (m : Making
   items = sum_tree_items other m
 
   abbrev files : TreeOn
-  files = tree_for other (super_for m r nodes) 5 r.files (file_tree_items image m)
+  files = tree_for other (super_for m r nodes) FS_TREE r.files (file_tree_items image m)
 
   abbrev saved : TreeOn
-  saved = tree_for other (super_for m r nodes) 256 r.image (image_tree_items m)
+  saved = tree_for other (super_for m r nodes) CONV_IMAGE_SUBVOL r.image (image_tree_items m)
 
   kind_is : (form_of k.super).sums ≡ sums
   kind_is = ap (λ (f : Form). f.sums) (form_is m r nodes)
 
-  items_are : items_of_tree k 7 ≡ items
+  items_are : recounted_items k CSUM_TREE ≡ items
   items_are = append-nil items
 
   -- ---- the items are those of the pieces, where data has checksums
@@ -135,7 +92,7 @@ module _ (o : Options) (ids : Ids) (now : ℕ) (image other : Image) (m : Making
       let extent : IsExtent k (span_of p) data_kind = some_data (is_data image m making fit held other r nodes p h) refl in
       means_itself o ids now image other m r nodes v a (good o ids now image other m r nodes v (span_of p) data_kind a extent low high).has
 
-  item_right : (p : Piece) (at long : ℕ) → Contains m.pieces p → p.place ≤ at → at + long ≤ p.place + p.count → IsRight other k sums (sums_item sums other at long)
+  item_right : (p : Piece) (at long : ℕ) → Contains m.pieces p → p.place ≤ at → at + long ≤ p.place + p.count → AreSumsRight other k sums (sums_item sums other at long)
   item_right p at long h low high = λ j q inside found.
       let count = count_of sums other at long in
       let less : j < long = omega (arith, inside, count) in
@@ -145,11 +102,11 @@ module _ (o : Options) (ids : Ids) (now : ℕ) (image other : Image) (m : Making
       let block : at + j ≡ q / 4096 = omega (arith, same) in
       sum_of sums other at long j less ∙ ap (block_sum sums other) block
 
-  rights : All (IsRight other k sums) items
+  rights : All (AreSumsRight other k sums) items
   rights =
-      all_from_contains (IsRight other k sums) items (λ i h.
+      all_from_contains (AreSumsRight other k sums) items (λ i h.
       let is : OfPiece i = piece_of_item i h in
-      subst (IsRight other k sums) (sym is.part.is) (item_right is.piece is.part.at is.part.long is.among is.part.low is.part.high))
+      subst (AreSumsRight other k sums) (sym is.part.is) (item_right is.piece is.part.at is.part.long is.among is.part.low is.part.high))
 
   -- ---- the trees that use data
 
@@ -200,7 +157,7 @@ module _ (o : Options) (ids : Ids) (now : ℕ) (image other : Image) (m : Making
   record HasFile (inode : ℕ) : Type 0 where
     key : ObjectKey
     among : Contains s.keys key
-    number_is : number_of s key ≡ inode
+    number_is : ino_of s key ≡ inode
     file : kind_in s key ≡ File
 
   file_of : (p : Piece) (inode block : ℕ) → Contains m.pieces p → p.owner ≡ Some (inode, block) → HasFile inode
@@ -211,8 +168,8 @@ module _ (o : Options) (ids : Ids) (now : ℕ) (image other : Image) (m : Making
   file_reads : (key : ObjectKey) → Contains s.keys key → inode_of (inode_bytes (inode_in s key)) ≡ Some (inode_in s key)
   file_reads key among = inode_reads are_there m.volume image m.options m.plan m.pieces of bytes key among
 
-  file_item : (inode : ℕ) (f : HasFile inode) → Contains (file_tree_items image m) (make_key inode 1 0, inode_bytes (inode_in s f.key))
-  file_item inode f = subst (λ (n : ℕ). Contains (file_tree_items image m) (make_key n 1 0, inode_bytes (inode_in s f.key))) f.number_is (inode_there s f.key f.among)
+  file_item : (inode : ℕ) (f : HasFile inode) → Contains (file_tree_items image m) (make_key inode INODE_ITEM 0, inode_bytes (inode_in s f.key))
+  file_item inode f = subst (λ (n : ℕ). Contains (file_tree_items image m) (make_key n INODE_ITEM 0, inode_bytes (inode_in s f.key))) f.number_is (inode_there s f.key f.among)
 
   -- ---- a block with a checksum wants one
 
@@ -222,11 +179,11 @@ module _ (o : Options) (ids : Ids) (now : ℕ) (image other : Image) (m : Making
       by : (w : Option ℕ) → p.from ≡ w → WantsSum k a
       by (Some b) from = record {
         tree = saved;
-        is_use = use_at 256 257 (source_block p) p;
+        is_use = use_at CONV_IMAGE_SUBVOL 257 (source_block p) p;
         inode = own_image;
         body = inode_bytes own_image;
         among = saved_there;
-        used = used_by (use_at 256 257 (source_block p) p) saved saved_there refl (saved_use image m making fit held other r nodes p h (ap is_some from));
+        used = used_by (use_at CONV_IMAGE_SUBVOL 257 (source_block p) p) saved saved_there refl (saved_use image m making fit held other r nodes p h (ap is_some from));
         item = image_inode_there m.volume.sup.blocks m.pieces m.options.datasum m.now;
         inode_is = image_reads;
         with_sums = image_sums on;
@@ -238,11 +195,11 @@ module _ (o : Options) (ids : Ids) (now : ℕ) (image other : Image) (m : Making
           let f : HasFile own.0 = file_of p own.0 own.1 h own.2 in
           record {
             tree = files;
-            is_use = use_at 5 own.0 own.1 p;
+            is_use = use_at FS_TREE own.0 own.1 p;
             inode = inode_in s f.key;
             body = inode_bytes (inode_in s f.key);
             among = files_there;
-            used = used_by (use_at 5 own.0 own.1 p) files files_there refl (file_use image m making fit held other r nodes p own.0 own.1 h own.2);
+            used = used_by (use_at FS_TREE own.0 own.1 p) files files_there refl (file_use image m making fit held other r nodes p own.0 own.1 h own.2);
             item = file_item own.0 f;
             inode_is = file_reads f.key f.among;
             with_sums = file_sums s f.key on;
@@ -258,19 +215,19 @@ module _ (o : Options) (ids : Ids) (now : ℕ) (image other : Image) (m : Making
       let f : HasFile inode = file_of p inode block h own in
       let tree : w.tree ≡ files = tree_there w.tree w.among files files_there (sym (uses_tree w.tree w.is_use w.used) ∙ ap (λ (u : DataUse). u.tree) e) in
       let number : w.is_use.inode ≡ inode = ap (λ (u : DataUse). u.inode) e in
-      let item : Contains (file_tree_items image m) (make_key inode 1 0, w.body) =
-      subst (λ (n : ℕ). Contains (file_tree_items image m) (make_key n 1 0, w.body)) number (subst (λ (t : TreeOn). Contains t.items (make_key w.is_use.inode 1 0, w.body)) tree w.item) in
-      let one : (make_key inode 1 0, inode_bytes (inode_in s f.key)) ≡ (make_key inode 1 0, w.body) =
-      same_item (file_tree_items image m) (make_key inode 1 0, inode_bytes (inode_in s f.key)) (make_key inode 1 0, w.body) (files_rise image m making fit) (file_item inode f) item refl in
+      let item : Contains (file_tree_items image m) (make_key inode INODE_ITEM 0, w.body) =
+      subst (λ (n : ℕ). Contains (file_tree_items image m) (make_key n INODE_ITEM 0, w.body)) number (subst (λ (t : TreeOn). Contains t.items (make_key w.is_use.inode INODE_ITEM 0, w.body)) tree w.item) in
+      let one : (make_key inode INODE_ITEM 0, inode_bytes (inode_in s f.key)) ≡ (make_key inode INODE_ITEM 0, w.body) =
+      same_item (file_tree_items image m) (make_key inode INODE_ITEM 0, inode_bytes (inode_in s f.key)) (make_key inode INODE_ITEM 0, w.body) (files_rise image m making fit) (file_item inode f) item refl in
       let same : inode_in s f.key ≡ w.inode = some_same (inode_in s f.key) w.inode (sym (file_reads f.key f.among) ∙ (ap (λ (i : Item). inode_of i.1) one ∙ w.inode_is)) in
       true≢false (sym (file_no_sums s f.key off f.file) ∙ (ap has_no_sums same ∙ w.with_sums))
   wants_on a w (by_image p block h from e) off =
       let tree : w.tree ≡ saved = tree_there w.tree w.among saved saved_there (sym (uses_tree w.tree w.is_use w.used) ∙ ap (λ (u : DataUse). u.tree) e) in
       let number : w.is_use.inode ≡ 257 = ap (λ (u : DataUse). u.inode) e in
-      let item : Contains (image_tree_items m) (make_key 257 1 0, w.body) =
-      subst (λ (n : ℕ). Contains (image_tree_items m) (make_key n 1 0, w.body)) number (subst (λ (t : TreeOn). Contains t.items (make_key w.is_use.inode 1 0, w.body)) tree w.item) in
-      let one : (make_key 257 1 0, inode_bytes own_image) ≡ (make_key 257 1 0, w.body) =
-      same_item (image_tree_items m) (make_key 257 1 0, inode_bytes own_image) (make_key 257 1 0, w.body) (saved_rise image m making fit rising) (image_inode_there m.volume.sup.blocks m.pieces m.options.datasum m.now) item refl in
+      let item : Contains (image_tree_items m) (make_key 257 INODE_ITEM 0, w.body) =
+      subst (λ (n : ℕ). Contains (image_tree_items m) (make_key n INODE_ITEM 0, w.body)) number (subst (λ (t : TreeOn). Contains t.items (make_key w.is_use.inode INODE_ITEM 0, w.body)) tree w.item) in
+      let one : (make_key 257 INODE_ITEM 0, inode_bytes own_image) ≡ (make_key 257 INODE_ITEM 0, w.body) =
+      same_item (image_tree_items m) (make_key 257 INODE_ITEM 0, inode_bytes own_image) (make_key 257 INODE_ITEM 0, w.body) (saved_rise image m making fit rising) (image_inode_there m.volume.sup.blocks m.pieces m.options.datasum m.now) item refl in
       let same : own_image ≡ w.inode = some_same own_image w.inode (sym image_reads ∙ (ap (λ (i : Item). inode_of i.1) one ∙ w.inode_is)) in
       true≢false (sym (image_no_sums off) ∙ (ap has_no_sums same ∙ w.with_sums))
 
@@ -305,13 +262,13 @@ module _ (o : Options) (ids : Ids) (now : ℕ) (image other : Image) (m : Making
       by true is = refl
       by false is = absurd (wants_on a w (wanted_use a w) is)
 
-  has_sum : (a : ℕ) → a % 4096 ≡ 0 → WantsSum k a → HasSum k sums a
+  has_sum : (a : ℕ) → a % 4096 ≡ 0 → WantsSum k a → HasBlockSum k sums a
   has_sum a aligned w =
       let on : m.options.datasum ≡ true = wants_sums a w in
       let is : InPiece a = wants_piece a w (wanted_use a w) in
       let low = is.low in
       let high = is.high in
-      let covers : Covers (sums_item sums other) (a / 4096) (sum_items sums other m.pieces) = piece_covered sums other m.pieces is.piece (a / 4096) is.there (omega (arith, low)) (omega (arith, high)) in
+      let covers : Covers sums (sums_item sums other) (a / 4096) (sum_items sums other m.pieces) = piece_covered sums other m.pieces is.piece (a / 4096) is.there (omega (arith, low)) (omega (arith, high)) in
       let item : Item = sums_item sums other covers.at covers.long in
       let count = count_of sums other covers.at covers.long in
       let from = covers.low in
@@ -323,7 +280,7 @@ module _ (o : Options) (ids : Ids) (now : ℕ) (image other : Image) (m : Making
         high = omega (arith, to, count, aligned);
       }
 
-  wants_sum : (a : ℕ) → HasSum k sums a → WantsSum k a
+  wants_sum : (a : ℕ) → HasBlockSum k sums a → WantsSum k a
   wants_sum a h =
       let there : Contains items h.item = subst (λ (l : List Item). Contains l h.item) items_are h.there in
       let is : OfPiece h.item = piece_of_item h.item there in
@@ -335,15 +292,15 @@ module _ (o : Options) (ids : Ids) (now : ℕ) (image other : Image) (m : Making
       let to = is.part.high in
       piece_wants is.piece a (from_items h.item there).on is.among (omega (arith, low, offset, from)) (omega (arith, high, offset, count, to))
 
-  exact : (a : ℕ) → a % 4096 ≡ 0 → HasSum k sums a ↔ WantsSum k a
+  exact : (a : ℕ) → a % 4096 ≡ 0 → HasBlockSum k sums a ↔ WantsSum k a
   exact a aligned = (λ h. wants_sum a h, λ w. has_sum a aligned w)
 
   pub checksums : AreSums other k
   checksums = record {
-    forms = subst (λ (x : SumKind). All (IsSumItem x) (items_of_tree k 7)) (sym kind_is) (subst (All (IsSumItem sums)) (sym items_are) forms);
-    once = subst (λ (x : SumKind). AllPairs (EndsFirst x) (items_of_tree k 7)) (sym kind_is) (subst (AllPairs (EndsFirst sums)) (sym items_are) once);
-    exactly = subst (λ (x : SumKind). (a : ℕ) → a % 4096 ≡ 0 → HasSum k x a ↔ WantsSum k a) (sym kind_is) exact;
-    right = subst (λ (x : SumKind). All (IsRight other k x) (items_of_tree k 7)) (sym kind_is) (subst (All (IsRight other k sums)) (sym items_are) rights);
+    forms = subst (λ (x : SumKind). All (IsSumItem x) (recounted_items k CSUM_TREE)) (sym kind_is) (subst (All (IsSumItem sums)) (sym items_are) forms);
+    once = subst (λ (x : SumKind). AllPairs (EndsFirst x) (recounted_items k CSUM_TREE)) (sym kind_is) (subst (AllPairs (EndsFirst sums)) (sym items_are) once);
+    exactly = subst (λ (x : SumKind). (a : ℕ) → a % 4096 ≡ 0 → HasBlockSum k x a ↔ WantsSum k a) (sym kind_is) exact;
+    right = subst (λ (x : SumKind). All (AreSumsRight other k x) (recounted_items k CSUM_TREE)) (sym kind_is) (subst (All (AreSumsRight other k sums)) (sym items_are) rights);
   }
 
 pub converted_checksums_are_sound : NewIdsFit → FilesAreHeld → ImageKeysAscend → InodesAreThere → ConvertedChecksumsAreSound

@@ -1,42 +1,26 @@
 -- The chunks of the array and of the chunk tree, each once, are those of the plan.
-use Rattle.std.proofs.Common.{◌≡◌, ◌≢◌, ◌≤◌, ℕ, ◌+◌, ◌*◌, ◌^◌, ◌&&◌, Bool, true, false, not, cond, List, [], ◌∷◌, ◌++◌, length, map, Option, Some, None, refl, sym, ap, subst, ◌∙◌, ⊎_elim, arith}
-use Rattle.std.specs.Prelude.{Contains, if◌then◌else◌}
-use Rattle.std.specs.List.{flat_map, list_any}
-use Rattle.std.specs.Option.{option_map}
-use Rattle.std.proofs.lemmas.Bool.{cases_Bool, ne_eqb, or_left, or_right}
-use Rattle.reiser_volume.specs.vol_block.declared.ids.Ids.{Ids}
-use Rattle.btr_reader.specs.btr_node.Leaf.{Item}
-use Rattle.btr_reader.specs.btr_space_items.declared.chunk.Chunk.{Chunk as ChunkBody}
-use Rattle.btr_reader.proofs.btr_space_items.Records.{chunks_read_back}
-use Rattle.btr_reader.specs.Chunks.{chunk_in, new_chunk, same_body, same_chunk}
-use Rattle.btr_reader.specs.declared.chunk.ChunkAt.{ChunkAt}
-use Rattle.btr_check_rules.specs.Recount.{added_chunk, chunks_on}
-use Rattle.convert_core.specs.convert_steps.Superblock.{is_system_role}
-use Rattle.convert_core_laws.specs.reading.Opened.{chunk_at, other_part}
+use Rattle.convert_core_laws.proofs.Imports.{◌≡◌, ◌≢◌, ◌≤◌, ℕ, ◌+◌, ◌*◌, ◌^◌, ◌&&◌, Bool, true, false, not, cond, List, [], ◌∷◌, ◌++◌, length, map, Option, Some, None, refl, sym, ap, subst, ◌∙◌, ⊎_elim, arith, Contains, if◌then◌else◌, flat_map, list_any, option_map, cases_Bool, ne_eqb, or_left, or_right, Ids, Item, chunk_made, chunk_in, new_chunk, same_body, same_chunk, ChunkAt, added_chunk, chunks_on, is_system_role, chunk_at, other_part, contains_cases, contains_head, contains_tail, chunk_body, chunk_item, chunk_items, PlannedChunk}
 use Rattle.convert_core_laws.proofs.reading.Chunks.{all_fit, same_itself}
-use Rattle.reiser_volume.proofs.reiser_bitmap.Ranges.{contains_cases, contains_head, contains_tail}
-use Rattle.convert_core.specs.space_items.Chunks.{chunk_body, chunk_item, chunk_items}
-use Rattle.convert_core.specs.unit_plan.declared.chunk.Chunk.{Chunk}
 
 -- a chunk of the array is no new one
-known : (ids : Ids) (boot : List Chunk) (c : Chunk) → Contains boot c → list_any (same_chunk (chunk_at ids c)) (map (chunk_at ids) boot) ≡ true
+known : (ids : Ids) (boot : List PlannedChunk) (c : PlannedChunk) → Contains boot c → list_any (same_chunk (chunk_at ids c)) (map (chunk_at ids) boot) ≡ true
 known ids [] c h = absurd (omega (arith, h.1))
 known ids (d ∷ boot) c h =
     ⊎_elim
-    (λ (same : d ≡ c). or_left (same_chunk (chunk_at ids c) (chunk_at ids d)) _ (subst (λ (e : Chunk). same_chunk (chunk_at ids c) (chunk_at ids e) ≡ true) (sym same) (same_itself (chunk_at ids c))))
+    (λ (same : d ≡ c). or_left (same_chunk (chunk_at ids c) (chunk_at ids d)) _ (subst (λ (e : PlannedChunk). same_chunk (chunk_at ids c) (chunk_at ids e) ≡ true) (sym same) (same_itself (chunk_at ids c))))
     (λ (later : Contains boot c). or_right (same_chunk (chunk_at ids c) (chunk_at ids d)) _ (known ids boot c later))
     (contains_cases c d boot h)
 
 -- one that begins elsewhere is
-unknown : (ids : Ids) (boot : List Chunk) (c : Chunk) → ((d : Chunk) → Contains boot d → c.start ≢ d.start) → list_any (same_chunk (chunk_at ids c)) (map (chunk_at ids) boot) ≡ false
+unknown : (ids : Ids) (boot : List PlannedChunk) (c : PlannedChunk) → ((d : PlannedChunk) → Contains boot d → c.start ≢ d.start) → list_any (same_chunk (chunk_at ids c)) (map (chunk_at ids) boot) ≡ false
 unknown ids [] c each = refl
 unknown ids (d ∷ boot) c each =
     let apart : c.start ≢ d.start = each d (contains_head d boot) in
     let other : same_chunk (chunk_at ids c) (chunk_at ids d) ≡ false =
-    ap (λ (b : Bool). b && same_body (chunk_body ids c) (chunk_body ids d)) (ne_eqb (4096 * c.start) (4096 * d.start) (λ e. apart (omega (arith, e)))) in
+    ap (λ (b : Bool). b && (same_body (chunk_body ids c) (chunk_body ids d) && true)) (ne_eqb (4096 * c.start) (4096 * d.start) (λ e. apart (omega (arith, e)))) in
     rw other (unknown ids boot c (λ e h. each e (contains_tail e d boot h)))
 
-module _ (ids : Ids) (boot : List Chunk) (long : length ids.device ≡ 16) where
+module _ (ids : Ids) (boot : List PlannedChunk) (long : length ids.device ≡ 16) where
   abbrev array : List ChunkAt
   array = map (chunk_at ids) boot
 
@@ -48,17 +32,17 @@ module _ (ids : Ids) (boot : List Chunk) (long : length ids.device ≡ 16) where
   by_test c b = added_chunk (Some (if b then None else Some c))
 
   -- what is known of the chunks
-  pub record Known (cs : List Chunk) : Type 0 where
-    pub small : (c : Chunk) → Contains cs c → c.start + c.length ≤ 2 ^ 29
-    pub booted : (c : Chunk) → Contains cs c → is_system_role c.role ≡ true → Contains boot c
-    pub others : (c d : Chunk) → Contains cs c → is_system_role c.role ≡ false → Contains boot d → c.start ≢ d.start
+  pub record Known (cs : List PlannedChunk) : Type 0 where
+    pub small : (c : PlannedChunk) → Contains cs c → c.start + c.length ≤ 2 ^ 29
+    pub booted : (c : PlannedChunk) → Contains cs c → is_system_role c.role ≡ true → Contains boot c
+    pub others : (c d : PlannedChunk) → Contains cs c → is_system_role c.role ≡ false → Contains boot d → c.start ≢ d.start
 
-  of_item : (c : Chunk) → c.start + c.length ≤ 2 ^ 29 → adds (chunk_item ids c) ≡ by_test (chunk_at ids c) (list_any (same_chunk (chunk_at ids c)) array)
+  of_item : (c : PlannedChunk) → c.start + c.length ≤ 2 ^ 29 → adds (chunk_item ids c) ≡ by_test (chunk_at ids c) (list_any (same_chunk (chunk_at ids c)) array)
   of_item c small =
-      let fits = (all_fit ids (c ∷ []) long (λ d h. ⊎_elim (λ (same : c ≡ d). subst (λ (e : Chunk). e.start + e.length ≤ 2 ^ 29) same small) (λ (none : Contains [] d). absurd (omega (arith, none.1))) (contains_cases d c [] h))).0.fields in
-      ap (λ (o : Option ChunkBody). added_chunk (option_map (λ (x : ChunkBody). new_chunk array (record { logical = 4096 * c.start; chunk = x })) o)) (chunks_read_back (chunk_body ids c) fits refl)
+      let fits = (all_fit ids (c ∷ []) long (λ d h. ⊎_elim (λ (same : c ≡ d). subst (λ (e : PlannedChunk). e.start + e.length ≤ 2 ^ 29) same small) (λ (none : Contains [] d). absurd (omega (arith, none.1))) (contains_cases d c [] h))).0 in
+      ap (λ (o : Option ChunkAt). added_chunk (option_map (new_chunk array) o)) (chunk_made (chunk_at ids c) fits)
 
-  pub all_added : (cs : List Chunk) → Known cs → flat_map adds (map (chunk_item ids) cs) ≡ map (chunk_at ids) (other_part cs)
+  pub all_added : (cs : List PlannedChunk) → Known cs → flat_map adds (map (chunk_item ids) cs) ≡ map (chunk_at ids) (other_part cs)
   all_added [] is = refl
   all_added (c ∷ cs) is =
       let head : Contains (c ∷ cs) c = contains_head c cs in
@@ -78,12 +62,12 @@ module _ (ids : Ids) (boot : List Chunk) (long : length ids.device ≡ 16) where
       ∙ (ap (λ (l : List ChunkAt). chunk_at ids c ∷ l) rest ∙ ap (map (chunk_at ids)) (sym (on c cs f))))
       (cases_Bool (is_system_role c.role))
     where
-      on : (c : Chunk) (cs : List Chunk) → is_system_role c.role ≡ false → other_part (c ∷ cs) ≡ c ∷ other_part cs
+      on : (c : PlannedChunk) (cs : List PlannedChunk) → is_system_role c.role ≡ false → other_part (c ∷ cs) ≡ c ∷ other_part cs
       on c cs f = ap (λ (b : Bool). cond (not b) (c ∷ other_part cs) (other_part cs)) f
 
-      off : (c : Chunk) (cs : List Chunk) → is_system_role c.role ≡ true → other_part (c ∷ cs) ≡ other_part cs
+      off : (c : PlannedChunk) (cs : List PlannedChunk) → is_system_role c.role ≡ true → other_part (c ∷ cs) ≡ other_part cs
       off c cs t = ap (λ (b : Bool). cond (not b) (c ∷ other_part cs) (other_part cs)) t
 
   -- the device's item adds nothing
-  pub chunks_added : (blocks : ℕ) (cs : List Chunk) → Known cs → chunks_on array (chunk_items ids blocks cs) ≡ array ++ map (chunk_at ids) (other_part cs)
+  pub chunks_added : (blocks : ℕ) (cs : List PlannedChunk) → Known cs → chunks_on array (chunk_items ids blocks cs) ≡ array ++ map (chunk_at ids) (other_part cs)
   chunks_added blocks cs is = ap (λ (l : List ChunkAt). array ++ l) (all_added cs is)

@@ -1,16 +1,6 @@
 -- An extent's item tells of the uses of its range: where there is one, and where there are two by different trees.
-use Rattle.std.proofs.Common.{◌≡◌, ◌≢◌, ◌⊎◌, ℕ, eqb, Bool, true, List, [], ◌∷◌, refl, sym, ap, subst, ◌∙◌, ⊎_elim, arith, ◌&&◌}
-use Rattle.std.specs.Prelude.{Contains}
+use Rattle.convert_core_laws.proofs.Imports.{◌≡◌, ◌≢◌, ◌⊎◌, ℕ, eqb, Bool, true, List, [], ◌∷◌, refl, sym, ap, subst, ◌∙◌, ⊎_elim, arith, ◌&&◌, Contains, and_from, and_parts, eq-eqb, eqb-true, All-cons, All-nil, AllPairs-cons, EXTENT_FLAG_DATA, EXTENT_ITEM, at_head, in_tail, Item, DataUse, Recount, data_uses, CountsUses, HasRefs, IsDataItem, is_of_range, is_use, same_ref, InlineRef, DataRef}
 use Rattle.std.specs.List.{count_by}
-use Rattle.std.proofs.lemmas.Bool.{and_from, and_parts, eq-eqb, eqb-true}
-use Rattle.std.proofs.lemmas.List.Elements.{All-cons, All-nil}
-use Rattle.std.proofs.lemmas.List.Kept.{AllPairs-cons}
-use Rattle.reiser_volume.proofs.fs_paths.Lists.{at_head, in_tail}
-use Rattle.btr_reader.specs.btr_node.Leaf.{Item}
-use Rattle.btr_check_rules.specs.Recount.{DataUse, Recount, data_uses}
-use Rattle.btr_check_rules.specs.References.{CountsUses, HasRefs, IsDataItem, is_of_range, is_use, same_ref}
-use Rattle.btr_reader.specs.btr_space_items.declared.inline_ref.InlineRef.{InlineRef}
-use Rattle.btr_reader.specs.btr_space_items.declared.inline_ref.InlineRef.TheVariants.{DataRef}
 use Rattle.convert_core_laws.proofs.soundness.Distinct.{AreDistinct, one_passes, two_pass}
 
 -- the reference that a use is
@@ -60,7 +50,7 @@ module _ (r : Recount) (once : AreDistinct (data_uses r)) (i : Item) where
       (λ e. omega (arith, e), here)
 
   -- one use
-  pub one_ref : (u : DataUse) → Contains (data_uses r) u → i.0 ≡ record { objectid = u.start; kind = 168; offset = u.length } → HasRefs i.1 1 1 (ref_of u ∷ [])
+  pub one_ref : (u : DataUse) → Contains (data_uses r) u → i.0 ≡ record { objectid = u.start; kind = EXTENT_ITEM; offset = u.length } → HasRefs r.super.generation i.1 EXTENT_FLAG_DATA 1 (ref_of u ∷ [])
       → ((v : DataUse) → Contains (data_uses r) v → v.start ≡ u.start → v.length ≡ u.length → u ≡ v) → IsDataItem r i
   one_ref u h key body only =
       let refs : List InlineRef = ref_of u ∷ [] in
@@ -71,7 +61,7 @@ module _ (r : Recount) (once : AreDistinct (data_uses r)) (i : Item) where
         used = h;
         key = key;
         refs = refs;
-        body = subst (λ (n : ℕ). HasRefs i.1 1 n refs) (sym count) body;
+        body = subst (λ (n : ℕ). HasRefs r.super.generation i.1 EXTENT_FLAG_DATA n refs) (sym count) body;
         each = All-cons (CountsUses r u.start u.length) (ref_of u) [] (counts u.start u.length u refl refl h (λ v l s n t. only v l s n)) (All-nil (CountsUses r u.start u.length));
         once = λ a b d l k. absurd (omega (arith, l, k));
         whole = λ v l s n. (1, subst (λ (w : DataUse). Contains refs (ref_of w)) (only v l s n) (at_head (ref_of u) []));
@@ -79,7 +69,7 @@ module _ (r : Recount) (once : AreDistinct (data_uses r)) (i : Item) where
 
   -- two uses, by different trees
   pub two_refs : (u w : DataUse) → Contains (data_uses r) u → Contains (data_uses r) w → w.start ≡ u.start → w.length ≡ u.length → u.tree ≢ w.tree
-      → i.0 ≡ record { objectid = u.start; kind = 168; offset = u.length } → HasRefs i.1 1 2 (ref_of u ∷ (ref_of w ∷ []))
+      → i.0 ≡ record { objectid = u.start; kind = EXTENT_ITEM; offset = u.length } → HasRefs r.super.generation i.1 EXTENT_FLAG_DATA 2 (ref_of u ∷ (ref_of w ∷ []))
       → ((v : DataUse) → Contains (data_uses r) v → v.start ≡ u.start → v.length ≡ u.length → (u ≡ v) ⊎ (w ≡ v)) → IsDataItem r i
   two_refs u w h k start length apart key body only =
       let refs : List InlineRef = ref_of u ∷ (ref_of w ∷ []) in
@@ -91,7 +81,7 @@ module _ (r : Recount) (once : AreDistinct (data_uses r)) (i : Item) where
         used = h;
         key = key;
         refs = refs;
-        body = subst (λ (n : ℕ). HasRefs i.1 1 n refs) (sym count) body;
+        body = subst (λ (n : ℕ). HasRefs r.super.generation i.1 EXTENT_FLAG_DATA n refs) (sym count) body;
         each = All-cons (CountsUses r u.start u.length) (ref_of u) (ref_of w ∷ [])
             (counts u.start u.length u refl refl h (λ v l s n t. ⊎_elim (λ (e : u ≡ v). e) (λ (e : w ≡ v). absurd (apart (sym (ap (λ (x : DataUse). x.tree) e ∙ t)))) (only v l s n)))
             (All-cons (CountsUses r u.start u.length) (ref_of w) []

@@ -1,12 +1,6 @@
 -- Lists without repetition: how many of their elements pass a test.
-use Rattle.std.proofs.Common.{◌≡◌, ◌≢◌, ◌⊎◌, ℕ, suc, Bool, true, false, cond, List, [], ◌∷◌, get_or, refl, sym, ap, subst, ◌∙◌, ⊎_elim, arith}
-use Rattle.std.specs.Prelude.{AllPairs, Contains}
-use Rattle.std.specs.List.{count_by, flat_map}
-use Rattle.std.proofs.lemmas.List.Elements.{All-contains}
-use Rattle.std.proofs.lemmas.List.Sums.{sum_by-cons}
-use Rattle.convert_core.proofs.extent_pieces.Lists.{pairs_append, pairs_head, pairs_tail}
-use Rattle.reiser_volume.proofs.fs_paths.Lists.{at_head, from_flat_map, head_or_tail, in_tail}
-use Rattle.reiser_volume.proofs.reiser_bitmap.Ranges.{all_from_contains}
+use Rattle.convert_core_laws.proofs.Imports.{◌≡◌, ◌≢◌, ◌⊎◌, ℕ, suc, Bool, true, false, cond, List, [], ◌∷◌, get_or, refl, sym, ap, subst, ◌∙◌, ⊎_elim, arith, AllPairs, Contains, flat_map, All-contains, sum_by-cons, pairs_append, pairs_head, pairs_tail, at_head, from_flat_map, head_or_tail, in_tail, all_from_contains}
+use Rattle.std.specs.List.{count_by}
 
 -- no element stands twice
 abbrev pub AreDistinct : {X : Type 0} → List X → Type 0

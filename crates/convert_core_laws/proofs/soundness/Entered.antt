@@ -1,35 +1,7 @@
 -- What the entries of the file tree lead to is there, and so is what the root tree tells of the saved image's tree.
-use Rattle.std.proofs.Common.{◌≡◌, ◌<◌, ℕ, ◌^◌, Bool, true, false, List, [], ◌∷◌, map, flat_map, Contains, Some, refl, sym, ap, subst, ◌∙◌, ⊎_elim, if◌then◌else◌, true≢false, arith}
-use Rattle.std.proofs.lemmas.List.Elements.{Contains-append_cases}
-use Rattle.indexmap.specs.IndexMap.{keys}
-use Rattle.reiser_volume.specs.outside.History.{Image}
-use Rattle.btr_reader.specs.btr_keys.Inode.{inode_bytes}
-use Rattle.btr_reader.specs.btr_keys.Key.{make_key}
-use Rattle.btr_reader.specs.btr_node.Leaf.{Item}
-use Rattle.btr_check_rules.specs.Names.{AreNames, IndexEntry, IsThere, IsTreeEntry, names_inode}
+use Rattle.convert_core_laws.proofs.Imports.{◌≡◌, ◌<◌, ℕ, ◌^◌, Bool, true, false, List, [], ◌∷◌, map, Some, refl, sym, ap, subst, ◌∙◌, ⊎_elim, true≢false, arith, Contains-append_cases, ROOT_BACKREF, ROOT_ITEM, ROOT_REF, CONV_IMAGE_SUBVOL, FIRST_FREE_OBJECTID, FS_TREE, keys, Image, inode_bytes, make_key, Item, AreTreeNames, IndexEntry, IsThere, IsTreeEntry, names_inode_item, root_refs_read_back, NodePointer, IsMaking, Making, new_ids, saved_index, HasPieces, rooted_trees as trees_listed, root_tree_items, VolumeTrees, IndexedLink as Link, Indexed, indexed, names_in, next_index, saved_entry, Source, inode_in, kind_in, ino_of, index_small, FilesAreHeld, InodesAreThere, Kind, Directory, File, Symlink, Character, Block, Fifo, Socket, Subvolume, from_flat_map, from_map, head_or_tail, saved_name, root, same_key, ObjectKey, same_key-true, HasBytes, good_link, root_number, item_cmp, other_root_items, tree_root_item, saved_ref}
+use Rattle.std.proofs.Common.{flat_map, Contains, if◌then◌else◌}
 use Rattle.btr_reader.specs.btr_space_items.RootRef.{RootRefValue, root_ref_head, root_ref_of}
-use Rattle.btr_reader.proofs.btr_space_items.Records.{root_refs_read_back}
-use Rattle.btr_reader.specs.btr_reader_walk.declared.tree.Pointer.{Pointer}
-use Rattle.convert_core.specs.convert_steps.Making.{IsMaking, Making, new_ids, saved_index}
-use Rattle.convert_core.specs.convert_steps.Source.{HasPieces}
-use Rattle.convert_core.specs.convert_steps.Standing.{listed as trees_listed, root_tree_items}
-use Rattle.convert_core.specs.convert_steps.declared.trees.VolumeTrees.{VolumeTrees}
-use Rattle.convert_core.specs.file_items.Names.{Entry as Link, Indexed, indexed, names_in, next_index, saved_entry}
-use Rattle.convert_core.specs.file_items.Tree.{Source, inode_in, kind_in, number_of}
-use Rattle.convert_core.proofs.file_items.Named.{index_small}
-use Rattle.convert_trees_laws.specs.Held.{FilesAreHeld}
-use Rattle.convert_trees_laws.specs.Inodes.{InodesAreThere}
-use Rattle.reiser_volume.specs.fs_rows.declared.row.Kind.{Kind}
-use Rattle.reiser_volume.specs.fs_rows.declared.row.Kind.TheVariants.{Directory, File, Symlink, Character, Block, Fifo, Socket, Subvolume}
-use Rattle.reiser_volume.proofs.fs_paths.Lists.{from_flat_map, from_map, head_or_tail}
-use Rattle.reiser_volume.specs.reiser_volume_names.Names.{saved_name}
-use Rattle.reiser_volume.specs.reiser_volume_objects.Keys.{root, same_key}
-use Rattle.reiser_volume.specs.reiser_volume_objects.declared.key.ObjectKey.{ObjectKey}
-use Rattle.reiser_volume.proofs.reiser_volume_objects.Tables.{same_key-true}
-use Rattle.convert_trees_laws.specs.Rows.{HasBytes}
-use Rattle.convert_trees_laws.proofs.Telling.{good_link, root_number}
-use Rattle.convert_core.specs.space_items.Merging.{item_cmp}
-use Rattle.convert_core.specs.space_items.Roots.{other_root_items, root_item, saved_ref}
 use Rattle.convert_core_laws.proofs.soundness.Flags.{inode_there}
 use Rattle.convert_core_laws.proofs.soundness.InMerged.{in_second}
 use Rattle.convert_core_laws.proofs.soundness.Numbers.{kinds_apart}
@@ -41,15 +13,15 @@ use Rattle.convert_core_laws.proofs.soundness.Telling.{index_by}
 
 -- ---- the root tree
 
-saved_fits : (index : ℕ) → index < 2 ^ 63 → root_ref_head.fits (record { dirid = 256; sequence = index; name = saved_name })
+saved_fits : (index : ℕ) → index < 2 ^ 63 → root_ref_head.fits (record { dirid = FIRST_FREE_OBJECTID; sequence = index; name = saved_name })
 unfolding root_ref_head
 saved_fits index low = (((tt, omega arith), omega (arith, low)), omega arith)
 
 -- an item of the others is one of the root tree's
-in_roots : (m : Making) (r : VolumeTrees) (t : Item) → (t.0.kind ≡ 132 → ⊥) → Contains (other_root_items (saved_index m) m.now) t → Contains (root_tree_items m r) t
+in_roots : (m : Making) (r : VolumeTrees) (t : Item) → (t.0.kind ≡ ROOT_ITEM → ⊥) → Contains (other_root_items (saved_index m) m.now) t → Contains (root_tree_items m r) t
 in_roots m r t apart h =
-    in_second item_cmp t (map (root_item (new_ids m) m.options.nodesize) (trees_listed r)) (other_root_items (saved_index m) m.now)
-    (λ x l e. let at = from_map (root_item (new_ids m) m.options.nodesize) (trees_listed r) x l in kinds_apart x.0 t.0 (λ same. apart (sym same ∙ sym (ap (λ (i : Item). i.0.kind) at.2))) e) h
+    in_second item_cmp t (map (tree_root_item (new_ids m) m.options.nodesize) (trees_listed r)) (other_root_items (saved_index m) m.now)
+    (λ x l e. let at = from_map (tree_root_item (new_ids m) m.options.nodesize) (trees_listed r) x l in kinds_apart x.0 t.0 (λ same. apart (sym same ∙ sym (ap (λ (i : Item). i.0.kind) at.2))) e) h
 
 module _ (image : Image) (m : Making) (made : IsMaking image m) where
   abbrev of : HasPieces m.volume image m.options m.plan m.pieces
@@ -59,7 +31,7 @@ module _ (image : Image) (m : Making) (made : IsMaking image m) where
   src = s image m made
 
   -- an entry of a directory is a link, or the root's last one
-  data IsEntry (key : ObjectKey) (x : Indexed) : Type 0 where
+  pub data IsEntry (key : ObjectKey) (x : Indexed) : Type 0 where
     by_link : (f : Link) → Contains (names_in src.links key) f → indexed (kind_in src) src.keys f ≡ x → IsEntry key x
     by_image : key ≡ root → (next_index src.links key, saved_entry) ≡ x → IsEntry key x
 
@@ -84,61 +56,61 @@ module _ (image : Image) (m : Making) (made : IsMaking image m) where
   entry_at key Subvolume x h = absurd (omega (arith, h.1))
 
   -- an entry of the tree
-  record IsOfDirectory (e : IndexEntry) : Type 0 where
-    key : ObjectKey
-    among : Contains (keys m.volume.named) key
-    x : Indexed
-    is : index_by (number_of src key) x ≡ e
-    entry : IsEntry key x
+  pub record IsOfDirectory (e : IndexEntry) : Type 0 where
+    pub key : ObjectKey
+    pub among : Contains (keys m.volume.named) key
+    pub x : Indexed
+    pub is : index_by (ino_of src key) x ≡ e
+    pub entry : IsEntry key x
 
-  of_directory : (e : IndexEntry) → Contains (flat_map (indexes image m made) (objects image m made)) e → IsOfDirectory e
+  pub of_directory : (e : IndexEntry) → Contains (flat_map (indexes image m made) (objects image m made)) e → IsOfDirectory e
   of_directory e h =
       let at = from_flat_map (indexes image m made) (objects image m made) e h in
-      let x = from_map (index_by (number_of src at.0)) (listed image m made at.0 (kind_in src at.0)) e at.2 in
+      let x = from_map (index_by (ino_of src at.0)) (listed image m made at.0 (kind_in src at.0)) e at.2 in
       record { key = at.0; among = from_order image m made at.0 at.1; x = x.0; is = x.2; entry = entry_at at.0 (kind_in src at.0) x.0 x.1 }
 
-  module _ (nodes : List Pointer) (r : VolumeTrees) where
-    key_there : (key : ObjectKey) → Contains (keys m.volume.named) key → IsThere (tree image m made nodes) (number_of src key)
+  module _ (nodes : List NodePointer) (r : VolumeTrees) where
+    key_there : (key : ObjectKey) → Contains (keys m.volume.named) key → IsThere (tree image m made nodes) (ino_of src key)
     key_there key h = (inode_bytes (inode_in src key), inode_there src key h)
 
-    target_there : (e : IndexEntry) (o : IsOfDirectory e) → names_inode e ≡ true → IsThere (tree image m made nodes) e.entry.location.objectid
+    target_there : (e : IndexEntry) (o : IsOfDirectory e) → names_inode_item e ≡ true → IsThere (tree image m made nodes) e.entry.location.objectid
     target_there e o t = by o.entry
       where
         by : IsEntry o.key o.x → IsThere (tree image m made nodes) e.entry.location.objectid
         by (by_link f h is) =
-            let number : number_of src f.link.target ≡ e.entry.location.objectid = ap (λ (y : Indexed). y.1.location.objectid) is ∙ ap (λ (y : IndexEntry). y.entry.location.objectid) o.is in
+            let number : ino_of src f.link.target ≡ e.entry.location.objectid = ap (λ (y : Indexed). y.1.location.objectid) is ∙ ap (λ (y : IndexEntry). y.entry.location.objectid) o.is in
             subst (IsThere (tree image m made nodes)) number
             (key_there f.link.target (good_link m.volume image m.options m.plan m.pieces of f.link (link_among src.links f (is_in image m made o.key f h).entry)).target_known)
         by (by_image at is) =
-            absurd (true≢false (sym t ∙ (sym (ap names_inode o.is) ∙ sym (ap (λ (y : Indexed). names_inode (index_by (number_of src o.key) y)) is))))
+            absurd (true≢false (sym t ∙ (sym (ap names_inode_item o.is) ∙ sym (ap (λ (y : Indexed). names_inode_item (index_by (ino_of src o.key) y)) is))))
 
     -- the saved image's tree
-    saved_told : (e : IndexEntry) → e ≡ index_by 256 (next_index src.links root, saved_entry) → IsTreeEntry (root_tree_items m r) 5 e
+    saved_told : (e : IndexEntry) → e ≡ index_by FIRST_FREE_OBJECTID (next_index src.links root, saved_entry) → IsTreeEntry (root_tree_items m r) FS_TREE e
     saved_told e is =
         let index : ℕ = saved_index m in
-        let ref : RootRefValue = record { dirid = 256; sequence = index; name = saved_name } in
+        let ref : RootRefValue = record { dirid = FIRST_FREE_OBJECTID; sequence = index; name = saved_name } in
         let low = index_small m.volume image root of.accepted of.opened in
         let reads : root_ref_of (saved_ref index) ≡ Some ref = root_refs_read_back ref (saved_fits index low) in
-        subst (IsTreeEntry (root_tree_items m r) 5) (sym is) (record {
+        subst (IsTreeEntry (root_tree_items m r) FS_TREE) (sym is) (record {
           location = refl;
           ref = ref;
           ref_is = refl;
-          forth = (saved_ref index, in_roots m r (make_key 5 156 256, saved_ref index) (λ k. omega (arith, k)) (0, omega arith, refl), reads);
-          back = (saved_ref index, in_roots m r (make_key 256 144 5, saved_ref index) (λ k. omega (arith, k)) (4, omega arith, refl), reads);
+          forth = (saved_ref index, in_roots m r (make_key FS_TREE ROOT_REF CONV_IMAGE_SUBVOL, saved_ref index) (λ k. omega (arith, k)) (0, omega arith, refl), reads);
+          back = (saved_ref index, in_roots m r (make_key CONV_IMAGE_SUBVOL ROOT_BACKREF FS_TREE, saved_ref index) (λ k. omega (arith, k)) (4, omega arith, refl), reads);
         })
 
-    trees_told : (e : IndexEntry) (o : IsOfDirectory e) → names_inode e ≡ false → IsTreeEntry (root_tree_items m r) 5 e
+    trees_told : (e : IndexEntry) (o : IsOfDirectory e) → names_inode_item e ≡ false → IsTreeEntry (root_tree_items m r) FS_TREE e
     trees_told e o t = by o.entry
       where
-        by : IsEntry o.key o.x → IsTreeEntry (root_tree_items m r) 5 e
+        by : IsEntry o.key o.x → IsTreeEntry (root_tree_items m r) FS_TREE e
         by (by_link f h is) =
-            absurd (true≢false (ap (λ (y : Indexed). names_inode (index_by (number_of src o.key) y)) is ∙ (ap names_inode o.is ∙ t)))
+            absurd (true≢false (ap (λ (y : Indexed). names_inode_item (index_by (ino_of src o.key) y)) is ∙ (ap names_inode_item o.is ∙ t)))
         by (by_image at is) =
-            let number : number_of src o.key ≡ 256 = ap (number_of src) at ∙ root_number m.volume image m.options m.plan m.pieces of in
+            let number : ino_of src o.key ≡ 256 = ap (ino_of src) at ∙ root_number m.volume image m.options m.plan m.pieces of in
             let same : (next_index src.links root, saved_entry) ≡ o.x = ap (λ (k : ObjectKey). let y : Indexed = (next_index src.links k, saved_entry) in y) (sym at) ∙ is in
-            saved_told e (sym o.is ∙ (ap (λ (n : ℕ). index_by n o.x) number ∙ ap (index_by 256) (sym same)))
+            saved_told e (sym o.is ∙ (ap (λ (n : ℕ). index_by n o.x) number ∙ ap (index_by FIRST_FREE_OBJECTID) (sym same)))
 
-    pub file_names : FilesAreHeld → InodesAreThere → HasBytes image → AreNames (root_tree_items m r) (tree image m made nodes)
+    pub file_names : FilesAreHeld → InodesAreThere → HasBytes image → AreTreeNames (root_tree_items m r) (tree image m made nodes)
     file_names held there bytes =
         have_names (tree image m made nodes) (flat_map (indexes image m made) (objects image m made)) (flat_map (names image m made) (objects image m made)) (tells_tree image m made) (root_tree_items m r)
         (same_names image m made)

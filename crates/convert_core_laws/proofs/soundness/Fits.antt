@@ -1,10 +1,5 @@
 -- Entries of directories fit.
-use Rattle.std.proofs.Common.{◌≤◌, ◌<◌, ℕ, ◌^◌, List, length, arith}
-use Rattle.btr_reader.specs.btr_keys.DirEntry.{dir_entry_head}
-use Rattle.btr_reader.specs.btr_keys.Key.{key_layout}
-use Rattle.convert_core.specs.file_items.Names.{entry_kind, entry_to, saved_entry}
-use Rattle.reiser_volume.specs.fs_rows.declared.row.Kind.{Kind}
-use Rattle.reiser_volume.specs.fs_rows.declared.row.Kind.TheVariants.{Directory, File, Symlink, Character, Block, Fifo, Socket, Subvolume}
+use Rattle.convert_core_laws.proofs.Imports.{◌≤◌, ◌<◌, ℕ, ◌^◌, List, length, arith, dir_entry_head, key_layout, entry_kind, entry_to, saved_entry, Kind, Directory, File, Symlink, Character, Block, Fifo, Socket, Subvolume}
 
 kind_low : (kind : Kind) → entry_kind kind < 256
 kind_low File = omega arith

@@ -1,52 +1,8 @@
 -- The inodes of a converted volume: where they stand, and whether their data has checksums.
-use Rattle.std.proofs.Common.{◌≡◌, ◌≤◌, ◌<◌, ℕ, ◌+◌, ◌*◌, ◌%◌, ◌^◌, Bool, true, false, not, ◌&&◌, List, [], ◌∷◌, ◌++◌, filter, map, Some, pos, refl, sym, ap, subst, ◌∙◌, ⊎_elim, arith}
-use Rattle.std.specs.Prelude.{Contains, if◌then◌else◌}
-use Rattle.std.specs.Int.{w64}
-use Rattle.std.specs.Option.{option_and_then}
-use Rattle.std.specs.declared.cmp.Ordering.TheVariants.{Less}
-use Rattle.std.proofs.lemmas.Bool.{cases_Bool, eq-eqb, ne_eqb, not_from_false}
-use Rattle.std.proofs.lemmas.Int.{fits_signed_from_abs}
-use Rattle.std.proofs.lemmas.List.{map-append}
-use Rattle.std.proofs.lemmas.List.Elements.{Contains-append_left, Contains-append_right}
-use Rattle.indexmap.specs.IndexMap.{keys}
-use Rattle.reiser_volume.proofs.fs_paths.Lists.{in_filter, in_flat_map}
-use Rattle.reiser_volume.specs.outside.History.{Image}
-use Rattle.btr_reader.specs.btr_keys.Inode.{inode_bytes, inode_layout, inode_of}
-use Rattle.btr_reader.specs.btr_keys.Stamp.{stamp_layout}
-use Rattle.btr_reader.specs.btr_keys.declared.inode.Inode.{Inode}
-use Rattle.btr_reader.proofs.btr_keys.Records.{inodes_read_back}
-use Rattle.btr_reader.specs.btr_node.Leaf.{Item, keys_of}
-use Rattle.btr_reader.specs.btr_node.Order.{ascends}
+use Rattle.convert_core_laws.proofs.Imports.{◌≡◌, ◌≤◌, ◌<◌, ℕ, ◌+◌, ◌*◌, ◌%◌, ◌^◌, Bool, true, false, not, ◌&&◌, List, [], ◌∷◌, ◌++◌, filter, map, Some, refl, sym, ap, subst, ◌∙◌, ⊎_elim, arith, Contains, if◌then◌else◌, w64, option_and_then, Less, cases_Bool, eq-eqb, ne_eqb, not_from_false, fits_signed_from_abs, map-append, Contains-append_left, Contains-append_right, INODE_APPEND, INODE_IMMUTABLE, INODE_NOATIME, INODE_NODATASUM, INODE_NODUMP, INODE_SYNC, FIRST_FREE_OBJECTID, IMAGE_MODE, keys, in_filter, in_flat_map, Image, inode_bytes, inode_layout, inode_of, stamp_layout, Inode, inodes_read_back, Item, keys_of, ascends, has_no_sums, TreeItem, bare_item, HasPieces, made_from, two_cases, extents_at, piece_bytes, pieces_of_volume, source_block, if_set, inode_flags, image_entries, image_flags, image_head, image_items, image_name, root_directory_items, Source, content_items, inode_in, kind_in, name_items, ino_of, object_items, stat_in, fs_tree_items, InodesAreThere, is_file, is_symlink, Kind, File, inode_item, inode_made, ref_item, stamp_of, contains_head, contains_tail, root, same_key, ObjectKey, ObjectStat, same_key-true, by_inode, flag, Volume, HasBytes, item_cmp, Rise, Options, Piece, Plan}
+use Rattle.std.proofs.Common.{pos}
 use Rattle.btr_reader.proofs.btr_node.Ascending.{second_ascends}
-use Rattle.btr_check_rules.specs.Names.{has_no_sums}
-use Rattle.btr_reader.specs.btr_reader_walk.Events.{TreeItem}
-use Rattle.btr_reader.specs.btr_reader_walk.Tree.{bare_item}
-use Rattle.convert_core.specs.convert_steps.Source.{HasPieces, made_from}
-use Rattle.convert_core.proofs.extent_pieces.Owning.{two_cases}
-use Rattle.convert_core.specs.file_items.Extents.{extents_at, piece_bytes, pieces_of_volume, source_block}
-use Rattle.convert_core.specs.file_items.Inodes.{if_set, inode_flags}
-use Rattle.convert_core.specs.file_items.Small.{image_entries, image_flags, image_head, image_items, image_name, root_items}
-use Rattle.convert_core.specs.file_items.Tree.{Source, content_items, inode_in, kind_in, name_items, number_of, object_items, stat_in, tree_items}
-use Rattle.convert_trees_laws.specs.Inodes.{InodesAreThere}
-use Rattle.reiser_volume.specs.fs_rows.Kinds.{is_file, is_symlink}
-use Rattle.reiser_volume.specs.fs_rows.declared.row.Kind.{Kind}
-use Rattle.reiser_volume.specs.fs_rows.declared.row.Kind.TheVariants.{File}
-use Rattle.convert_core.specs.btr_item_list.Inodes.{inode_item, inode_made, ref_item, stamp_of}
-use Rattle.reiser_volume.proofs.reiser_bitmap.Ranges.{contains_head, contains_tail}
-use Rattle.reiser_volume.specs.reiser_volume_objects.Keys.{root, same_key}
-use Rattle.reiser_volume.specs.reiser_volume_objects.declared.key.ObjectKey.{ObjectKey}
-use Rattle.reiser_volume.specs.reiser_volume_objects.declared.stat.ObjectStat.{ObjectStat}
-use Rattle.reiser_volume.proofs.reiser_volume_objects.Tables.{same_key-true}
-use Rattle.reiser_volume.specs.Numbers.{by_inode}
-use Rattle.reiser_volume.specs.Rows.{flag}
-use Rattle.reiser_volume.specs.declared.volume.Volume.{Volume}
-use Rattle.convert_trees_laws.specs.Rows.{HasBytes}
 use Rattle.convert_trees_laws.proofs.Exact.{inodes_are_read}
-use Rattle.convert_core.specs.space_items.Merging.{item_cmp}
-use Rattle.convert_core.proofs.space_items.Ordered.{Rise}
-use Rattle.convert_core.specs.convert_options.declared.options.Options.{Options}
-use Rattle.convert_core.specs.unit_plan.declared.piece.Piece.{Piece}
-use Rattle.convert_core.specs.unit_plan.declared.plan.Plan.{Plan}
 use Rattle.convert_core_laws.proofs.soundness.Keyed.{no_two}
 
 -- of items that ascend two with one key are one
@@ -64,21 +20,21 @@ even false n is = refl
 sum_even : (x a b c d e : ℕ) → x ≤ 1 → a % 2 ≡ 0 → b % 2 ≡ 0 → c % 2 ≡ 0 → d % 2 ≡ 0 → e % 2 ≡ 0 → (x + (a + (b + (c + (d + e))))) % 2 ≡ x
 sum_even x a b c d e few one two three four five = omega (arith, few, one, two, three, four, five)
 
-at_most : (b : Bool) → if_set b 1 ≤ 1
+at_most : (b : Bool) → if_set b INODE_NODATASUM ≤ 1
 at_most true = omega arith
 at_most false = omega arith
 
-low_bit : (datasum : Bool) (flags : ℕ) (stat : ObjectStat) (kind : Kind) → inode_flags datasum flags stat kind % 2 ≡ if_set (is_file kind && not datasum) 1
+low_bit : (datasum : Bool) (flags : ℕ) (stat : ObjectStat) (kind : Kind) → inode_flags datasum flags stat kind % 2 ≡ if_set (is_file kind && not datasum) INODE_NODATASUM
 low_bit datasum flags stat kind =
-    sum_even (if_set (is_file kind && not datasum) 1) (if_set (flag flags stat 3) 32) (if_set (not (is_symlink kind) && flag flags stat 4) 64) (if_set (not (is_symlink kind) && flag flags stat 5) 128) (if_set (flag flags stat 6) 256) (if_set (flag flags stat 7) 512)
-    (at_most (is_file kind && not datasum)) (even (flag flags stat 3) 32 refl) (even (not (is_symlink kind) && flag flags stat 4) 64 refl) (even (not (is_symlink kind) && flag flags stat 5) 128 refl) (even (flag flags stat 6) 256 refl) (even (flag flags stat 7) 512 refl)
+    sum_even (if_set (is_file kind && not datasum) INODE_NODATASUM) (if_set (flag flags stat 3) INODE_SYNC) (if_set (not (is_symlink kind) && flag flags stat 4) INODE_IMMUTABLE) (if_set (not (is_symlink kind) && flag flags stat 5) INODE_APPEND) (if_set (flag flags stat 6) INODE_NODUMP) (if_set (flag flags stat 7) INODE_NOATIME)
+    (at_most (is_file kind && not datasum)) (even (flag flags stat 3) INODE_SYNC refl) (even (not (is_symlink kind) && flag flags stat 4) INODE_IMMUTABLE refl) (even (not (is_symlink kind) && flag flags stat 5) INODE_APPEND refl) (even (flag flags stat 6) INODE_NODUMP refl) (even (flag flags stat 7) INODE_NOATIME refl)
 
 flags_are : (s : Source) (key : ObjectKey) → (inode_in s key).flags ≡ inode_flags s.datasum s.flags (stat_in s key) (kind_in s key)
 unfolding inode_in
 flags_are s key = refl
 
 -- the lowest flag is that of data without checksums
-pub flag_bit : (s : Source) (key : ObjectKey) → (inode_in s key).flags % 2 ≡ if_set (is_file (kind_in s key) && not s.datasum) 1
+pub flag_bit : (s : Source) (key : ObjectKey) → (inode_in s key).flags % 2 ≡ if_set (is_file (kind_in s key) && not s.datasum) INODE_NODATASUM
 flag_bit s key = ap (λ (n : ℕ). n % 2) (flags_are s key) ∙ low_bit s.datasum s.flags (stat_in s key) (kind_in s key)
 
 -- data of files has checksums just where the option asks for them
@@ -86,10 +42,10 @@ pub file_sums : (s : Source) (key : ObjectKey) → s.datasum ≡ true → has_no
 file_sums s key on =
     let is = flags_are s key in
     let bit = low_bit s.datasum s.flags (stat_in s key) (kind_in s key) in
-    let none : if_set (is_file (kind_in s key) && not s.datasum) 1 ≡ 0 = ap (λ (b : Bool). if_set (is_file (kind_in s key) && not b) 1) on ∙ off (is_file (kind_in s key)) in
+    let none : if_set (is_file (kind_in s key) && not s.datasum) INODE_NODATASUM ≡ 0 = ap (λ (b : Bool). if_set (is_file (kind_in s key) && not b) INODE_NODATASUM) on ∙ off (is_file (kind_in s key)) in
     ne_eqb ((inode_in s key).flags % 2) 1 (λ e. never (ap (λ (n : ℕ). n % 2) is ∙ (bit ∙ none)) e)
   where
-    off : (b : Bool) → if_set (b && false) 1 ≡ 0
+    off : (b : Bool) → if_set (b && false) INODE_NODATASUM ≡ 0
     off true = refl
     off false = refl
 
@@ -99,8 +55,8 @@ file_sums s key on =
 pub file_no_sums : (s : Source) (key : ObjectKey) → s.datasum ≡ false → kind_in s key ≡ File → has_no_sums (inode_in s key) ≡ true
 file_no_sums s key off kind =
     let bit = low_bit s.datasum s.flags (stat_in s key) (kind_in s key) in
-    let one : if_set (is_file (kind_in s key) && not s.datasum) 1 ≡ 1 =
-    ap (λ (b : Bool). if_set (is_file (kind_in s key) && not b) 1) off ∙ ap (λ (k : Kind). if_set (is_file k && true) 1) kind in
+    let one : if_set (is_file (kind_in s key) && not s.datasum) INODE_NODATASUM ≡ 1 =
+    ap (λ (b : Bool). if_set (is_file (kind_in s key) && not b) INODE_NODATASUM) off ∙ ap (λ (k : Kind). if_set (is_file k && true) INODE_NODATASUM) kind in
     eq-eqb ((inode_in s key).flags % 2) 1 (ap (λ (n : ℕ). n % 2) (flags_are s key) ∙ (bit ∙ one))
 
 -- ---- the inode of an object
@@ -112,13 +68,13 @@ in_order all key h =
     (λ (f : same_key key root ≡ false). contains_tail key root (filter (λ x. not (same_key x root)) all) (in_filter (λ x. not (same_key x root)) all key h (not_from_false (same_key key root) f)))
     (cases_Bool (same_key key root))
 
-own_there : (s : Source) (key : ObjectKey) → Contains (object_items s key) (inode_item (number_of s key) (inode_in s key))
+own_there : (s : Source) (key : ObjectKey) → Contains (object_items s key) (inode_item (ino_of s key) (inode_in s key))
 unfolding object_items
-own_there s key = contains_head (inode_item (number_of s key) (inode_in s key)) (name_items s key ++ content_items s key (kind_in s key))
+own_there s key = contains_head (inode_item (ino_of s key) (inode_in s key)) (name_items s key ++ content_items s key (kind_in s key))
 
-pub inode_there : (s : Source) (key : ObjectKey) → Contains s.keys key → Contains (tree_items s) (inode_item (number_of s key) (inode_in s key))
-unfolding tree_items
-inode_there s key h = in_flat_map (object_items s) (by_inode s.keys) key (inode_item (number_of s key) (inode_in s key)) (in_order s.keys key h) (own_there s key)
+pub inode_there : (s : Source) (key : ObjectKey) → Contains s.keys key → Contains (fs_tree_items s) (inode_item (ino_of s key) (inode_in s key))
+unfolding fs_tree_items
+inode_there s key h = in_flat_map (object_items s) (by_inode s.keys) key (inode_item (ino_of s key) (inode_in s key)) (in_order s.keys key h) (own_there s key)
 
 -- an item in some leaf
 abbrev placed : Item → TreeItem
@@ -133,8 +89,8 @@ pub inode_reads : InodesAreThere → (volume : Volume) (image : Image) (o : Opti
     → inode_of (inode_bytes (inode_in (made_from volume image o pieces) key)) ≡ Some (inode_in (made_from volume image o pieces) key)
 inode_reads there volume image o plan pieces has bytes key among =
     let s : Source = made_from volume image o pieces in
-    let items : List TreeItem = map placed (tree_items s) in
-    let are : map bare_item items ≡ tree_items s = bare_placed (tree_items s) in
+    let items : List TreeItem = map placed (fs_tree_items s) in
+    let are : map bare_item items ≡ fs_tree_items s = bare_placed (fs_tree_items s) in
     let at = there volume image o plan pieces items key has are among in
     let read = inodes_are_read there volume image o plan pieces items key has are bytes among in
     sym (ap (λ (i : Item). inode_of i.1) at.2) ∙ (sym (ap (option_and_then (λ (i : TreeItem). inode_of i.body)) at.1) ∙ read)
@@ -142,15 +98,15 @@ inode_reads there volume image o plan pieces has bytes key among =
 -- ---- the inode of the saved image
 
 abbrev pub image_inode : ℕ → List Piece → Bool → ℕ → Inode
-image_inode blocks pieces datasum now = inode_made now 0x8100 (4096 * blocks) (piece_bytes (pieces_of_volume pieces)) (image_flags datasum)
+image_inode blocks pieces datasum now = inode_made now IMAGE_MODE (4096 * blocks) (piece_bytes (pieces_of_volume pieces)) (image_flags datasum)
 
 pub image_inode_there : (blocks : ℕ) (pieces : List Piece) (datasum : Bool) (now : ℕ) → Contains (image_items blocks pieces datasum now) (inode_item 257 (image_inode blocks pieces datasum now))
 unfolding image_items image_head
 image_inode_there blocks pieces datasum now =
     let own : Item = inode_item 257 (image_inode blocks pieces datasum now) in
-    let rest : List Item = ref_item 257 256 2 image_name ∷ [] in
-    Contains-append_left (root_items now image_entries ++ (own ∷ rest)) (extents_at 257 source_block (pieces_of_volume pieces)) own
-    (Contains-append_right (root_items now image_entries) (own ∷ rest) own (contains_head own rest))
+    let rest : List Item = ref_item 257 FIRST_FREE_OBJECTID 2 image_name ∷ [] in
+    Contains-append_left (root_directory_items now image_entries ++ (own ∷ rest)) (extents_at 257 source_block (pieces_of_volume pieces)) own
+    (Contains-append_right (root_directory_items now image_entries) (own ∷ rest) own (contains_head own rest))
 
 pub stamp_fits : (now : ℕ) → now < 2 ^ 63 → stamp_layout.fits (stamp_of now)
 unfolding stamp_layout

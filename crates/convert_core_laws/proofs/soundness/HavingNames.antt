@@ -1,44 +1,17 @@
 -- The names of a converted volume are sound.
-use Rattle.std.proofs.Common.{◌≤◌, ◌<◌, ℕ, ◌-◌, ◌^◌, List, [], ◌∷◌, filter, sym, subst, arith}
-use Rattle.std.specs.Prelude.{is_some}
-use Rattle.std.specs.List.{AllByRecursion}
-use Rattle.std.proofs.lemmas.List.Elements.{All-cons, All-nil}
-use Rattle.std.proofs.lemmas.List.Sorted.{Contains-permutation}
-use Rattle.reiser_volume.specs.outside.History.{Image}
-use Rattle.reiser_volume.specs.vol_block.declared.ids.Ids.{Ids}
-use Rattle.btr_reader.specs.btr_node.NodeSize.{IsNodeSize}
-use Rattle.btr_check_rules.specs.Names.{AreNames, HaveNames}
-use Rattle.btr_check_rules.specs.Recount.{Recount, TreeOn}
-use Rattle.convert_core.specs.convert_steps.Making.{IsMaking, Making}
-use Rattle.convert_core.specs.convert_steps.Source.{HasPieces}
-use Rattle.convert_core.specs.convert_steps.Standing.{file_tree_items, image_tree_items, root_tree_items}
-use Rattle.convert_core.specs.convert_steps.declared.trees.VolumeTrees.{VolumeTrees}
-use Rattle.convert_core.proofs.Wholeness.{blocks_few}
-use Rattle.convert_core_laws.specs.reading.Identifiers.{NewIdsFit}
-use Rattle.convert_core_laws.specs.reading.Opened.{IsNewVolume, map_for, super_for}
+use Rattle.convert_core_laws.proofs.Imports.{◌≤◌, ◌<◌, ℕ, ◌-◌, ◌^◌, List, [], ◌∷◌, filter, refl, sym, subst, arith, is_some, AllByRecursion, All-cons, All-nil, Contains-permutation, CONV_IMAGE_SUBVOL, DATA_RELOC_TREE, FS_TREE, Image, Ids, IsNodeSize, AreExtents, HaveExtents, AreInodes, HaveInodes, AreTreeNames, HaveNames, Recount, TreeOn, IsMaking, Making, HasPieces, file_tree_items, image_tree_items, root_tree_items, VolumeTrees, blocks_few, NewIdsFit, IsNewVolume, map_for, super_for, piece_bytes, pieces_of_volume, source_block, relocation_items, FilesAreHeld, InodesAreThere, ImageKeysAscend, from_filter, HasBytes, all_from, TreeNode, Options, Piece, recount_for, tree_for, ConvertedFileExtentsAreSound, ConvertedInodesAreSound, ConvertedNamesAreSound}
 use Rattle.convert_core_laws.proofs.reading.SavedExtents.{AreSources, sources_bytes}
 use Rattle.convert_core_laws.proofs.reading.SavedPieces.{are_sources}
-use Rattle.convert_core.specs.file_items.Extents.{piece_bytes, pieces_of_volume, source_block}
-use Rattle.convert_core.specs.file_items.Small.{relocation_items}
-use Rattle.convert_trees_laws.specs.Held.{FilesAreHeld}
-use Rattle.convert_trees_laws.specs.Inodes.{InodesAreThere}
-use Rattle.convert_trees_laws.specs.Keys.{ImageKeysAscend}
-use Rattle.reiser_volume.proofs.fs_paths.Lists.{from_filter}
-use Rattle.convert_trees_laws.specs.Rows.{HasBytes}
-use Rattle.convert_trees_laws.proofs.Lists.{all_from}
-use Rattle.convert_core.specs.space_items.declared.node.TreeNode.{TreeNode}
-use Rattle.convert_core.specs.convert_options.declared.options.Options.{Options}
-use Rattle.convert_core.specs.unit_plan.declared.piece.Piece.{Piece}
-use Rattle.convert_core_laws.specs.soundness.Recounted.{recount_for, tree_for}
-use Rattle.convert_core_laws.proofs.soundness.Recounting.{volume_for}
+use Rattle.convert_core_laws.proofs.soundness.Recounting.{generation_is, volume_for, without_holes}
 use Rattle.convert_core_laws.proofs.soundness.Unreserved.{fit_size}
 use Rattle.convert_core_laws.proofs.soundness.Uses.{piece_small}
 use Rattle.convert_core_laws.proofs.soundness.Flags.{image_extents_ascend}
-use Rattle.convert_core_laws.specs.soundness.Laws.{ConvertedNamesAreSound}
 use Rattle.convert_core_laws.proofs.soundness.Entered.{file_names}
+use Rattle.convert_core_laws.proofs.soundness.FileExtents.{file_extents, relocation_extents, saved_extents}
+use Rattle.convert_core_laws.proofs.soundness.FileInodes.{file_inodes}
 use Rattle.convert_core_laws.proofs.soundness.NameLists.{grouped_all}
-use Rattle.convert_core_laws.proofs.soundness.Saved.{IsLow, saved_names}
-use Rattle.convert_core_laws.proofs.soundness.Small.{relocation_names}
+use Rattle.convert_core_laws.proofs.soundness.Saved.{IsLow, own_is, saved_inodes, saved_names}
+use Rattle.convert_core_laws.proofs.soundness.Small.{relocation_inodes, relocation_names}
 
 module _ (o : Options) (ids : Ids) (now : ℕ) (image other : Image) (m : Making) (r : VolumeTrees) (nodes : List TreeNode) (v : IsNewVolume o ids now image other m r nodes) (held : FilesAreHeld) (rising : ImageKeysAscend) (are_there : InodesAreThere) (now_low : now < 2 ^ 63) (bytes : HasBytes image) where
   abbrev making : IsMaking image m
@@ -78,16 +51,16 @@ module _ (o : Options) (ids : Ids) (now : ℕ) (image other : Image) (m : Making
   -- ---- the file trees
 
   abbrev roots : TreeOn → Type 0
-  roots = AreNames (root_tree_items m r)
+  roots = AreTreeNames (root_tree_items m r)
 
   abbrev files : TreeOn
-  files = tree_for other (super_for m r nodes) 5 r.files (file_tree_items image m)
+  files = tree_for other (super_for m r nodes) FS_TREE r.files (file_tree_items image m)
 
   abbrev saved : TreeOn
-  saved = tree_for other (super_for m r nodes) 256 r.image (image_tree_items m)
+  saved = tree_for other (super_for m r nodes) CONV_IMAGE_SUBVOL r.image (image_tree_items m)
 
   abbrev relocation : TreeOn
-  relocation = tree_for other (super_for m r nodes) (2 ^ 64 - 9) r.relocation (relocation_items m.now)
+  relocation = tree_for other (super_for m r nodes) DATA_RELOC_TREE r.relocation (relocation_items m.now)
 
   pub have_names : HaveNames k
   have_names =
@@ -96,6 +69,43 @@ module _ (o : Options) (ids : Ids) (now : ℕ) (image other : Image) (m : Making
       (saved_names m.volume.sup.blocks m.now m.pieces m.options.datasum (blocks_few m.volume image m.options m.plan m.pieces of) image_bytes made_low parts_low saved.nodes (root_tree_items m r))
       (All-cons roots relocation [] (relocation_names m.now made_low relocation.nodes (root_tree_items m r)) (All-nil roots)))
 
+  -- ---- their inodes
+
+  abbrev inodes : TreeOn → Type 0
+  inodes = AreInodes (super_for m r nodes)
+
+  pub have_inodes : HaveInodes k
+  have_inodes =
+      All-cons inodes files (saved ∷ (relocation ∷ [])) (file_inodes image m making (super_for m r nodes) files.nodes are_there bytes)
+      (All-cons inodes saved (relocation ∷ [])
+      (saved_inodes m.volume.sup.blocks m.now m.pieces m.options.datasum (blocks_few m.volume image m.options m.plan m.pieces of) image_bytes made_low parts_low saved.nodes (root_tree_items m r) (super_for m r nodes))
+      (All-cons inodes relocation [] (relocation_inodes m.now made_low relocation.nodes (root_tree_items m r) (super_for m r nodes)) (All-nil inodes)))
+
+  -- ---- their extents
+
+  newest : 1 ≤ (super_for m r nodes).generation
+  newest = let is = generation_is m r nodes in omega (arith, is)
+
+  abbrev extents : TreeOn → Type 0
+  extents = AreExtents (super_for m r nodes)
+
+  pub have_extents : HaveExtents k
+  have_extents =
+      let full = without_holes m r nodes in
+      All-cons extents files (saved ∷ (relocation ∷ [])) (file_extents image m making (super_for m r nodes) newest full files.nodes held are_there bytes)
+      (All-cons extents saved (relocation ∷ [])
+      (saved_extents (super_for m r nodes) newest full m.volume.sup.blocks m.now m.pieces m.options.datasum (map_for m.chunks) sources saved refl
+      (own_is m.volume.sup.blocks m.now m.pieces m.options.datasum (blocks_few m.volume image m.options m.plan m.pieces of) image_bytes made_low parts_low saved.nodes (root_tree_items m r)))
+      (All-cons extents relocation [] (relocation_extents (super_for m r nodes) full m.now relocation refl) (All-nil extents)))
+
 pub converted_names_are_sound : NewIdsFit → FilesAreHeld → ImageKeysAscend → InodesAreThere → ConvertedNamesAreSound
 converted_names_are_sound ids_fit held rising are_there = λ o ids now image other m r nodes is size low are has bytes.
     have_names o ids now image other m r nodes (volume_for ids_fit o ids now image other m r nodes is size are has) held rising are_there low bytes
+
+pub converted_inodes_are_sound : NewIdsFit → FilesAreHeld → ImageKeysAscend → InodesAreThere → ConvertedInodesAreSound
+converted_inodes_are_sound ids_fit held rising are_there = λ o ids now image other m r nodes is size low are has bytes.
+    have_inodes o ids now image other m r nodes (volume_for ids_fit o ids now image other m r nodes is size are has) held rising are_there low bytes
+
+pub converted_file_extents_are_sound : NewIdsFit → FilesAreHeld → ImageKeysAscend → InodesAreThere → ConvertedFileExtentsAreSound
+converted_file_extents_are_sound ids_fit held rising are_there = λ o ids now image other m r nodes is size low are has bytes.
+    have_extents o ids now image other m r nodes (volume_for ids_fit o ids now image other m r nodes is size are has) held rising are_there low bytes

@@ -1,10 +1,5 @@
 -- The members of two lists that were merged.
-use Rattle.std.proofs.Common.{◌≡◌, List, [], ◌∷◌, sym, subst, ⊎_elim, refl, arith}
-use Rattle.std.specs.Prelude.{Contains}
-use Rattle.std.specs.declared.cmp.Ordering.{Ordering}
-use Rattle.std.specs.declared.cmp.Ordering.TheVariants.{Less, Equal, Greater}
-use Rattle.reiser_volume.proofs.fs_paths.Lists.{at_head, head_or_tail, in_tail}
-use Rattle.convert_core.proofs.space_items.Merges.{merge, merge-equal, merge-greater, merge-less}
+use Rattle.convert_core_laws.proofs.Imports.{◌≡◌, List, [], ◌∷◌, sym, subst, ⊎_elim, refl, arith, Contains, Ordering, Less, Equal, Greater, at_head, head_or_tail, in_tail, merge, merge-equal, merge-greater, merge-less}
 
 by_order : {P : Type 0} (k : Ordering) → (k ≡ Less → P) → (k ≡ Equal → P) → (k ≡ Greater → P) → P
 by_order Less a b c = a refl

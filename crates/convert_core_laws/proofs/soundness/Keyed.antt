@@ -1,43 +1,9 @@
 -- A use of data has the key of the file extent that tells it, so no use is told twice.
-use Rattle.std.proofs.Common.{◌≡◌, ◌≢◌, ◌<◌, ℕ, ◌-◌, ◌*◌, ◌^◌, eqb, Bool, true, false, List, [], ◌∷◌, filter, get_or, Option, Some, None, refl, sym, ap, subst, ◌∙◌, ⊎_elim, arith}
-use Rattle.std.specs.Prelude.{All, AllPairs, Contains, if◌then◌else◌}
-use Rattle.std.specs.Ordering.{ordering_reverse}
-use Rattle.std.specs.declared.cmp.Ordering.{Ordering}
-use Rattle.std.specs.declared.cmp.Ordering.TheVariants.{Less, Equal, Greater}
-use Rattle.std.proofs.lemmas.List.Elements.{All-cons, All-contains, Contains-append_cases, Contains-get_or}
-use Rattle.std.proofs.lemmas.List.Kept.{AllPairs-cons}
-use Rattle.reiser_volume.proofs.fs_paths.Lists.{from_map, in_filter, in_flat_map}
-use Rattle.reiser_volume.specs.outside.History.{Image}
-use Rattle.reiser_volume.specs.vol_block.declared.ids.Ids.{Ids}
-use Rattle.btr_reader.specs.btr_reader_contents.Extents.{is_hole}
-use Rattle.btr_reader.specs.btr_keys.FileExtent.{ContentValue, FileExtentValue, Inline, Prealloc, Regular, file_extent_of}
-use Rattle.btr_reader.specs.btr_keys.Key.{make_key}
-use Rattle.btr_reader.specs.btr_keys.declared.key.Key.{Key}
-use Rattle.btr_reader.specs.btr_node.Leaf.{Item}
-use Rattle.btr_reader.specs.btr_node.NodeSize.{IsNodeSize}
-use Rattle.btr_check_rules.specs.Recount.{DataUse, Recount, TreeOn, all_trees, data_uses, use_by, use_in, use_of, uses_in}
-use Rattle.convert_core.specs.convert_steps.Making.{IsMaking, Making, new_ids}
-use Rattle.convert_core.specs.convert_steps.Source.{HasPieces}
-use Rattle.convert_core.specs.convert_steps.Standing.{file_tree_items, image_tree_items, sum_tree_items}
-use Rattle.convert_core.specs.convert_steps.declared.trees.VolumeTrees.{VolumeTrees}
-use Rattle.convert_core_laws.specs.reading.Opened.{IsNewVolume, super_for}
+use Rattle.convert_core_laws.proofs.Imports.{◌≡◌, ◌≢◌, ◌<◌, ℕ, ◌-◌, ◌*◌, ◌^◌, eqb, Bool, true, false, List, [], ◌∷◌, filter, get_or, Option, Some, None, refl, sym, ap, subst, ◌∙◌, ⊎_elim, arith, All, AllPairs, Contains, if◌then◌else◌, ordering_reverse, Ordering, Less, Equal, Greater, All-cons, All-contains, Contains-append_cases, Contains-get_or, AllPairs-cons, EXTENT_DATA, CONV_IMAGE_SUBVOL, CSUM_TREE, DATA_RELOC_TREE, DEV_TREE, EXTENT_TREE, FS_TREE, from_map, in_filter, in_flat_map, Image, Ids, is_hole, ContentValue, FileExtentValue, Inline, Prealloc, Regular, file_extent_of, make_key, Key, Item, IsNodeSize, DataUse, Recount, TreeOn, all_trees, data_uses, use_by, use_in, uses_in, IsMaking, Making, new_ids, HasPieces, file_tree_items, image_tree_items, sum_tree_items, VolumeTrees, IsNewVolume, super_for, extents_at, file_block, piece_bytes, pieces_of_volume, source_block, image_head, image_items, relocation_items, ImageKeysAscend, file_keys_ascend, extent_item, regular_extent, contains_cases, device_items, extent_items as extent_tree_items, item_cmp, TreeNode, Rise, ascends_rise, item_total, Options, Piece, recount_for, tree_for}
+use Rattle.btr_check_rules.specs.Recount.{use_of}
 use Rattle.convert_core_laws.proofs.reading.SavedPieces.{member}
-use Rattle.convert_core.specs.file_items.Extents.{extents_at, file_block, piece_bytes, pieces_of_volume, source_block}
-use Rattle.convert_core.specs.file_items.Small.{image_head, image_items, relocation_items}
-use Rattle.convert_trees_laws.specs.Keys.{ImageKeysAscend}
-use Rattle.convert_trees_laws.proofs.Keys.{file_keys_ascend}
-use Rattle.convert_core.specs.btr_item_list.Extents.{extent_item, regular_extent}
-use Rattle.reiser_volume.proofs.reiser_bitmap.Ranges.{contains_cases}
-use Rattle.convert_core.specs.space_items.Chunks.{device_items}
-use Rattle.convert_core.specs.space_items.Extents.{extent_items as extent_tree_items}
-use Rattle.convert_core.specs.space_items.Merging.{item_cmp}
-use Rattle.convert_core.specs.space_items.declared.node.TreeNode.{TreeNode}
-use Rattle.convert_core.proofs.space_items.Ordered.{Rise, ascends_rise, item_total}
-use Rattle.convert_core.specs.convert_options.declared.options.Options.{Options}
-use Rattle.convert_core.specs.unit_plan.declared.piece.Piece.{Piece}
-use Rattle.convert_core_laws.specs.soundness.Recounted.{recount_for, tree_for}
 use Rattle.convert_core_laws.proofs.soundness.AllUses.{from_is, source_low, uses_are}
-use Rattle.convert_core_laws.proofs.soundness.Trees.{six_all, trees}
+use Rattle.convert_core_laws.proofs.soundness.Trees.{all_once, six_all}
 use Rattle.convert_core_laws.proofs.soundness.Unreserved.{fit_size}
 use Rattle.convert_core_laws.proofs.soundness.Uses.{IsUse, by_file, by_image, file_piece, owner_low, piece_use, use_at, uses_from}
 use Rattle.convert_core_laws.proofs.soundness.Distinct.{AreDistinct, distinct_flat, distinct_nil, distinct_one}
@@ -75,7 +41,7 @@ uses_tree t u h = let at = uses_from t u h in use_tree t.number at.0 (file_exten
 
 -- the key of the file extent that tells a use
 abbrev pub HasKeyOf : Item → DataUse → Type 0
-HasKeyOf i u = i.0 ≡ make_key u.inode 108 u.offset
+HasKeyOf i u = i.0 ≡ make_key u.inode EXTENT_DATA u.offset
 
 less_never : (o : Ordering) → o ≡ ordering_reverse o → o ≡ Less → ⊥
 less_never Less e less = cc e
@@ -92,14 +58,14 @@ told_of t i u true h = (refl, h)
 told_of t i u false h = absurd (omega (arith, h.1))
 
 -- where uses have the keys of their items, and items ascend, no use is told twice
-pub tree_distinct : (t : TreeOn) → Rise t.items → ((i : Item) (u : DataUse) → Contains t.items i → eqb i.0.kind 108 ≡ true → Contains (use_in t.number i (file_extent_of i.1)) u → HasKeyOf i u) → AreDistinct (uses_in t)
+pub tree_distinct : (t : TreeOn) → Rise t.items → ((i : Item) (u : DataUse) → Contains t.items i → eqb i.0.kind EXTENT_DATA ≡ true → Contains (use_in t.number i (file_extent_of i.1)) u → HasKeyOf i u) → AreDistinct (uses_in t)
 tree_distinct t up keyed =
-    distinct_flat (λ (i : Item). if eqb i.0.kind 108 then use_in t.number i (file_extent_of i.1) else []) t.items (λ i h. each i (eqb i.0.kind 108))
+    distinct_flat (λ (i : Item). if eqb i.0.kind EXTENT_DATA then use_in t.number i (file_extent_of i.1) else []) t.items (λ i h. each i (eqb i.0.kind EXTENT_DATA))
     (λ i j d l h u one two.
     let a : Item = get_or t.items i d in
     let b : Item = get_or t.items j d in
-    let first = told_of t a u (eqb a.0.kind 108) one in
-    let second = told_of t b u (eqb b.0.kind 108) two in
+    let first = told_of t a u (eqb a.0.kind EXTENT_DATA) one in
+    let second = told_of t b u (eqb b.0.kind EXTENT_DATA) two in
     let key_a : HasKeyOf a u = keyed a u (Contains-get_or t.items i d (omega (arith, l, h))) first.0 first.1 in
     let key_b : HasKeyOf b u = keyed b u (Contains-get_or t.items j d h) second.0 second.1 in
     no_two a b (up i j d l h) (key_a ∙ sym key_b))
@@ -111,7 +77,7 @@ tree_distinct t up keyed =
 -- ---- the tree of the saved image
 
 abbrev is_file_extent : Item → Bool
-is_file_extent i = eqb i.0.kind 108
+is_file_extent i = eqb i.0.kind EXTENT_DATA
 
 head_kinds : (blocks nbytes now : ℕ) (datasum : Bool) → filter is_file_extent (image_head blocks nbytes datasum now) ≡ []
 unfolding image_head
@@ -136,24 +102,24 @@ module _ (image : Image) (m : Making) (made : IsMaking image m) (size : IsNodeSi
       let told = piece_use image m made tree inode block p h low in
       let one : Contains (use_at tree inode block p ∷ []) u =
       subst (λ (l : List DataUse). Contains l u) told (subst (λ (j : Item). Contains (use_in tree j (file_extent_of j.1)) u) (sym is) k) in
-      ⊎_elim (λ (e : use_at tree inode block p ≡ u). sym (ap (λ (j : Item). j.0) is) ∙ ap (λ (x : DataUse). make_key x.inode 108 x.offset) e)
+      ⊎_elim (λ (e : use_at tree inode block p ≡ u). sym (ap (λ (j : Item). j.0) is) ∙ ap (λ (x : DataUse). make_key x.inode EXTENT_DATA x.offset) e)
       (λ (none : Contains [] u). absurd (omega (arith, none.1))) (contains_cases u (use_at tree inode block p) [] one)
 
-  image_key : (i : Item) (u : DataUse) → Contains (image_tree_items m) i → eqb i.0.kind 108 ≡ true → Contains (use_in 256 i (file_extent_of i.1)) u → HasKeyOf i u
+  image_key : (i : Item) (u : DataUse) → Contains (image_tree_items m) i → eqb i.0.kind EXTENT_DATA ≡ true → Contains (use_in CONV_IMAGE_SUBVOL i (file_extent_of i.1)) u → HasKeyOf i u
   image_key i u h is k =
       let at = from_map (λ (p : Piece). extent_item 257 (source_block p) (regular_extent p.place p.count)) (pieces_of_volume m.pieces) i (image_parts m.volume.sup.blocks m.pieces m.options.datasum m.now i h is) in
       let p : Piece = at.0 in
       let of_all = member image m made size p at.1 in
       let low = source_low image m made size p of_all.0 (from_is image m made size p of_all.1) in
-      piece_key 256 257 (source_block p) p of_all.0 (omega (arith, low)) i at.2 u k
+      piece_key CONV_IMAGE_SUBVOL 257 (source_block p) p of_all.0 (omega (arith, low)) i at.2 u k
 
   -- ---- the file tree
 
-  file_key : (i : Item) (u : DataUse) → Contains (file_tree_items image m) i → eqb i.0.kind 108 ≡ true → Contains (use_in 5 i (file_extent_of i.1)) u → HasKeyOf i u
+  file_key : (i : Item) (u : DataUse) → Contains (file_tree_items image m) i → eqb i.0.kind EXTENT_DATA ≡ true → Contains (use_in FS_TREE i (file_extent_of i.1)) u → HasKeyOf i u
   file_key i u h is k =
       let at = file_piece image m made i u h is k in
       let low = owner_low image m made at.0 at.1 at.2 at.3 in
-      piece_key 5 at.1 (file_block at.0) at.0 at.2 (omega (arith, low)) i at.4 u k
+      piece_key FS_TREE at.1 (file_block at.0) at.0 at.2 (omega (arith, low)) i at.4 u k
 
   -- the items of both trees ascend
   pub files_rise : Rise (file_tree_items image m)
@@ -181,13 +147,13 @@ module _ (o : Options) (ids : Ids) (now : ℕ) (image other : Image) (m : Making
   pub all_other : AllPairs (λ t u. t.number ≢ u.number) (all_trees k)
   all_other =
       let s = super_for m r nodes in
-      let extents : TreeOn = tree_for other s 2 r.extents (extent_tree_items m.chunks m.pieces nodes m.options.nodesize) in
-      let device : TreeOn = tree_for other s 4 r.device (device_items (new_ids m) m.chunks) in
-      let files : TreeOn = tree_for other s 5 r.files (file_tree_items image m) in
-      let sums : TreeOn = tree_for other s 7 r.sums (sum_tree_items other m) in
-      let saved : TreeOn = tree_for other s 256 r.image (image_tree_items m) in
-      let relocation : TreeOn = tree_for other s (2 ^ 64 - 9) r.relocation (relocation_items m.now) in
-      let up = (trees o ids now image other m r nodes v).once in
+      let extents : TreeOn = tree_for other s EXTENT_TREE r.extents (extent_tree_items m.chunks m.pieces nodes m.options.nodesize) in
+      let device : TreeOn = tree_for other s DEV_TREE r.device (device_items (new_ids m) m.chunks) in
+      let files : TreeOn = tree_for other s FS_TREE r.files (file_tree_items image m) in
+      let sums : TreeOn = tree_for other s CSUM_TREE r.sums (sum_tree_items other m) in
+      let saved : TreeOn = tree_for other s CONV_IMAGE_SUBVOL r.image (image_tree_items m) in
+      let relocation : TreeOn = tree_for other s DATA_RELOC_TREE r.relocation (relocation_items m.now) in
+      let up = all_once o ids now image other m r nodes v in
       AllPairs-cons Other k.chunk_tree (k.root_tree ∷ k.others)
       (All-cons (Other k.chunk_tree) k.root_tree k.others (λ e. omega (arith, e))
       (six_all (Other k.chunk_tree) extents device files sums saved relocation (λ e. omega (arith, e)) (λ e. omega (arith, e)) (λ e. omega (arith, e)) (λ e. omega (arith, e)) (λ e. omega (arith, e)) (λ e. omega (arith, e))))
@@ -196,7 +162,7 @@ module _ (o : Options) (ids : Ids) (now : ℕ) (image other : Image) (m : Making
       (λ i j d l h e. let less : (get_or k.others i d).number < (get_or k.others j d).number = up i j d l h in omega (arith, less, e)))
 
   -- data is used by two trees
-  pub use_numbers : (u : DataUse) → Contains (data_uses k) u → (u.tree ≢ 5) → (u.tree ≢ 256) → ⊥
+  pub use_numbers : (u : DataUse) → Contains (data_uses k) u → (u.tree ≢ FS_TREE) → (u.tree ≢ CONV_IMAGE_SUBVOL) → ⊥
   use_numbers u h not_files not_saved = by (uses_are image m making fit other r nodes u h)
     where
       by : IsUse m u → ⊥
@@ -206,7 +172,7 @@ module _ (o : Options) (ids : Ids) (now : ℕ) (image other : Image) (m : Making
   abbrev Once : TreeOn → Type 0
   Once t = AreDistinct (uses_in t)
 
-  no_uses : (t : TreeOn) → Contains (all_trees k) t → t.number ≢ 5 → t.number ≢ 256 → Once t
+  no_uses : (t : TreeOn) → Contains (all_trees k) t → t.number ≢ FS_TREE → t.number ≢ CONV_IMAGE_SUBVOL → Once t
   no_uses t h one two =
       distinct_nil (uses_in t) (λ u l.
       let is = uses_tree t u l in
@@ -215,12 +181,12 @@ module _ (o : Options) (ids : Ids) (now : ℕ) (image other : Image) (m : Making
   each_once : All Once (all_trees k)
   each_once =
       let s = super_for m r nodes in
-      let extents : TreeOn = tree_for other s 2 r.extents (extent_tree_items m.chunks m.pieces nodes m.options.nodesize) in
-      let device : TreeOn = tree_for other s 4 r.device (device_items (new_ids m) m.chunks) in
-      let files : TreeOn = tree_for other s 5 r.files (file_tree_items image m) in
-      let sums : TreeOn = tree_for other s 7 r.sums (sum_tree_items other m) in
-      let saved : TreeOn = tree_for other s 256 r.image (image_tree_items m) in
-      let relocation : TreeOn = tree_for other s (2 ^ 64 - 9) r.relocation (relocation_items m.now) in
+      let extents : TreeOn = tree_for other s EXTENT_TREE r.extents (extent_tree_items m.chunks m.pieces nodes m.options.nodesize) in
+      let device : TreeOn = tree_for other s DEV_TREE r.device (device_items (new_ids m) m.chunks) in
+      let files : TreeOn = tree_for other s FS_TREE r.files (file_tree_items image m) in
+      let sums : TreeOn = tree_for other s CSUM_TREE r.sums (sum_tree_items other m) in
+      let saved : TreeOn = tree_for other s CONV_IMAGE_SUBVOL r.image (image_tree_items m) in
+      let relocation : TreeOn = tree_for other s DATA_RELOC_TREE r.relocation (relocation_items m.now) in
       All-cons Once k.chunk_tree (k.root_tree ∷ k.others) (no_uses k.chunk_tree (0, omega arith, refl) (λ e. omega (arith, e)) (λ e. omega (arith, e)))
       (All-cons Once k.root_tree k.others (no_uses k.root_tree (1, omega arith, refl) (λ e. omega (arith, e)) (λ e. omega (arith, e)))
       (six_all Once extents device files sums saved relocation (no_uses extents (2, omega arith, refl) (λ e. omega (arith, e)) (λ e. omega (arith, e))) (no_uses device (3, omega arith, refl) (λ e. omega (arith, e)) (λ e. omega (arith, e)))

@@ -1,12 +1,5 @@
 -- Lists: filters of merged ones, and sums over the two parts of one.
-use Rattle.std.proofs.Common.{◌≡◌, ℕ, Bool, true, false, not, cond, List, [], ◌∷◌, ◌++◌, filter, refl, ap, ◌∙◌}
-use Rattle.std.specs.Prelude.{All}
-use Rattle.std.specs.List.{sum_by}
-use Rattle.std.specs.declared.cmp.Ordering.{Ordering}
-use Rattle.std.specs.declared.cmp.Ordering.TheVariants.{Less, Equal, Greater}
-use Rattle.std.proofs.lemmas.List.Elements.{All-head, All-tail}
-use Rattle.std.proofs.lemmas.List.Sorted.{IsPermutation-filter_both, sum_by-IsPermutation}
-use Rattle.convert_core.proofs.space_items.Merges.{merge, merge-equal, merge-greater, merge-less}
+use Rattle.convert_core_laws.proofs.Imports.{◌≡◌, ℕ, Bool, true, false, not, cond, List, [], ◌∷◌, ◌++◌, filter, refl, ap, ◌∙◌, All, sum_by, Ordering, Less, Equal, Greater, All-head, All-tail, IsPermutation-filter_both, sum_by-IsPermutation, merge, merge-equal, merge-greater, merge-less}
 
 by_order : {P : Type 0} (k : Ordering) → (k ≡ Less → P) → (k ≡ Equal → P) → (k ≡ Greater → P) → P
 by_order Less a b c = a refl

@@ -1,11 +1,6 @@
 -- Lists with the same elements, made of others by parts.
-use Rattle.std.proofs.Common.{◌≡◌, ℕ, ◌==◌, Bool, true, false, cond, List, [], ◌∷◌, ◌++◌, append_assoc, map, filter, flat_map, Contains, ⊎_elim, refl, sym, ap, subst, ◌∙◌, true≢false, nat_lt, if◌then◌else◌, arith}
-use Rattle.std.specs.List.Sorted.{IsPermutation}
-use Rattle.std.proofs.lemmas.List.{map-append}
-use Rattle.std.proofs.lemmas.List.Elements.{filter-append}
-use Rattle.std.proofs.lemmas.List.Sorted.{IsPermutation-append, IsPermutation-append_comm, IsPermutation-append_left, IsPermutation-append_right, IsPermutation-cons, IsPermutation-middle, IsPermutation-refl, IsPermutation-trans}
-use Rattle.convert_core.specs.btr_item_list.Groups.{grouped, in_group}
-use Rattle.reiser_volume.proofs.fs_paths.Lists.{at_head, head_or_tail, in_tail}
+use Rattle.convert_core_laws.proofs.Imports.{◌≡◌, ℕ, ◌==◌, Bool, true, false, cond, List, [], ◌∷◌, ◌++◌, append_assoc, map, filter, ⊎_elim, refl, sym, ap, subst, ◌∙◌, true≢false, nat_lt, arith, IsPermutation, map-append, filter-append, IsPermutation-append, IsPermutation-append_comm, IsPermutation-append_left, IsPermutation-append_right, IsPermutation-cons, IsPermutation-middle, IsPermutation-refl, IsPermutation-trans, grouped, in_group, at_head, head_or_tail, in_tail}
+use Rattle.std.proofs.Common.{flat_map, Contains, if◌then◌else◌}
 
 pub same_elements : {X : Type 0} (xs ys : List X) → xs ≡ ys → IsPermutation xs ys
 same_elements {X} xs ys e = subst (IsPermutation xs) e (IsPermutation-refl xs)

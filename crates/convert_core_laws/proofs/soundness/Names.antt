@@ -1,32 +1,6 @@
 -- The names that directories of the file tree tell are those that inodes tell.
-use Rattle.std.proofs.Common.{◌≡◌, ◌<◌, ℕ, Bool, true, false, not, List, [], ◌∷◌, ◌++◌, map, filter, flat_map, Contains, refl, sym, ap, subst, ◌∙◌, ⊎_elim, if◌then◌else◌, arith}
-use Rattle.std.specs.List.Sorted.{IsPermutation}
-use Rattle.std.proofs.lemmas.Bool.{cases_Bool, not_from_false}
-use Rattle.std.proofs.lemmas.List.{append-nil}
-use Rattle.std.proofs.lemmas.List.Elements.{filter-append}
-use Rattle.std.proofs.lemmas.List.Sorted.{IsPermutation-cons, IsPermutation-map, IsPermutation-sym, IsPermutation-trans}
-use Rattle.indexmap.specs.IndexMap.{keys}
-use Rattle.reiser_volume.specs.outside.History.{Image}
-use Rattle.btr_check_rules.specs.Names.{BackName, back_name, names_inode, own_name}
-use Rattle.convert_core.specs.convert_steps.Making.{IsMaking, Making}
-use Rattle.convert_core.specs.convert_steps.Source.{HasPieces}
-use Rattle.convert_core.specs.extent_pieces.Laws.{AreSortedKeys}
-use Rattle.convert_core.proofs.extent_pieces.Named.{numbered}
-use Rattle.convert_core.specs.file_items.Names.{Entry as Link, Indexed, entries, indexed, indexed_in, names_in, names_of, next_index, parent_of, saved_entry}
-use Rattle.convert_core.specs.file_items.Tree.{Source, kind_in, number_of, object_items, tree_items}
-use Rattle.convert_trees_laws.proofs.Keys.{inodes_climb}
-use Rattle.convert_trees_laws.proofs.Rising.{Climb}
-use Rattle.reiser_volume.specs.fs_rows.declared.row.Kind.{Kind}
-use Rattle.reiser_volume.specs.fs_rows.declared.row.Kind.TheVariants.{Directory, File, Symlink, Character, Block, Fifo, Socket, Subvolume}
-use Rattle.reiser_volume.proofs.fs_paths.Lists.{at_head, from_filter, from_map, head_or_tail, in_filter, in_tail}
-use Rattle.reiser_volume.specs.reiser_volume_objects.Keys.{root, same_key}
-use Rattle.reiser_volume.specs.reiser_volume_objects.declared.key.ObjectKey.{ObjectKey}
-use Rattle.reiser_volume.proofs.reiser_volume_objects.Tables.{same_key-self, same_key-true}
-use Rattle.reiser_volume.specs.Numbers.{by_inode}
-use Rattle.convert_trees_laws.proofs.Known.{root_known}
-use Rattle.convert_trees_laws.proofs.Linking.{is_link}
-use Rattle.convert_trees_laws.proofs.Lists.{all_from, all_in, kept_map}
-use Rattle.convert_trees_laws.proofs.Telling.{good_link, link_directory}
+use Rattle.convert_core_laws.proofs.Imports.{◌≡◌, ◌<◌, ℕ, Bool, true, false, not, List, [], ◌∷◌, ◌++◌, map, filter, refl, sym, ap, subst, ◌∙◌, ⊎_elim, arith, IsPermutation, cases_Bool, not_from_false, append-nil, filter-append, IsPermutation-cons, IsPermutation-map, IsPermutation-sym, IsPermutation-trans, keys, Image, BackName, back_name, names_inode_item, own_name, IsMaking, Making, HasPieces, AreSortedKeys, numbered, IndexedLink as Link, Indexed, indexed_links, indexed, indexed_in, names_in, names_of, next_index, parent_of, saved_entry, Source, kind_in, ino_of, object_items, fs_tree_items, inodes_climb, Climb, Kind, Directory, File, Symlink, Character, Block, Fifo, Socket, Subvolume, at_head, from_filter, from_map, head_or_tail, in_filter, in_tail, root, same_key, ObjectKey, same_key-self, same_key-true, by_inode, root_known, is_link, all_from, all_in, kept_map, good_link, link_directory}
+use Rattle.std.proofs.Common.{flat_map, Contains, if◌then◌else◌}
 use Rattle.convert_core_laws.proofs.soundness.Assembling.{Tells, tells_flat}
 use Rattle.convert_core_laws.proofs.soundness.NameLists.{AreApart, flat_same, kept_all, kept_flat, mapped_flat, parts_all}
 use Rattle.convert_core_laws.proofs.soundness.Objects.{back, indexes, link_among, listed, names, s, tells_object}
@@ -63,7 +37,7 @@ module _ (image : Image) (m : Making) (made : IsMaking image m) where
   abbrev pub objects : List ObjectKey
   objects = by_inode all
 
-  pub climbs : Climb (number_of src) objects
+  pub climbs : Climb (ino_of src) objects
   climbs =
       let sorted : AreSortedKeys image all = record { accepted = of.accepted; are_keys = of.opened.are_keys; ascend = of.opened.ascends } in
       let at = numbered image all sorted in
@@ -81,18 +55,18 @@ module _ (image : Image) (m : Making) (made : IsMaking image m) where
       ⊎_elim (λ (same : root ≡ key). subst (Contains all) same (root_known m.volume image of.accepted of.opened))
       (λ (later : Contains (filter (λ x. not (same_key x root)) all) key). (from_filter (λ x. not (same_key x root)) all key later).0) (head_or_tail root (filter (λ x. not (same_key x root)) all) key h)
 
-  pub tells_tree : Tells (tree_items src) (flat_map (indexes image m made) objects) (flat_map (names image m made) objects)
-  unfolding tree_items
+  pub tells_tree : Tells (fs_tree_items src) (flat_map (indexes image m made) objects) (flat_map (names image m made) objects)
+  unfolding fs_tree_items
   tells_tree = tells_flat (object_items src) (indexes image m made) (names image m made) objects (λ key h. tells_object image m made key (from_order key h))
 
   -- ---- links
 
   -- a name by its link
   abbrev pub to_back : Link → BackName
-  to_back e = record { inode = number_of src e.link.target; dir = parent_of src.keys e; index = e.index; name = e.link.name }
+  to_back e = record { inode = ino_of src e.link.target; dir = parent_of src.keys e; index = e.index; name = e.link.name }
 
   pub record IsIn (key : ObjectKey) (e : Link) : Type 0 where
-    pub entry : Contains (entries src.links) e
+    pub entry : Contains (indexed_links src.links) e
     pub dir_is : e.link.dir ≡ key
     pub directory : kind_in src key ≡ Directory
 
@@ -100,7 +74,7 @@ module _ (image : Image) (m : Making) (made : IsMaking image m) where
   is_in key e h =
       let l = is_link src.links key e h in
       record {
-        entry = (from_filter (λ (f : Link). same_key f.link.dir key) (entries src.links) e h).0;
+        entry = (from_filter (λ (f : Link). same_key f.link.dir key) (indexed_links src.links) e h).0;
         dir_is = l.dir_is;
         directory = subst (λ (k : ObjectKey). kind_in src k ≡ Directory) l.dir_is (link_directory m.volume image m.options m.plan m.pieces of e.link l.among);
       }
@@ -110,28 +84,28 @@ module _ (image : Image) (m : Making) (made : IsMaking image m) where
   none_in key kind is no_directory = sym (ap (map to_back) (no_elements (names_in src.links key) (λ e h. no_directory (sym is ∙ (is_in key e h).directory))))
 
   -- the saved image's entry is that of a tree
-  last_of : (key : ObjectKey) (b : Bool) → filter (λ (e : Indexed). names_inode (index_by (number_of src key) e)) (if b then (next_index src.links key, saved_entry) ∷ [] else []) ≡ []
+  last_of : (key : ObjectKey) (b : Bool) → filter (λ (e : Indexed). names_inode_item (index_by (ino_of src key) e)) (if b then (next_index src.links key, saved_entry) ∷ [] else []) ≡ []
   last_of key true = refl
   last_of key false = refl
 
-  in_directory : (key : ObjectKey) → map back_name (filter names_inode (map (index_by (number_of src key)) (indexed_in (kind_in src) src.keys src.links key))) ≡ map to_back (names_in src.links key)
+  in_directory : (key : ObjectKey) → map back_name (filter names_inode_item (map (index_by (ino_of src key)) (indexed_in (kind_in src) src.keys src.links key))) ≡ map to_back (names_in src.links key)
   in_directory key =
-      let n : ℕ = number_of src key in
+      let n : ℕ = ino_of src key in
       let links : List Link = names_in src.links key in
       let first : List Indexed = map (indexed (kind_in src) src.keys) links in
       let last : List Indexed = if same_key key root then (next_index src.links key, saved_entry) ∷ [] else [] in
-      let test : Indexed → Bool = λ e. names_inode (index_by n e) in
+      let test : Indexed → Bool = λ e. names_inode_item (index_by n e) in
       let kept : filter test (first ++ last) ≡ first =
       filter-append test first last
-      ∙ (ap (λ (l : List Indexed). l ++ filter test last) (kept_all test first (λ x h. let f = from_map (indexed (kind_in src) src.keys) links x h in subst (λ (y : Indexed). names_inode (index_by n y) ≡ true) f.2 refl))
+      ∙ (ap (λ (l : List Indexed). l ++ filter test last) (kept_all test first (λ x h. let f = from_map (indexed (kind_in src) src.keys) links x h in subst (λ (y : Indexed). names_inode_item (index_by n y) ≡ true) f.2 refl))
       ∙ (ap (λ (l : List Indexed). first ++ l) (last_of key (same_key key root)) ∙ append-nil first)) in
-      ap (map back_name) (kept_map names_inode (index_by n) (first ++ last) ∙ ap (map (index_by n)) kept)
+      ap (map back_name) (kept_map names_inode_item (index_by n) (first ++ last) ∙ ap (map (index_by n)) kept)
       ∙ (mapped_twice (index_by n) back_name first
       ∙ (mapped_twice (indexed (kind_in src) src.keys) (λ (e : Indexed). back_name (index_by n e)) links
       ∙ mapped_same (λ (e : Link). back_name (index_by n (indexed (kind_in src) src.keys e))) to_back links
-      (all_from (λ (e : Link). back_name (index_by n (indexed (kind_in src) src.keys e)) ≡ to_back e) links (λ e h. ap (λ (k : ObjectKey). let b : BackName = record { inode = number_of src e.link.target; dir = number_of src k; index = e.index; name = e.link.name } in b) (sym (is_in key e h).dir_is)))))
+      (all_from (λ (e : Link). back_name (index_by n (indexed (kind_in src) src.keys e)) ≡ to_back e) links (λ e h. ap (λ (k : ObjectKey). let b : BackName = record { inode = ino_of src e.link.target; dir = ino_of src k; index = e.index; name = e.link.name } in b) (sym (is_in key e h).dir_is)))))
 
-  by_kind : (key : ObjectKey) (kind : Kind) → kind_in src key ≡ kind → map back_name (filter names_inode (map (index_by (number_of src key)) (listed image m made key kind))) ≡ map to_back (names_in src.links key)
+  by_kind : (key : ObjectKey) (kind : Kind) → kind_in src key ≡ kind → map back_name (filter names_inode_item (map (index_by (ino_of src key)) (listed image m made key kind))) ≡ map to_back (names_in src.links key)
   by_kind key Directory is = in_directory key
   by_kind key File is = none_in key File is (λ e. cc e)
   by_kind key Symlink is = none_in key Symlink is (λ e. cc e)
@@ -142,19 +116,19 @@ module _ (image : Image) (m : Making) (made : IsMaking image m) where
   by_kind key Subvolume is = none_in key Subvolume is (λ e. cc e)
 
   abbrev links_all : List Link
-  links_all = entries src.links
+  links_all = indexed_links src.links
 
   -- the names of all directories are those of all links
-  of_directories : IsPermutation (map back_name (filter names_inode (flat_map (indexes image m made) objects))) (map to_back links_all)
+  of_directories : IsPermutation (map back_name (filter names_inode_item (flat_map (indexes image m made) objects))) (map to_back links_all)
   of_directories =
-      let each : map back_name (filter names_inode (flat_map (indexes image m made) objects)) ≡ map to_back (flat_map (names_in src.links) objects) =
-      ap (map back_name) (kept_flat (indexes image m made) names_inode objects)
-      ∙ (mapped_flat (λ (key : ObjectKey). filter names_inode (indexes image m made key)) back_name objects
-      ∙ (flat_same (λ (key : ObjectKey). map back_name (filter names_inode (indexes image m made key))) (λ (key : ObjectKey). map to_back (names_in src.links key)) objects (λ key h. by_kind key (kind_in src key) refl)
+      let each : map back_name (filter names_inode_item (flat_map (indexes image m made) objects)) ≡ map to_back (flat_map (names_in src.links) objects) =
+      ap (map back_name) (kept_flat (indexes image m made) names_inode_item objects)
+      ∙ (mapped_flat (λ (key : ObjectKey). filter names_inode_item (indexes image m made key)) back_name objects
+      ∙ (flat_same (λ (key : ObjectKey). map back_name (filter names_inode_item (indexes image m made key))) (λ (key : ObjectKey). map to_back (names_in src.links key)) objects (λ key h. by_kind key (kind_in src key) refl)
       ∙ sym (mapped_flat (names_in src.links) to_back objects))) in
       subst (λ (l : List BackName). IsPermutation l (map to_back links_all)) (sym each)
       (IsPermutation-map to_back (flat_map (names_in src.links) objects) links_all
-      (parts_all (λ (k : ObjectKey) (e : Link). same_key e.link.dir k) links_all objects (apart_keys (number_of src) (λ e. e.link.dir) objects climbs)
+      (parts_all (λ (k : ObjectKey) (e : Link). same_key e.link.dir k) links_all objects (apart_keys (ino_of src) (λ e. e.link.dir) objects climbs)
       (λ e h. (e.link.dir, in_order e.link.dir (good_link m.volume image m.options m.plan m.pieces of e.link (link_among src.links e h)).dir_known, same_key-self e.link.dir))))
 
   -- and so are those that the objects tell
@@ -163,7 +137,7 @@ module _ (image : Image) (m : Making) (made : IsMaking image m) where
       mapped_same (back image m made key) to_back (names_of src.links key)
       (all_from (λ (e : Link). back image m made key e ≡ to_back e) (names_of src.links key) (λ e h.
       let kept = from_filter (λ (f : Link). same_key f.link.target key) links_all e h in
-      ap (λ (k : ObjectKey). let b : BackName = record { inode = number_of src k; dir = parent_of src.keys e; index = e.index; name = e.link.name } in b) (sym (same_key-true e.link.target key kept.1))))
+      ap (λ (k : ObjectKey). let b : BackName = record { inode = ino_of src k; dir = parent_of src.keys e; index = e.index; name = e.link.name } in b) (sym (same_key-true e.link.target key kept.1))))
 
   root_none : names_of src.links root ≡ []
   root_none = no_elements (names_of src.links root) (λ e h.
@@ -191,7 +165,7 @@ module _ (image : Image) (m : Making) (made : IsMaking image m) where
   of_objects : IsPermutation (map to_back (flat_map (names_of src.links) objects)) (map to_back links_all)
   of_objects =
       IsPermutation-map to_back (flat_map (names_of src.links) objects) links_all
-      (parts_all (λ (k : ObjectKey) (e : Link). same_key e.link.target k) links_all objects (apart_keys (number_of src) (λ e. e.link.target) objects climbs)
+      (parts_all (λ (k : ObjectKey) (e : Link). same_key e.link.target k) links_all objects (apart_keys (ino_of src) (λ e. e.link.target) objects climbs)
       (λ e h. (e.link.target, in_order e.link.target (good_link m.volume image m.options m.plan m.pieces of e.link (link_among src.links e h)).target_known, same_key-self e.link.target)))
 
   -- the names that are told, in the order of the links
@@ -200,9 +174,9 @@ module _ (image : Image) (m : Making) (made : IsMaking image m) where
       subst (λ (l : List BackName). IsPermutation l (own_name ∷ map to_back links_all)) (sym names_are)
       (IsPermutation-cons own_name (map to_back (flat_map (names_of src.links) objects)) (map to_back links_all) of_objects)
 
-  pub same_names : IsPermutation (own_name ∷ map back_name (filter names_inode (flat_map (indexes image m made) objects))) (flat_map (names image m made) objects)
+  pub same_names : IsPermutation (own_name ∷ map back_name (filter names_inode_item (flat_map (indexes image m made) objects))) (flat_map (names image m made) objects)
   same_names =
-      let told : List BackName = map back_name (filter names_inode (flat_map (indexes image m made) objects)) in
+      let told : List BackName = map back_name (filter names_inode_item (flat_map (indexes image m made) objects)) in
       IsPermutation-trans (own_name ∷ told) (own_name ∷ map to_back links_all) (flat_map (names image m made) objects)
       (IsPermutation-cons own_name told (map to_back links_all) of_directories)
       (IsPermutation-sym (flat_map (names image m made) objects) (own_name ∷ map to_back links_all) names_by_links)

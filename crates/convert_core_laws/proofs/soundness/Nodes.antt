@@ -1,64 +1,31 @@
 -- The nodes of a converted volume lie at their slots.
-use Rattle.std.proofs.Common.{◌≡◌, ◌≢◌, ℕ, suc, ◌+◌, ◌-◌, ◌^◌, List, [], ◌∷◌, length, take, drop, refl, sym, subst, arith}
-use Rattle.std.specs.Prelude.{All, Contains}
-use Rattle.std.specs.List.Sorted.{IsPermutation}
-use Rattle.std.proofs.lemmas.List.Elements.{All-append, All-contains, All-contains_itself, All-cons, All-drop, All-map, All-nil, All-take}
-use Rattle.std.proofs.lemmas.List.Sorted.{All-permutation, IsPermutation-sym}
-use Rattle.reiser_volume.specs.outside.History.{Image}
-use Rattle.reiser_volume.specs.vol_block.declared.ids.Ids.{Ids}
-use Rattle.btr_reader.specs.btr_node.Leaf.{Item}
-use Rattle.btr_reader.specs.Opening.{chunk_map}
-use Rattle.btr_check_rules.specs.Recount.{Recount, TreeOn, all_trees}
-use Rattle.btr_reader.specs.btr_super.declared.superblock.Super.{Super}
-use Rattle.convert_core.specs.btr_tree.Building.{pointer_to}
-use Rattle.convert_core.specs.btr_tree.Laws.{GivesItself, IsSameBy}
-use Rattle.convert_core.specs.btr_tree.Packing.{leaves, tree_levels}
-use Rattle.convert_core.specs.btr_tree.Roots.{level_pointers, lengths_of, pointers_to}
-use Rattle.convert_core.specs.btr_tree.declared.climb.Root.{Root}
-use Rattle.convert_core.proofs.btr_tree.Maps.{agree}
-use Rattle.btr_reader.specs.btr_reader_walk.Events.{Event, nodes_in, tree_events}
-use Rattle.btr_reader.specs.btr_reader_walk.Map.{identity}
-use Rattle.btr_reader.specs.btr_reader_walk.declared.map.MapRange.{MapRange}
-use Rattle.btr_reader.specs.btr_reader_walk.declared.tree.Form.{Form}
-use Rattle.btr_reader.specs.btr_reader_walk.declared.tree.Pointer.{Pointer}
-use Rattle.convert_core.specs.convert_steps.Making.{Making, chunk_slots, new_ids, slots}
-use Rattle.convert_core.specs.convert_steps.Standing.{HasTrees, device_from, extents_from, file_tree_items, form, image_from, image_tree_items, relocation_from, root_from, root_tree_items, sum_tree_items, sums_from}
-use Rattle.convert_core.specs.convert_steps.declared.trees.VolumeTrees.{VolumeTrees}
-use Rattle.convert_core_laws.specs.reading.Opened.{IsNewVolume, super_for}
+use Rattle.convert_core_laws.proofs.Imports.{◌≡◌, ◌≢◌, ℕ, suc, ◌+◌, ◌-◌, ◌^◌, List, [], ◌∷◌, length, take, drop, refl, sym, subst, arith, All, Contains, IsPermutation, All-append, All-contains, All-contains_itself, All-cons, All-drop, All-map, All-nil, All-take, All-permutation, IsPermutation-sym, CHUNK_TREE, CONV_IMAGE_SUBVOL, CSUM_TREE, DATA_RELOC_TREE, DEV_TREE, EXTENT_TREE, FS_TREE, ROOT_TREE, Image, Ids, Item, chunk_map, Recount, TreeOn, all_trees, Super, pointer_to, GivesItself, IsSameBy, packed_leaves, tree_levels, level_pointers, lengths_of, pointers_to, Root, agree, TreeEvent, nodes_in, walk_events, identity, MapRange, Form, NodePointer, Making, chunk_slots, new_ids, slots, HasTrees, device_from, extents_from, file_tree_items, form, image_from, image_tree_items, relocation_from, root_from, root_tree_items, sum_tree_items, sums_from, VolumeTrees, IsNewVolume, super_for, relocation_items, all_from_contains, chunk_items, device_items, extent_items, TreeNode, TreeStands, pointer_to_root, Options, recount_for, tree_for}
 use Rattle.convert_core_laws.proofs.reading.Opening.{maps_chunks}
-use Rattle.convert_core.specs.file_items.Small.{relocation_items}
-use Rattle.reiser_volume.proofs.reiser_bitmap.Ranges.{all_from_contains}
-use Rattle.convert_core.specs.space_items.Chunks.{chunk_items, device_items}
-use Rattle.convert_core.specs.space_items.Extents.{extent_items}
-use Rattle.convert_core.specs.space_items.declared.node.TreeNode.{TreeNode}
-use Rattle.convert_core.specs.btr_tree_writer.Trees.{TreeStands, root_pointer}
-use Rattle.convert_core.specs.convert_options.declared.options.Options.{Options}
-use Rattle.convert_core_laws.specs.soundness.Recounted.{recount_for, tree_for}
 use Rattle.convert_core_laws.proofs.soundness.Recounting.{form_is}
 use Rattle.convert_core_laws.proofs.soundness.Trees.{map_is, six_all}
 
 -- what holds of the slots holds of the addresses of nodes at them
 pub level_all : (Q : ℕ → Type 0) (generation level skip : ℕ) (list sizes : List ℕ) → All Q list → All (λ p. Q p.address) (level_pointers generation level skip list sizes)
-level_all Q generation level skip list [] all = All-nil (λ (p : Pointer). Q p.address)
+level_all Q generation level skip list [] all = All-nil (λ (p : NodePointer). Q p.address)
 level_all Q generation level skip list (n ∷ sizes) all =
-    All-append (λ (p : Pointer). Q p.address) (pointers_to generation level skip n list) (level_pointers generation (suc level) (skip + n) list sizes)
-    (All-map (λ (p : Pointer). Q p.address) (pointer_to generation level) (take n (drop skip list)) (All-take Q n (drop skip list) (All-drop Q skip list all)))
+    All-append (λ (p : NodePointer). Q p.address) (pointers_to generation level skip n list) (level_pointers generation (suc level) (skip + n) list sizes)
+    (All-map (λ (p : NodePointer). Q p.address) (pointer_to generation level) (take n (drop skip list)) (All-take Q n (drop skip list) (All-drop Q skip list all)))
     (level_all Q generation (suc level) (skip + n) list sizes all)
 
 -- the nodes that packing items gives, at these slots
-abbrev pub packed_at : ℕ → List ℕ → List Item → List Pointer
-packed_at nodesize list items = level_pointers 1 0 0 list (tree_levels nodesize (length (leaves nodesize (lengths_of items))))
+abbrev pub packed_at : ℕ → List ℕ → List Item → List NodePointer
+packed_at nodesize list items = level_pointers 1 0 0 list (tree_levels nodesize (length (packed_leaves nodesize (lengths_of items))))
 
 -- a walk by a map that gives the slots themselves meets these
 pub met : (image : Image) (form : Form) (owner : ℕ) (list : List ℕ) (items : List Item) (root : Root) (ranges : List MapRange) → TreeStands image form owner list items root → All (GivesItself ranges form.nodesize) list
-    → IsPermutation (nodes_in (tree_events image ranges form (root_pointer root) owner)) (packed_at form.nodesize list items)
+    → IsPermutation (nodes_in (walk_events image ranges form (pointer_to_root root) owner)) (packed_at form.nodesize list items)
 met image form owner list items root ranges stands gives =
-    let own : List Pointer = nodes_in (tree_events image identity form (root_pointer root) owner) in
+    let own : List NodePointer = nodes_in (walk_events image identity form (pointer_to_root root) owner) in
     let all : All (λ p. GivesItself ranges form.nodesize p.address) own =
-    All-permutation (λ (p : Pointer). GivesItself ranges form.nodesize p.address) (packed_at form.nodesize list items) own (IsPermutation-sym own (packed_at form.nodesize list items) stands.nodes_are)
-    (level_all (GivesItself ranges form.nodesize) 1 0 0 list (tree_levels form.nodesize (length (leaves form.nodesize (lengths_of items)))) gives) in
-    let same : IsSameBy image ranges identity form (root_pointer root) owner = agree image ranges form (root_pointer root) owner all in
-    subst (λ (es : List Event). IsPermutation (nodes_in es) (packed_at form.nodesize list items)) (sym same.events) stands.nodes_are
+    All-permutation (λ (p : NodePointer). GivesItself ranges form.nodesize p.address) (packed_at form.nodesize list items) own (IsPermutation-sym own (packed_at form.nodesize list items) stands.nodes_are)
+    (level_all (GivesItself ranges form.nodesize) 1 0 0 list (tree_levels form.nodesize (length (packed_leaves form.nodesize (lengths_of items)))) gives) in
+    let same : IsSameBy image ranges identity form (pointer_to_root root) owner = agree image ranges form (pointer_to_root root) owner all in
+    subst (λ (es : List TreeEvent). IsPermutation (nodes_in es) (packed_at form.nodesize list items)) (sym same.events) stands.nodes_are
 
 module _ (o : Options) (ids : Ids) (now : ℕ) (image other : Image) (m : Making) (r : VolumeTrees) (nodes : List TreeNode) (v : IsNewVolume o ids now image other m r nodes) where
   abbrev stand : HasTrees image other other m r nodes
@@ -79,7 +46,7 @@ module _ (o : Options) (ids : Ids) (now : ℕ) (image other : Image) (m : Making
 
   at_list : (list : List ℕ) (number : ℕ) (items : List Item) (root : Root) → TreeStands other (form m) number list items root → All (GivesItself own m.options.nodesize) list → AreAt list (tree_for other (super_for m r nodes) number root items)
   at_list list number items root stands gives =
-      subst (λ (f : Form). IsPermutation (nodes_in (tree_events other own f (root_pointer root) number)) (packed_at m.options.nodesize list items)) (sym (form_is m r nodes))
+      subst (λ (f : Form). IsPermutation (nodes_in (walk_events other own f (pointer_to_root root) number)) (packed_at m.options.nodesize list items)) (sym (form_is m r nodes))
       (met other (form m) number list items root own stands gives)
 
   chunk_give : All (GivesItself own m.options.nodesize) (chunk_slots m)
@@ -96,28 +63,28 @@ module _ (o : Options) (ids : Ids) (now : ℕ) (image other : Image) (m : Making
   later_give n = All-drop (GivesItself own m.options.nodesize) n (slots m) slots_give
 
   pub chunk_at : AreAt (chunk_slots m) k.chunk_tree
-  chunk_at = at_list (chunk_slots m) 3 (chunk_items (new_ids m) m.volume.sup.blocks m.chunks) r.chunk stand.chunk chunk_give
+  chunk_at = at_list (chunk_slots m) CHUNK_TREE (chunk_items (new_ids m) m.volume.sup.blocks m.chunks) r.chunk stand.chunk chunk_give
 
   pub root_at : AreAt (take r.root.nodes (drop (root_from r) (slots m))) k.root_tree
-  root_at = at_list (take r.root.nodes (drop (root_from r) (slots m))) 1 (root_tree_items m r) r.root stand.root (All-take (GivesItself own m.options.nodesize) r.root.nodes (drop (root_from r) (slots m)) (later_give (root_from r)))
+  root_at = at_list (take r.root.nodes (drop (root_from r) (slots m))) ROOT_TREE (root_tree_items m r) r.root stand.root (All-take (GivesItself own m.options.nodesize) r.root.nodes (drop (root_from r) (slots m)) (later_give (root_from r)))
 
-  pub extents_at : AreAt (drop (extents_from r) (slots m)) (tree_for other (super_for m r nodes) 2 r.extents (extent_items m.chunks m.pieces nodes m.options.nodesize))
-  extents_at = at_list (drop (extents_from r) (slots m)) 2 (extent_items m.chunks m.pieces nodes m.options.nodesize) r.extents stand.extents (later_give (extents_from r))
+  pub extents_at : AreAt (drop (extents_from r) (slots m)) (tree_for other (super_for m r nodes) EXTENT_TREE r.extents (extent_items m.chunks m.pieces nodes m.options.nodesize))
+  extents_at = at_list (drop (extents_from r) (slots m)) EXTENT_TREE (extent_items m.chunks m.pieces nodes m.options.nodesize) r.extents stand.extents (later_give (extents_from r))
 
-  pub device_at : AreAt (drop (device_from r) (slots m)) (tree_for other (super_for m r nodes) 4 r.device (device_items (new_ids m) m.chunks))
-  device_at = at_list (drop (device_from r) (slots m)) 4 (device_items (new_ids m) m.chunks) r.device stand.device (later_give (device_from r))
+  pub device_at : AreAt (drop (device_from r) (slots m)) (tree_for other (super_for m r nodes) DEV_TREE r.device (device_items (new_ids m) m.chunks))
+  device_at = at_list (drop (device_from r) (slots m)) DEV_TREE (device_items (new_ids m) m.chunks) r.device stand.device (later_give (device_from r))
 
-  pub files_at : AreAt (slots m) (tree_for other (super_for m r nodes) 5 r.files (file_tree_items image m))
-  files_at = at_list (slots m) 5 (file_tree_items image m) r.files stand.files slots_give
+  pub files_at : AreAt (slots m) (tree_for other (super_for m r nodes) FS_TREE r.files (file_tree_items image m))
+  files_at = at_list (slots m) FS_TREE (file_tree_items image m) r.files stand.files slots_give
 
-  pub sums_at : AreAt (drop (sums_from r) (slots m)) (tree_for other (super_for m r nodes) 7 r.sums (sum_tree_items other m))
-  sums_at = at_list (drop (sums_from r) (slots m)) 7 (sum_tree_items other m) r.sums stand.sums (later_give (sums_from r))
+  pub sums_at : AreAt (drop (sums_from r) (slots m)) (tree_for other (super_for m r nodes) CSUM_TREE r.sums (sum_tree_items other m))
+  sums_at = at_list (drop (sums_from r) (slots m)) CSUM_TREE (sum_tree_items other m) r.sums stand.sums (later_give (sums_from r))
 
-  pub saved_at : AreAt (drop (image_from r) (slots m)) (tree_for other (super_for m r nodes) 256 r.image (image_tree_items m))
-  saved_at = at_list (drop (image_from r) (slots m)) 256 (image_tree_items m) r.image stand.image_ (later_give (image_from r))
+  pub saved_at : AreAt (drop (image_from r) (slots m)) (tree_for other (super_for m r nodes) CONV_IMAGE_SUBVOL r.image (image_tree_items m))
+  saved_at = at_list (drop (image_from r) (slots m)) CONV_IMAGE_SUBVOL (image_tree_items m) r.image stand.image_ (later_give (image_from r))
 
-  pub relocation_at : AreAt (drop (relocation_from r) (slots m)) (tree_for other (super_for m r nodes) (2 ^ 64 - 9) r.relocation (relocation_items m.now))
-  relocation_at = at_list (drop (relocation_from r) (slots m)) (2 ^ 64 - 9) (relocation_items m.now) r.relocation stand.relocation (later_give (relocation_from r))
+  pub relocation_at : AreAt (drop (relocation_from r) (slots m)) (tree_for other (super_for m r nodes) DATA_RELOC_TREE r.relocation (relocation_items m.now))
+  relocation_at = at_list (drop (relocation_from r) (slots m)) DATA_RELOC_TREE (relocation_items m.now) r.relocation stand.relocation (later_give (relocation_from r))
 
   -- ---- where a node lies
 
@@ -127,16 +94,16 @@ module _ (o : Options) (ids : Ids) (now : ℕ) (image other : Image) (m : Making
     of_others : number ≢ 3 → Contains (slots m) a → LiesAt number a
 
   abbrev AllLie : TreeOn → Type 0
-  AllLie t = (p : Pointer) → Contains t.nodes p → LiesAt t.number p.address
+  AllLie t = (p : NodePointer) → Contains t.nodes p → LiesAt t.number p.address
 
   lie_at : (t : TreeOn) (list : List ℕ) → AreAt list t → ((a : ℕ) → Contains list a → LiesAt t.number a) → AllLie t
   lie_at t list are each p h =
       let Q : ℕ → Type 0 = LiesAt t.number in
       let there : All (λ q. Q q.address) (packed_at m.options.nodesize list t.items) =
-      level_all Q 1 0 0 list (tree_levels m.options.nodesize (length (leaves m.options.nodesize (lengths_of t.items)))) (all_from_contains Q list each) in
-      All-contains (λ (q : Pointer). Q q.address) t.nodes p (All-permutation (λ (q : Pointer). Q q.address) (packed_at m.options.nodesize list t.items) t.nodes (IsPermutation-sym t.nodes (packed_at m.options.nodesize list t.items) are) there) h
+      level_all Q 1 0 0 list (tree_levels m.options.nodesize (length (packed_leaves m.options.nodesize (lengths_of t.items)))) (all_from_contains Q list each) in
+      All-contains (λ (q : NodePointer). Q q.address) t.nodes p (All-permutation (λ (q : NodePointer). Q q.address) (packed_at m.options.nodesize list t.items) t.nodes (IsPermutation-sym t.nodes (packed_at m.options.nodesize list t.items) are) there) h
 
-  other_at : (t : TreeOn) (n : ℕ) → t.number ≢ 3 → AreAt (drop n (slots m)) t → AllLie t
+  other_at : (t : TreeOn) (n : ℕ) → t.number ≢ CHUNK_TREE → AreAt (drop n (slots m)) t → AllLie t
   other_at t n apart are = lie_at t (drop n (slots m)) are (λ a h. of_others apart (in_drop n a h))
     where
       in_drop : (n a : ℕ) → Contains (drop n (slots m)) a → Contains (slots m) a
@@ -144,12 +111,12 @@ module _ (o : Options) (ids : Ids) (now : ℕ) (image other : Image) (m : Making
 
   all_lie : All AllLie (all_trees k)
   all_lie =
-      let extents : TreeOn = tree_for other s 2 r.extents (extent_items m.chunks m.pieces nodes m.options.nodesize) in
-      let device : TreeOn = tree_for other s 4 r.device (device_items (new_ids m) m.chunks) in
-      let files : TreeOn = tree_for other s 5 r.files (file_tree_items image m) in
-      let sums : TreeOn = tree_for other s 7 r.sums (sum_tree_items other m) in
-      let saved : TreeOn = tree_for other s 256 r.image (image_tree_items m) in
-      let relocation : TreeOn = tree_for other s (2 ^ 64 - 9) r.relocation (relocation_items m.now) in
+      let extents : TreeOn = tree_for other s EXTENT_TREE r.extents (extent_items m.chunks m.pieces nodes m.options.nodesize) in
+      let device : TreeOn = tree_for other s DEV_TREE r.device (device_items (new_ids m) m.chunks) in
+      let files : TreeOn = tree_for other s FS_TREE r.files (file_tree_items image m) in
+      let sums : TreeOn = tree_for other s CSUM_TREE r.sums (sum_tree_items other m) in
+      let saved : TreeOn = tree_for other s CONV_IMAGE_SUBVOL r.image (image_tree_items m) in
+      let relocation : TreeOn = tree_for other s DATA_RELOC_TREE r.relocation (relocation_items m.now) in
       All-cons AllLie k.chunk_tree (k.root_tree ∷ k.others) (lie_at k.chunk_tree (chunk_slots m) chunk_at (λ a h. of_chunks refl h))
       (All-cons AllLie k.root_tree k.others (lie_at k.root_tree (take r.root.nodes (drop (root_from r) (slots m))) root_at (λ a h. of_others (λ e. omega (arith, e)) (in_take a h)))
       (six_all AllLie extents device files sums saved relocation (other_at extents (extents_from r) (λ e. omega (arith, e)) extents_at) (other_at device (device_from r) (λ e. omega (arith, e)) device_at)
@@ -161,5 +128,5 @@ module _ (o : Options) (ids : Ids) (now : ℕ) (image other : Image) (m : Making
           All-contains (Contains (slots m)) (take r.root.nodes (drop (root_from r) (slots m))) a
           (All-take (Contains (slots m)) r.root.nodes (drop (root_from r) (slots m)) (All-drop (Contains (slots m)) (root_from r) (slots m) (All-contains_itself (slots m)))) h
 
-  pub node_lies : (t : TreeOn) (p : Pointer) → Contains (all_trees k) t → Contains t.nodes p → LiesAt t.number p.address
+  pub node_lies : (t : TreeOn) (p : NodePointer) → Contains (all_trees k) t → Contains t.nodes p → LiesAt t.number p.address
   node_lies t p h k_p = All-contains AllLie (all_trees k) t all_lie h p k_p

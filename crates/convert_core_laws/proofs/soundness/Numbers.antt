@@ -1,26 +1,23 @@
 -- Numbers of inodes fit, and keys of different kinds differ.
-use Rattle.std.proofs.Common.{◌≡◌, ◌≢◌, ◌≤◌, ◌<◌, ◌+◌, ◌^◌, Bool, true, false, not, ◌&&◌, List, length, refl, arith}
-use Rattle.std.specs.Prelude.{if◌then◌else◌}
+use Rattle.convert_core_laws.proofs.Imports.{◌≡◌, ◌≢◌, ◌≤◌, ◌<◌, ◌+◌, ◌^◌, Bool, true, false, not, ◌&&◌, List, length, refl, arith, if◌then◌else◌, is_lt, nat_cmp, ordering_then, Ordering, Less, Equal, Greater, count_by-le-length, key_cmp, Key, ino_of_key, root, same_key, ObjectKey}
 use Rattle.std.specs.List.{count_by}
-use Rattle.std.specs.Ordering.{is_lt, nat_cmp, ordering_then}
-use Rattle.std.specs.declared.cmp.Ordering.{Ordering}
-use Rattle.std.specs.declared.cmp.Ordering.TheVariants.{Less, Equal, Greater}
-use Rattle.std.proofs.lemmas.List.Sums.{count_by-le-length}
-use Rattle.btr_reader.specs.btr_keys.Key.{key_cmp}
-use Rattle.btr_reader.specs.btr_keys.declared.key.Key.{Key}
 use Rattle.reiser_volume.specs.reiser_volume_names.Links.{object_cmp}
-use Rattle.reiser_volume.specs.reiser_volume_names.Names.{inode_of}
-use Rattle.reiser_volume.specs.reiser_volume_objects.Keys.{root, same_key}
-use Rattle.reiser_volume.specs.reiser_volume_objects.declared.key.ObjectKey.{ObjectKey}
 use Rattle.convert_core_laws.proofs.soundness.Row.{differ}
 
 -- numbers of inodes fit
-pub inode_low : (all : List ObjectKey) (key : ObjectKey) → length all ≤ 2 ^ 37 → inode_of all key < 2 ^ 64
+pub inode_low : (all : List ObjectKey) (key : ObjectKey) → length all ≤ 2 ^ 37 → ino_of_key all key < 2 ^ 64
 inode_low all key few = by (same_key key root)
   where
     by : (b : Bool) → (if b then 256 else 257 + count_by (λ k. is_lt (object_cmp k key) && not (same_key k root)) all) < 2 ^ 64
     by true = omega arith
     by false = let low = count_by-le-length (λ (k : ObjectKey). is_lt (object_cmp k key) && not (same_key k root)) all in omega (arith, low, few)
+
+pub inode_range : (all : List ObjectKey) (key : ObjectKey) → length all ≤ 2 ^ 37 → (256 ≤ ino_of_key all key) × (ino_of_key all key ≤ 2 ^ 38)
+inode_range all key few = by (same_key key root)
+  where
+    by : (b : Bool) → (256 ≤ (if b then 256 else 257 + count_by (λ k. is_lt (object_cmp k key) && not (same_key k root)) all)) × ((if b then 256 else 257 + count_by (λ k. is_lt (object_cmp k key) && not (same_key k root)) all) ≤ 2 ^ 38)
+    by true = (omega arith, omega arith)
+    by false = let low = count_by-le-length (λ (k : ObjectKey). is_lt (object_cmp k key) && not (same_key k root)) all in (omega arith, omega (arith, low, few))
 
 -- ---- keys of different kinds
 

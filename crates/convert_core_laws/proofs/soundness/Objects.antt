@@ -1,48 +1,9 @@
 -- What the items of one object of the file tree tell.
-use Rattle.std.proofs.Common.{◌≡◌, ◌≤◌, ℕ, ◌+◌, ◌^◌, Bool, true, false, not, List, [], ◌∷◌, ◌++◌, append_assoc, length, length-append, map, filter, flat_map, count_by, Contains, refl, sym, ap, subst, ◌∙◌, ⊎_elim, if◌then◌else◌, arith}
-use Rattle.std.specs.List.{AllByRecursion}
-use Rattle.std.specs.List.Sorted.{IsPermutation}
-use Rattle.std.proofs.lemmas.List.{append-nil, map-append}
-use Rattle.std.proofs.lemmas.List.Sorted.{Contains-permutation, IsPermutation-append, IsPermutation-filter_both, IsPermutation-map, IsPermutation-refl, IsPermutation-sym, IsPermutation-trans}
-use Rattle.std.proofs.lemmas.List.Sums.{count_by-le-length}
-use Rattle.reiser_volume.specs.castagnoli.Castagnoli.{extref_hash, name_hash}
-use Rattle.indexmap.specs.IndexMap.{keys}
-use Rattle.reiser_volume.specs.outside.History.{Image}
-use Rattle.btr_reader.specs.btr_keys.DirEntry.{dir_entry_bytes}
-use Rattle.btr_reader.specs.btr_keys.Extref.{extref_bytes, extref_head}
-use Rattle.btr_reader.specs.btr_keys.InodeRef.{InodeRefValue, inode_ref_bytes, inode_ref_head}
-use Rattle.btr_reader.specs.btr_keys.Key.{make_key}
-use Rattle.btr_reader.specs.btr_node.Leaf.{Item}
-use Rattle.btr_check_rules.specs.Names.{BackName, Entry, IndexEntry, own_name}
+use Rattle.convert_core_laws.proofs.Imports.{◌≡◌, ◌≤◌, ℕ, ◌+◌, ◌^◌, Bool, true, false, not, List, [], ◌∷◌, ◌++◌, append_assoc, length, length-append, map, filter, count_by, refl, sym, ap, subst, ◌∙◌, ⊎_elim, arith, AllByRecursion, IsPermutation, append-nil, map-append, Contains-permutation, IsPermutation-append, IsPermutation-filter_both, IsPermutation-map, IsPermutation-refl, IsPermutation-sym, IsPermutation-trans, count_by-le-length, DIR_INDEX, DIR_ITEM, INODE_EXTREF, INODE_REF, FIRST_FREE_OBJECTID, extref_hash, name_hash, keys, Image, dir_entry_bytes, extref_bytes, extref_head, InodeRefValue, inode_ref_bytes, inode_ref_head, make_key, Item, BackName, NamedEntry, IndexEntry, own_name, IsMaking, Making, HasPieces, made_from, extents_at, file_block, pieces_of, IndexedLink as Link, Indexed, indexed_links, entries_behind, entry_behind, extref, extrefs, indexed, indexed_in, inode_ref, inode_refs, names_in, names_of, next_index, parent_of, root_ref, saved_entry, Source, content_items, file_extent_items, inline_in, inode_in, kind_in, name_items, ino_of, object_items, size_in, name_items_other, name_items_root, all_append, all_mapped, all_true, length_bytes, Kind, Directory, File, Symlink, Character, Block, Fifo, Socket, Subvolume, extent_item, inline_extent, regular_extent, ascending, grouped, inode_item, from_filter, head_or_tail, in_filter, file_byte, target_bytes, items_of, root, same_key, IsNamed, ObjectKey, Naming, same_key-self, volume_items, accepted_is_small, links_short, is_link, all_from, Piece}
+use Rattle.std.proofs.Common.{flat_map, Contains, if◌then◌else◌}
 use Rattle.convert_core_laws.proofs.Holding.{StaysInTree, stays}
 use Rattle.convert_core_laws.proofs.Pieces.{all_of_inode}
 use Rattle.convert_core_laws.proofs.ByteReading.{inline_read, regular_read}
-use Rattle.convert_core.specs.convert_steps.Making.{IsMaking, Making}
-use Rattle.convert_core.specs.convert_steps.Source.{HasPieces, made_from}
-use Rattle.convert_core.specs.file_items.Extents.{extents_at, file_block, pieces_of}
-use Rattle.convert_core.specs.file_items.Names.{Entry as Link, Indexed, entries, entries_behind, entry_behind, extref, extrefs, indexed, indexed_in, inode_ref, inode_refs, names_in, names_of, next_index, parent_of, root_ref, saved_entry}
-use Rattle.convert_core.specs.file_items.Tree.{Source, content_items, extent_items, inline_in, inode_in, kind_in, name_items, number_of, object_items, size_in}
-use Rattle.convert_core.proofs.file_items.Named.{name_items_other, name_items_root}
-use Rattle.convert_trees_laws.proofs.Rising.{all_append, all_mapped, all_true}
-use Rattle.reiser_volume.proofs.fs_rows.Functions.{length_bytes}
-use Rattle.reiser_volume.specs.fs_rows.declared.row.Kind.{Kind}
-use Rattle.reiser_volume.specs.fs_rows.declared.row.Kind.TheVariants.{Directory, File, Symlink, Character, Block, Fifo, Socket, Subvolume}
-use Rattle.convert_core.specs.btr_item_list.Extents.{extent_item, inline_extent, regular_extent}
-use Rattle.convert_core.specs.btr_item_list.Groups.{ascending, grouped}
-use Rattle.convert_core.specs.btr_item_list.Inodes.{inode_item}
-use Rattle.reiser_volume.proofs.fs_paths.Lists.{from_filter, head_or_tail, in_filter}
-use Rattle.reiser_volume.specs.reiser_volume_files.Bytes.{file_byte, target_bytes}
-use Rattle.reiser_volume.specs.reiser_volume_objects.Keys.{items_of, root, same_key}
-use Rattle.reiser_volume.specs.reiser_volume_objects.Names.{IsNamed}
-use Rattle.reiser_volume.specs.reiser_volume_objects.declared.key.ObjectKey.{ObjectKey}
-use Rattle.reiser_volume.specs.reiser_volume_objects.declared.naming.Naming.{Naming}
-use Rattle.reiser_volume.proofs.reiser_volume_objects.Tables.{same_key-self}
-use Rattle.reiser_volume.specs.Volume.{volume_items}
-use Rattle.reiser_volume.proofs.Bounds.{accepted_is_small}
-use Rattle.convert_trees_laws.proofs.Known.{links_short}
-use Rattle.convert_trees_laws.proofs.Linking.{is_link}
-use Rattle.convert_trees_laws.proofs.Lists.{all_from}
-use Rattle.convert_core.specs.unit_plan.declared.piece.Piece.{Piece}
 use Rattle.convert_core_laws.proofs.soundness.Uses.{piece_small}
 use Rattle.convert_core_laws.proofs.soundness.Numbers.{inode_low}
 use Rattle.convert_core_laws.proofs.soundness.Assembling.{Tells, entry_part, tells_of}
@@ -65,8 +26,18 @@ index_low before (n ∷ ls) e h =
     subst (λ (l : List Naming). e.index ≤ 2 + length l) (append_assoc before (n ∷ []) ls) (index_low (before ++ n ∷ []) ls e later))
     (head_or_tail (entry_behind before n) (entries_behind (before ++ n ∷ []) ls) e h)
 
-pub link_among : (links : List Naming) (e : Link) → Contains (entries links) e → Contains links e.link
-link_among links e h = (is_link links e.link.dir e (in_filter (λ (f : Link). same_key f.link.dir e.link.dir) (entries links) e h (same_key-self e.link.dir))).among
+-- and at least 2
+pub index_some : (before ls : List Naming) (e : Link) → Contains (entries_behind before ls) e → 2 ≤ e.index
+index_some before [] e h = absurd (omega (arith, h.1))
+index_some before (n ∷ ls) e h =
+    ⊎_elim
+    (λ (is : entry_behind before n ≡ e).
+    let own : 2 + count_by (λ (m : Naming). same_key m.dir n.dir) before ≡ e.index = ap (λ (f : Link). f.index) is in
+    omega (arith, own))
+    (λ (later : Contains (entries_behind (before ++ n ∷ []) ls) e). index_some (before ++ n ∷ []) ls e later) (head_or_tail (entry_behind before n) (entries_behind (before ++ n ∷ []) ls) e h)
+
+pub link_among : (links : List Naming) (e : Link) → Contains (indexed_links links) e → Contains links e.link
+link_among links e h = (is_link links e.link.dir e (in_filter (λ (f : Link). same_key f.link.dir e.link.dir) (indexed_links links) e h (same_key-self e.link.dir))).among
 
 -- ---- groups of what each element gives
 
@@ -103,10 +74,10 @@ module _ (image : Image) (m : Making) (made : IsMaking image m) where
   links_few : length s.links ≤ 2 ^ 37
   links_few = (accepted_is_small image of.accepted).links of.opened.visible s.links of.opened.are_links
 
-  short : (e : Link) → Contains (entries s.links) e → length e.link.name ≤ 255
+  short : (e : Link) → Contains (indexed_links s.links) e → length e.link.name ≤ 255
   short e h = links_short m.volume image of.accepted of.opened e.link (link_among s.links e h)
 
-  ref_fits : (e : Link) → Contains (entries s.links) e → inode_ref_head.fits (inode_ref e)
+  ref_fits : (e : Link) → Contains (indexed_links s.links) e → inode_ref_head.fits (inode_ref e)
   unfolding inode_ref_head
   ref_fits e h =
       let index : e.index ≤ 2 + length s.links = index_low [] s.links e h in
@@ -114,7 +85,7 @@ module _ (image : Image) (m : Making) (made : IsMaking image m) where
       let name = short e h in
       ((tt, omega (arith, index, count)), omega (arith, name))
 
-  far_fits : (e : Link) → Contains (entries s.links) e → extref_head.fits (extref s.keys e)
+  far_fits : (e : Link) → Contains (indexed_links s.links) e → extref_head.fits (extref s.keys e)
   unfolding extref_head
   far_fits e h =
       let index : e.index ≤ 2 + length s.links = index_low [] s.links e h in
@@ -136,17 +107,17 @@ module _ (image : Image) (m : Making) (made : IsMaking image m) where
 
   -- a name as the object tells it
   abbrev pub back : ObjectKey → Link → BackName
-  back key e = record { inode = number_of s key; dir = parent_of s.keys e; index = e.index; name = e.link.name }
+  back key e = record { inode = ino_of s key; dir = parent_of s.keys e; index = e.index; name = e.link.name }
 
   abbrev pub indexes : ObjectKey → List IndexEntry
-  indexes key = map (index_by (number_of s key)) (listed key (kind_in s key))
+  indexes key = map (index_by (ino_of s key)) (listed key (kind_in s key))
 
   abbrev pub names : ObjectKey → List BackName
   names key = if same_key key root then own_name ∷ [] else map (back key) (names_of s.links key)
 
   module _ (key : ObjectKey) (among : Contains (keys m.volume.named) key) where
     abbrev n : ℕ
-    n = number_of s key
+    n = ino_of s key
 
     -- ---- entries
 
@@ -155,12 +126,12 @@ module _ (image : Image) (m : Making) (made : IsMaking image m) where
         all_append (FitsEntry n) (map (indexed (kind_in s) s.keys) (names_in s.links key)) (if same_key key root then (next_index s.links key, saved_entry) ∷ [] else [])
         (all_mapped (FitsEntry n) (indexed (kind_in s) s.keys) (names_in s.links key)
         (all_from (λ (e : Link). FitsEntry n (indexed (kind_in s) s.keys e)) (names_in s.links key) (λ e h. record {
-          fits = entry_fits (number_of s e.link.target) (kind_in s e.link.target) e.link.name (inode_low all e.link.target few) (short e (from_filter (λ (f : Link). same_key f.link.dir key) (entries s.links) e h).0);
+          fits = entry_fits (ino_of s e.link.target) (kind_in s e.link.target) e.link.name (inode_low all e.link.target few) (short e (from_filter (λ (f : Link). same_key f.link.dir key) (indexed_links s.links) e h).0);
           empty = refl;
         })))
         (saved (same_key key root))
       where
-        saved : (b : Bool) → AllByRecursion (FitsEntry (number_of s key)) (if b then (next_index s.links key, saved_entry) ∷ [] else [])
+        saved : (b : Bool) → AllByRecursion (FitsEntry (ino_of s key)) (if b then (next_index s.links key, saved_entry) ∷ [] else [])
         saved true = (record { fits = saved_fits; empty = refl }, tt)
         saved false = tt
 
@@ -173,22 +144,22 @@ module _ (image : Image) (m : Making) (made : IsMaking image m) where
         told_append (extent_item n (at p) (regular_extent p.place p.count) ∷ []) (extents_at n at ps) [] [] [] [] [] [] [] []
         (told_extent n (at p) (regular_extent p.place p.count) (regular_read p.place p.count (omega (arith, end)) (omega (arith, end)))) (told_pieces at ps inside.1)
 
-    told_data : Told (extent_items s key) [] [] [] []
-    unfolding extent_items
+    told_data : Told (file_extent_items s key) [] [] [] []
+    unfolding file_extent_items
     told_data = by (inline_in s key) refl
       where
         by : (b : Bool) → inline_in s key ≡ b
-            → Told (if b then extent_item (number_of s key) 0 (inline_extent (target_bytes (items_of key s.items) (size_in s key))) ∷ [] else extents_at (number_of s key) file_block (pieces_of s.pieces (number_of s key))) [] [] [] []
+            → Told (if b then extent_item (ino_of s key) 0 (inline_extent (target_bytes (items_of key s.items) (size_in s key))) ∷ [] else extents_at (ino_of s key) file_block (pieces_of s.pieces (ino_of s key))) [] [] [] []
         by true is =
             let is_named : IsNamed (volume_items image) key = (of.opened.are_keys.exact key).0 among in
             let bytes : List ℕ = target_bytes (items_of key s.items) (size_in s key) in
             let st : StaysInTree image of.accepted key is_named = stays image of.accepted key is_named m.options.inline is in
             let low = st.short in
             let long : length bytes ≡ size_in s key = ap length st.bytes ∙ length_bytes (size_in s key) (file_byte image (items_of key s.items)) 0 in
-            told_extent (number_of s key) 0 (inline_extent bytes) (inline_read bytes (omega (arith, long, low)))
-        by false is = told_pieces file_block (pieces_of m.pieces (number_of s key)) (all_of_inode (Contains m.pieces) m.pieces (number_of s key) (λ q k t. k))
+            told_extent (ino_of s key) 0 (inline_extent bytes) (inline_read bytes (omega (arith, long, low)))
+        by false is = told_pieces file_block (pieces_of m.pieces (ino_of s key)) (all_of_inode (Contains m.pieces) m.pieces (ino_of s key) (λ q k t. k))
 
-    abbrev hashes : Kind → List Entry
+    abbrev hashes : Kind → List NamedEntry
     hashes kind = flat_map (λ g. map (entry_by n) g.1) (grouped (λ (e : Indexed). name_hash e.1.name) (listed key kind))
 
     told_content : (kind : Kind) → Told (content_items s key kind) (hashes kind) (map (index_by n) (listed key kind)) [] []
@@ -203,7 +174,7 @@ module _ (image : Image) (m : Making) (made : IsMaking image m) where
 
     same_entries : (kind : Kind) → IsPermutation (map entry_part (map (index_by n) (listed key kind))) (hashes kind)
     same_entries kind =
-        subst (λ (l : List Entry). IsPermutation l (hashes kind)) (sym (mapped_twice (index_by n) entry_part (listed key kind)))
+        subst (λ (l : List NamedEntry). IsPermutation l (hashes kind)) (sym (mapped_twice (index_by n) entry_part (listed key kind)))
         (groups_give (λ (e : Indexed). name_hash e.1.name) (entry_by n) (listed key kind))
 
     -- ---- names
@@ -221,7 +192,7 @@ module _ (image : Image) (m : Making) (made : IsMaking image m) where
     names_at true is = record {
       refs = own_name ∷ [];
       fars = [];
-      told = subst (λ (l : List Item). Told l [] [] (own_name ∷ []) []) (sym (name_items_root s key is)) (told_ref 256 256 own_ref own_fits);
+      told = subst (λ (l : List Item). Told l [] [] (own_name ∷ []) []) (sym (name_items_root s key is)) (told_ref FIRST_FREE_OBJECTID FIRST_FREE_OBJECTID own_ref own_fits);
       same = IsPermutation-refl (own_name ∷ []);
     }
     names_at false is =
@@ -231,8 +202,8 @@ module _ (image : Image) (m : Making) (made : IsMaking image m) where
         let far : List Link = ascending (parent_of s.keys) late in
         let refs : List BackName = flat_map (λ g. map (back key) g.1) (grouped (parent_of s.keys) plain) in
         let fars : List BackName = flat_map (λ g. map (back key) g.1) (grouped (λ e. extref_hash (parent_of s.keys e) e.link.name) far) in
-        let of_plain : (e : Link) → Contains plain e → Contains (entries s.links) e = λ e h. (from_filter (λ (f : Link). same_key f.link.target key) (entries s.links) e (from_filter (λ (f : Link). not f.extended) own e h).0).0 in
-        let of_late : (e : Link) → Contains late e → Contains (entries s.links) e = λ e h. (from_filter (λ (f : Link). same_key f.link.target key) (entries s.links) e (from_filter (λ (f : Link). f.extended) own e h).0).0 in
+        let of_plain : (e : Link) → Contains plain e → Contains (indexed_links s.links) e = λ e h. (from_filter (λ (f : Link). same_key f.link.target key) (indexed_links s.links) e (from_filter (λ (f : Link). not f.extended) own e h).0).0 in
+        let of_late : (e : Link) → Contains late e → Contains (indexed_links s.links) e = λ e h. (from_filter (λ (f : Link). same_key f.link.target key) (indexed_links s.links) e (from_filter (λ (f : Link). f.extended) own e h).0).0 in
         let order : IsPermutation far late = grouped_all (parent_of s.keys) late in
         let one : Told (inode_refs s.keys s.links key) [] [] refs [] = told_refs n (parent_of s.keys) inode_ref plain (all_from (FitsRef n (parent_of s.keys) inode_ref) plain (λ e h. ref_fits e (of_plain e h))) in
         let two : Told (extrefs s.keys s.links key) [] [] [] fars = told_fars n (extref s.keys) far (all_from (FitsFar n (extref s.keys)) far (λ e h. far_fits e (of_late e (Contains-permutation far late e order h)))) in
@@ -256,21 +227,21 @@ module _ (image : Image) (m : Making) (made : IsMaking image m) where
     abbrev pub IsBehind : Item → Type 0
     IsBehind i = 12 ≤ i.0.kind
 
-    data_behind : AllByRecursion IsBehind (extent_items s key)
-    unfolding extent_items
+    data_behind : AllByRecursion IsBehind (file_extent_items s key)
+    unfolding file_extent_items
     data_behind = by (inline_in s key)
       where
-        by : (b : Bool) → AllByRecursion IsBehind (if b then extent_item (number_of s key) 0 (inline_extent (target_bytes (items_of key s.items) (size_in s key))) ∷ [] else extents_at (number_of s key) file_block (pieces_of s.pieces (number_of s key)))
+        by : (b : Bool) → AllByRecursion IsBehind (if b then extent_item (ino_of s key) 0 (inline_extent (target_bytes (items_of key s.items) (size_in s key))) ∷ [] else extents_at (ino_of s key) file_block (pieces_of s.pieces (ino_of s key)))
         by true = (omega arith, tt)
-        by false = all_mapped IsBehind (λ (p : Piece). extent_item (number_of s key) (file_block p) (regular_extent p.place p.count)) (pieces_of s.pieces (number_of s key)) (all_true _ (pieces_of s.pieces (number_of s key)) (λ p. omega arith))
+        by false = all_mapped IsBehind (λ (p : Piece). extent_item (ino_of s key) (file_block p) (regular_extent p.place p.count)) (pieces_of s.pieces (ino_of s key)) (all_true _ (pieces_of s.pieces (ino_of s key)) (λ p. omega arith))
 
     content_behind : (kind : Kind) → AllByRecursion IsBehind (content_items s key kind)
     content_behind Directory =
         let list : List Indexed = indexed_in (kind_in s) s.keys s.links key in
         let groups : List (ℕ × List Indexed) = grouped (λ (e : Indexed). name_hash e.1.name) list in
-        all_append IsBehind (map (λ (g : ℕ × List Indexed). (make_key n 84 g.0, flat_map (λ (e : Indexed). dir_entry_bytes e.1) g.1)) groups) (map (λ (e : Indexed). (make_key n 96 e.0, dir_entry_bytes e.1)) list)
-        (all_mapped IsBehind (λ (g : ℕ × List Indexed). (make_key n 84 g.0, flat_map (λ (e : Indexed). dir_entry_bytes e.1) g.1)) groups (all_true _ groups (λ g. omega arith)))
-        (all_mapped IsBehind (λ (e : Indexed). (make_key n 96 e.0, dir_entry_bytes e.1)) list (all_true _ list (λ e. omega arith)))
+        all_append IsBehind (map (λ (g : ℕ × List Indexed). (make_key n DIR_ITEM g.0, flat_map (λ (e : Indexed). dir_entry_bytes e.1) g.1)) groups) (map (λ (e : Indexed). (make_key n DIR_INDEX e.0, dir_entry_bytes e.1)) list)
+        (all_mapped IsBehind (λ (g : ℕ × List Indexed). (make_key n DIR_ITEM g.0, flat_map (λ (e : Indexed). dir_entry_bytes e.1) g.1)) groups (all_true _ groups (λ g. omega arith)))
+        (all_mapped IsBehind (λ (e : Indexed). (make_key n DIR_INDEX e.0, dir_entry_bytes e.1)) list (all_true _ list (λ e. omega arith)))
     content_behind File = data_behind
     content_behind Symlink = data_behind
     content_behind Character = tt
@@ -290,8 +261,8 @@ module _ (image : Image) (m : Making) (made : IsMaking image m) where
             let far : List Link = ascending (parent_of s.keys) (filter (λ e. e.extended) (names_of s.links key)) in
             let hash : Link → ℕ = λ e. extref_hash (parent_of s.keys e) e.link.name in
             all_append IsBehind (inode_refs s.keys s.links key) (extrefs s.keys s.links key)
-            (all_mapped IsBehind (λ (g : ℕ × List Link). (make_key (number_of s key) 12 g.0, flat_map (λ e. inode_ref_bytes (inode_ref e)) g.1)) (grouped (parent_of s.keys) plain) (all_true _ (grouped (parent_of s.keys) plain) (λ g. omega arith)))
-            (all_mapped IsBehind (λ (g : ℕ × List Link). (make_key (number_of s key) 13 g.0, flat_map (λ e. extref_bytes (extref s.keys e)) g.1)) (grouped hash far) (all_true _ (grouped hash far) (λ g. omega arith)))
+            (all_mapped IsBehind (λ (g : ℕ × List Link). (make_key (ino_of s key) INODE_REF g.0, flat_map (λ e. inode_ref_bytes (inode_ref e)) g.1)) (grouped (parent_of s.keys) plain) (all_true _ (grouped (parent_of s.keys) plain) (λ g. omega arith)))
+            (all_mapped IsBehind (λ (g : ℕ × List Link). (make_key (ino_of s key) INODE_EXTREF g.0, flat_map (λ e. extref_bytes (extref s.keys e)) g.1)) (grouped hash far) (all_true _ (grouped hash far) (λ g. omega arith)))
 
     pub rest_behind : AllByRecursion IsBehind (name_items s key ++ content_items s key (kind_in s key))
     rest_behind = all_append IsBehind (name_items s key) (content_items s key (kind_in s key)) names_behind (content_behind (kind_in s key))

@@ -1,24 +1,7 @@
 -- The fields of a converted volume's superblock, and its chunks as they are read.
-use Rattle.std.proofs.Common.{◌≡◌, ℕ, ◌*◌, List, ◌++◌, refl, sym, ap, subst}
-use Rattle.reiser_volume.specs.outside.History.{Image}
-use Rattle.reiser_volume.specs.vol_block.declared.ids.Ids.{Ids}
-use Rattle.btr_reader.specs.Opening.{form_of}
-use Rattle.btr_reader.specs.csum_kinds.declared.kind.SumKind.{SumKind}
-use Rattle.btr_reader.specs.csum_kinds.declared.kind.SumKind.TheVariants.{Crc32c}
-use Rattle.btr_reader.specs.btr_reader_walk.declared.tree.Form.{Form}
-use Rattle.convert_core.specs.convert_steps.Making.{Making, new_ids}
-use Rattle.convert_core.specs.convert_steps.Standing.{form, used_bytes}
-use Rattle.convert_core.specs.convert_steps.declared.trees.VolumeTrees.{VolumeTrees}
-use Rattle.convert_core.specs.Converted.{IsNew}
-use Rattle.convert_core.specs.convert_steps.Superblock.{new_super}
-use Rattle.convert_core_laws.specs.reading.Identifiers.{HasFsid, NewIdsFit}
-use Rattle.convert_core_laws.specs.reading.Opened.{IsNewVolume, boot_part, other_part, super_for}
-use Rattle.btr_reader.specs.btr_node.NodeSize.{IsNodeSize}
-use Rattle.convert_core.specs.space_items.Chunks.{device_body}
-use Rattle.convert_core.specs.space_items.Laws.{AreIds}
-use Rattle.convert_core.specs.space_items.declared.node.TreeNode.{TreeNode}
-use Rattle.convert_core.specs.unit_plan.declared.chunk.Chunk.{Chunk}
-use Rattle.convert_core.specs.convert_options.declared.options.Options.{Options}
+use Rattle.convert_core_laws.proofs.Imports.{◌≡◌, ℕ, ◌+◌, ◌*◌, ◌==◌, Bool, true, false, not, List, ◌++◌, Option, refl, sym, ap, subst, ◌∙◌, unwrap_or, BIG_METADATA, EXTENDED_IREF, MIXED_BACKREF, NO_HOLES, SKINNY_METADATA, Image, Ids, form_of, SumKind, Crc32c, csum_number, known_kind, Form, has_feature, Making, new_ids, form, used_bytes, VolumeTrees, IsNew, new_super, HasFsid, NewIdsFit, IsNewVolume, boot_part, other_part, super_for, IsNodeSize, device_body, AreIds, TreeNode, PlannedChunk, Options, known-number}
+use Rattle.std.proofs.Common.{bit_and, if◌then◌else◌}
+use Rattle.convert_core_laws.proofs.reading.Superblock.{own_fsid}
 
 -- a volume of the premises is one that opens
 pub volume_for : NewIdsFit → (o : Options) (ids : Ids) (now : ℕ) (image other : Image) (m : Making) (r : VolumeTrees) (nodes : List TreeNode) → IsNew o ids now image other m r nodes → IsNodeSize o.nodesize → AreIds ids → HasFsid image o.uuid
@@ -33,6 +16,35 @@ module _ (m : Making) (r : VolumeTrees) (nodes : List TreeNode) where
   unfolding new_super
   used_is = refl
 
+  pub generation_is : (super_for m r nodes).generation ≡ 1
+  unfolding new_super
+  generation_is = refl
+
+  -- its features
+  pub with_skinny : has_feature (super_for m r nodes) SKINNY_METADATA ≡ true
+  unfolding new_super
+  with_skinny = by (m.options.nodesize == 4096)
+    where
+      by : (b : Bool) → not (bit_and (if b then MIXED_BACKREF + EXTENDED_IREF + SKINNY_METADATA + NO_HOLES else MIXED_BACKREF + EXTENDED_IREF + SKINNY_METADATA + NO_HOLES + BIG_METADATA) SKINNY_METADATA == 0) ≡ true
+      by true = refl
+      by false = refl
+
+  pub with_extended : has_feature (super_for m r nodes) EXTENDED_IREF ≡ true
+  unfolding new_super
+  with_extended = by (m.options.nodesize == 4096)
+    where
+      by : (b : Bool) → not (bit_and (if b then MIXED_BACKREF + EXTENDED_IREF + SKINNY_METADATA + NO_HOLES else MIXED_BACKREF + EXTENDED_IREF + SKINNY_METADATA + NO_HOLES + BIG_METADATA) EXTENDED_IREF == 0) ≡ true
+      by true = refl
+      by false = refl
+
+  pub without_holes : has_feature (super_for m r nodes) NO_HOLES ≡ true
+  unfolding new_super
+  without_holes = by (m.options.nodesize == 4096)
+    where
+      by : (b : Bool) → not (bit_and (if b then MIXED_BACKREF + EXTENDED_IREF + SKINNY_METADATA + NO_HOLES else MIXED_BACKREF + EXTENDED_IREF + SKINNY_METADATA + NO_HOLES + BIG_METADATA) NO_HOLES == 0) ≡ true
+      by true = refl
+      by false = refl
+
   pub total_is : (super_for m r nodes).total_bytes ≡ 4096 * m.volume.sup.blocks
   unfolding new_super
   total_is = refl
@@ -45,13 +57,19 @@ module _ (m : Making) (r : VolumeTrees) (nodes : List TreeNode) where
   unfolding new_super
   nodesize_is = refl
 
-  only_kind : (kind : SumKind) → Crc32c ≡ kind
-  only_kind Crc32c = refl
+  kind_is : unwrap_or (known_kind (csum_number m.options.sums)) Crc32c ≡ m.options.sums
+  kind_is = ap (λ (known : Option SumKind). unwrap_or known Crc32c) (known-number m.options.sums)
 
   pub form_is : form_of (super_for m r nodes) ≡ form m
   unfolding new_super
-  form_is = ap (λ (kind : SumKind). let f : Form = record { fsid = (new_ids m).fsid; nodesize = m.options.nodesize; sums = kind } in f) (only_kind m.options.sums)
+  form_is =
+      ap (λ (id : List ℕ). let f : Form = record { fsid = id; nodesize = m.options.nodesize; sums = unwrap_or (known_kind (csum_number m.options.sums)) Crc32c } in f)
+      (own_fsid m r nodes)
+      ∙ ap (λ (kind : SumKind). let f : Form = record { fsid = (new_ids m).fsid; nodesize = m.options.nodesize; sums = kind } in f) kind_is
+
+  pub fsid_is : (form_of (super_for m r nodes)).fsid ≡ (new_ids m).fsid
+  fsid_is = ap (λ (f : Form). f.fsid) form_is
 
 -- the chunks that are read are those of the plan
-abbrev pub in_parts : List Chunk → List Chunk
+abbrev pub in_parts : List PlannedChunk → List PlannedChunk
 in_parts chunks = boot_part chunks ++ other_part chunks

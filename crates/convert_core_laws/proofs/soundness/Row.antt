@@ -1,48 +1,5 @@
 -- The nodes that the extent tree tells of are those of all trees, each once.
-use Rattle.std.proofs.Common.{◌≡◌, ◌≢◌, ◌⊎◌, ◌≤◌, ◌<◌, ℕ, zero, suc, ◌+◌, ◌-◌, ◌/◌, ◌^◌, inl, inr, List, [], ◌∷◌, ◌++◌, length, take, drop, get_or, refl, sym, ap, ap₂, subst, ◌∙◌, ⊎_elim, arith}
-use Rattle.std.specs.Prelude.{All, AllPairs, Contains}
-use Rattle.std.specs.List.{flat_map, sum_by}
-use Rattle.std.specs.Ordering.{nat_cmp}
-use Rattle.std.specs.declared.cmp.Ordering.{Ordering}
-use Rattle.std.specs.declared.cmp.Ordering.TheVariants.{Less, Equal, Greater}
-use Rattle.std.proofs.lemmas.Bool.{cases_lt}
-use Rattle.std.proofs.lemmas.List.{drop-drop, map-append}
-use Rattle.std.proofs.lemmas.List.Elements.{All-contains, All-contains_itself, All-drop, All-take}
-use Rattle.std.proofs.lemmas.List.Sorted.{sum_by-IsPermutation}
-use Rattle.std.proofs.lemmas.List.Sums.{sum_by-append, sum_by-cons}
-use Rattle.std.proofs.Math.Seq.{take-add}
-use Rattle.reiser_volume.specs.outside.History.{Image}
-use Rattle.reiser_volume.specs.vol_block.declared.ids.Ids.{Ids}
-use Rattle.btr_reader.specs.btr_node.Leaf.{Item}
-use Rattle.btr_check_rules.specs.Recount.{Recount, TreeOn, all_trees}
-use Rattle.btr_reader.specs.btr_super.declared.superblock.Super.{Super}
-use Rattle.convert_core.specs.btr_tree.Counting.{tree_nodes}
-use Rattle.convert_core.specs.btr_tree.Roots.{lengths_of}
-use Rattle.convert_core.specs.btr_tree.declared.climb.Root.{Root}
-use Rattle.btr_reader.specs.btr_reader_walk.declared.tree.Pointer.{Pointer}
-use Rattle.convert_core.specs.convert_steps.Making.{IsMaking, Making, chunk_slots, new_ids, slots}
-use Rattle.convert_core.specs.convert_steps.Standing.{HasTrees, device_from, extents_from, file_tree_items, image_from, image_tree_items, nodes_from, other_nodes, relocation_from, root_from, root_tree_items, sum_tree_items, sums_from}
-use Rattle.convert_core.specs.convert_steps.declared.trees.VolumeTrees.{VolumeTrees}
-use Rattle.convert_core.proofs.Moving.{sound}
-use Rattle.convert_core.proofs.Slots.{slot_unit}
-use Rattle.convert_core_laws.specs.reading.Opened.{IsNewVolume, super_for}
-use Rattle.convert_core.proofs.extent_pieces.Lists.{all_at, pairs_head, pairs_tail}
-use Rattle.convert_core.specs.file_items.Small.{relocation_items}
-use Rattle.convert_trees_laws.proofs.Short.{sum_mapped}
-use Rattle.reiser_volume.proofs.reiser_bitmap.Ranges.{contains_cases, contains_head, contains_tail}
-use Rattle.reiser_volume.specs.Volume.{used_of}
-use Rattle.convert_core.specs.space_items.Chunks.{chunk_items, device_items}
-use Rattle.convert_core.specs.space_items.Extents.{extent_items}
-use Rattle.convert_core.specs.space_items.Nodes.{merged_nodes, nodes_of_tree}
-use Rattle.convert_core.specs.space_items.declared.node.TreeNode.{TreeNode}
-use Rattle.convert_core.proofs.space_items.Ascending.{addresses, tree_at}
-use Rattle.convert_core.proofs.space_items.Merges.{all-merge, merge, merge-greater, merge-less, nat_greater, nat_less}
-use Rattle.convert_core.proofs.space_items.NodeMerge.{node_cmp}
-use Rattle.convert_trees_laws.proofs.Booting.{used_few}
-use Rattle.convert_core.proofs.unit_plan.Placing.{places_serve}
-use Rattle.convert_core.specs.convert_options.declared.options.Options.{Options}
-use Rattle.reiser_volume.proofs.fs_paths.Lists.{in_map}
-use Rattle.convert_core_laws.specs.soundness.Recounted.{recount_for, tree_for}
+use Rattle.convert_core_laws.proofs.Imports.{◌≡◌, ◌≢◌, ◌⊎◌, ◌≤◌, ◌<◌, ℕ, zero, suc, ◌+◌, ◌-◌, ◌/◌, ◌^◌, inl, inr, List, [], ◌∷◌, ◌++◌, length, take, drop, get_or, refl, sym, ap, ap₂, subst, ◌∙◌, ⊎_elim, arith, All, AllPairs, Contains, flat_map, sum_by, nat_cmp, Ordering, Less, Equal, Greater, cases_lt, drop-drop, map-append, All-contains, All-contains_itself, All-drop, All-take, sum_by-IsPermutation, sum_by-append, sum_by-cons, take-add, CHUNK_TREE, CONV_IMAGE_SUBVOL, CSUM_TREE, DATA_RELOC_TREE, DEV_TREE, EXTENT_TREE, FS_TREE, ROOT_TREE, Image, Ids, Item, Recount, TreeOn, all_trees, Super, tree_nodes, lengths_of, Root, NodePointer, IsMaking, Making, chunk_slots, new_ids, slots, HasTrees, device_from, extents_from, file_tree_items, image_from, image_tree_items, nodes_from, nodes_of_others, relocation_from, root_from, root_tree_items, sum_tree_items, sums_from, VolumeTrees, sound, slot_unit, IsNewVolume, super_for, all_at, pairs_head, pairs_tail, relocation_items, sum_mapped, contains_cases, contains_head, contains_tail, used_of, chunk_items, device_items, extent_items, merged_nodes, nodes_of_tree, TreeNode, addresses, tree_at, all-merge, merge, merge-greater, merge-less, nat_greater, nat_less, node_cmp, used_few, places_serve, Options, in_map, recount_for, tree_for}
 use Rattle.convert_core_laws.proofs.soundness.Nodes.{AreAt, chunk_at, device_at, extents_at, files_at, packed_at, relocation_at, root_at, saved_at, sums_at}
 use Rattle.convert_core_laws.proofs.soundness.Unreserved.{fit_size, slot_holds}
 
@@ -150,40 +107,40 @@ module _ (o : Options) (ids : Ids) (now : ℕ) (image other : Image) (m : Making
   tree_row number from items root count = tree_at number n (lengths_of items) (drop from (slots m)) ∙ ap (λ (c : ℕ). take c (drop from (slots m))) (sym count)
 
   abbrev files : List TreeNode
-  files = nodes_from m 5 0 (file_tree_items image m)
+  files = nodes_from m FS_TREE 0 (file_tree_items image m)
 
   abbrev saved : List TreeNode
-  saved = nodes_from m 256 (image_from r) (image_tree_items m)
+  saved = nodes_from m CONV_IMAGE_SUBVOL (image_from r) (image_tree_items m)
 
   abbrev relocation : List TreeNode
-  relocation = nodes_from m (2 ^ 64 - 9) (relocation_from r) (relocation_items m.now)
+  relocation = nodes_from m DATA_RELOC_TREE (relocation_from r) (relocation_items m.now)
 
   abbrev sums : List TreeNode
-  sums = nodes_from m 7 (sums_from r) (sum_tree_items other m)
+  sums = nodes_from m CSUM_TREE (sums_from r) (sum_tree_items other m)
 
   abbrev device : List TreeNode
-  device = nodes_from m 4 (device_from r) (device_items (new_ids m) m.chunks)
+  device = nodes_from m DEV_TREE (device_from r) (device_items (new_ids m) m.chunks)
 
   abbrev rooted : List TreeNode
-  rooted = nodes_from m 1 (root_from r) (root_tree_items m r)
+  rooted = nodes_from m ROOT_TREE (root_from r) (root_tree_items m r)
 
   abbrev pub chunked : List TreeNode
-  chunked = nodes_of_tree 3 n (lengths_of (chunk_items (new_ids m) m.volume.sup.blocks m.chunks)) (chunk_slots m)
+  chunked = nodes_of_tree CHUNK_TREE n (lengths_of (chunk_items (new_ids m) m.volume.sup.blocks m.chunks)) (chunk_slots m)
 
   abbrev pub extended : List TreeNode
-  extended = nodes_from m 2 (extents_from r) (extent_items m.chunks m.pieces nodes n)
+  extended = nodes_from m EXTENT_TREE (extents_from r) (extent_items m.chunks m.pieces nodes n)
 
   abbrev pub row : List TreeNode
   row = files ++ (saved ++ (relocation ++ (sums ++ (device ++ rooted))))
 
   row_at : addresses row ≡ take (r.files.nodes + (r.image.nodes + (r.relocation.nodes + (r.sums.nodes + (r.device.nodes + r.root.nodes))))) (slots m)
   row_at =
-      let last = tree_row 1 (root_from r) (root_tree_items m r) r.root stand.root.count in
-      let fifth = behind (device_from r) r.device.nodes r.root.nodes (slots m) device rooted (tree_row 4 (device_from r) (device_items (new_ids m) m.chunks) r.device stand.device.count) last in
-      let fourth = behind (sums_from r) r.sums.nodes (r.device.nodes + r.root.nodes) (slots m) sums (device ++ rooted) (tree_row 7 (sums_from r) (sum_tree_items other m) r.sums stand.sums.count) fifth in
-      let third = behind (relocation_from r) r.relocation.nodes (r.sums.nodes + (r.device.nodes + r.root.nodes)) (slots m) relocation (sums ++ (device ++ rooted)) (tree_row (2 ^ 64 - 9) (relocation_from r) (relocation_items m.now) r.relocation stand.relocation.count) fourth in
-      let second = behind (image_from r) r.image.nodes (r.relocation.nodes + (r.sums.nodes + (r.device.nodes + r.root.nodes))) (slots m) saved (relocation ++ (sums ++ (device ++ rooted))) (tree_row 256 (image_from r) (image_tree_items m) r.image stand.image_.count) third in
-      behind 0 r.files.nodes (r.image.nodes + (r.relocation.nodes + (r.sums.nodes + (r.device.nodes + r.root.nodes)))) (slots m) files (saved ++ (relocation ++ (sums ++ (device ++ rooted)))) (tree_row 5 0 (file_tree_items image m) r.files stand.files.count)
+      let last = tree_row ROOT_TREE (root_from r) (root_tree_items m r) r.root stand.root.count in
+      let fifth = behind (device_from r) r.device.nodes r.root.nodes (slots m) device rooted (tree_row DEV_TREE (device_from r) (device_items (new_ids m) m.chunks) r.device stand.device.count) last in
+      let fourth = behind (sums_from r) r.sums.nodes (r.device.nodes + r.root.nodes) (slots m) sums (device ++ rooted) (tree_row CSUM_TREE (sums_from r) (sum_tree_items other m) r.sums stand.sums.count) fifth in
+      let third = behind (relocation_from r) r.relocation.nodes (r.sums.nodes + (r.device.nodes + r.root.nodes)) (slots m) relocation (sums ++ (device ++ rooted)) (tree_row DATA_RELOC_TREE (relocation_from r) (relocation_items m.now) r.relocation stand.relocation.count) fourth in
+      let second = behind (image_from r) r.image.nodes (r.relocation.nodes + (r.sums.nodes + (r.device.nodes + r.root.nodes))) (slots m) saved (relocation ++ (sums ++ (device ++ rooted))) (tree_row CONV_IMAGE_SUBVOL (image_from r) (image_tree_items m) r.image stand.image_.count) third in
+      behind 0 r.files.nodes (r.image.nodes + (r.relocation.nodes + (r.sums.nodes + (r.device.nodes + r.root.nodes)))) (slots m) files (saved ++ (relocation ++ (sums ++ (device ++ rooted)))) (tree_row FS_TREE 0 (file_tree_items image m) r.files stand.files.count)
       (subst (λ (c : ℕ). addresses (saved ++ (relocation ++ (sums ++ (device ++ rooted)))) ≡ take (r.image.nodes + (r.relocation.nodes + (r.sums.nodes + (r.device.nodes + r.root.nodes)))) (drop c (slots m))) first second)
     where
       first : r.files.nodes ≡ 0 + r.files.nodes
@@ -201,7 +158,7 @@ module _ (o : Options) (ids : Ids) (now : ℕ) (image other : Image) (m : Making
   in_chunked : (t : TreeNode) → Contains chunked t → Contains (chunk_slots m) t.address
   in_chunked t h =
       let all : Contains (take (tree_nodes n (lengths_of (chunk_items (new_ids m) m.volume.sup.blocks m.chunks))) (chunk_slots m)) t.address =
-      subst (λ (l : List ℕ). Contains l t.address) (tree_at 3 n (lengths_of (chunk_items (new_ids m) m.volume.sup.blocks m.chunks)) (chunk_slots m)) (in_map (λ (x : TreeNode). x.address) chunked t h) in
+      subst (λ (l : List ℕ). Contains l t.address) (tree_at CHUNK_TREE n (lengths_of (chunk_items (new_ids m) m.volume.sup.blocks m.chunks)) (chunk_slots m)) (in_map (λ (x : TreeNode). x.address) chunked t h) in
       within (chunk_slots m) (tree_nodes n (lengths_of (chunk_items (new_ids m) m.volume.sup.blocks m.chunks))) t.address all
     where
       within : (list : List ℕ) (c a : ℕ) → Contains (take c list) a → Contains list a
@@ -211,7 +168,7 @@ module _ (o : Options) (ids : Ids) (now : ℕ) (image other : Image) (m : Making
   in_extended t h =
       let list : List ℕ = drop (extents_from r) (slots m) in
       let c : ℕ = tree_nodes n (lengths_of (extent_items m.chunks m.pieces nodes n)) in
-      let all : Contains (take c list) t.address = subst (λ (l : List ℕ). Contains l t.address) (tree_at 2 n (lengths_of (extent_items m.chunks m.pieces nodes n)) list) (in_map (λ (x : TreeNode). x.address) extended t h) in
+      let all : Contains (take c list) t.address = subst (λ (l : List ℕ). Contains l t.address) (tree_at EXTENT_TREE n (lengths_of (extent_items m.chunks m.pieces nodes n)) list) (in_map (λ (x : TreeNode). x.address) extended t h) in
       All-contains (Contains list) (take c list) t.address (All-take (Contains list) c list (All-contains_itself list)) all
 
   taken_slot : (c a : ℕ) → Contains (take c (slots m)) a → Contains (slots m) a
@@ -226,7 +183,7 @@ module _ (o : Options) (ids : Ids) (now : ℕ) (image other : Image) (m : Making
     abbrev at : TreeNode → ℕ
     at t = f t.address
 
-    abbrev met_at : Pointer → ℕ
+    abbrev met_at : NodePointer → ℕ
     met_at p = f p.address
 
     first_merge : sum_by at (merged_nodes row chunked) ≡ sum_by at row + sum_by at chunked
@@ -240,10 +197,10 @@ module _ (o : Options) (ids : Ids) (now : ℕ) (image other : Image) (m : Making
     first_lies : All InFirst (merged_nodes row chunked)
     first_lies = all-merge node_cmp InFirst row chunked (λ i d h. inl (in_row (get_or row i d) (All-contains_itself row i d h))) (λ i d h. inr (in_chunked (get_or chunked i d) (All-contains_itself chunked i d h)))
 
-    second_merge : sum_by at (merged_nodes (other_nodes image other m r) extended) ≡ sum_by at (other_nodes image other m r) + sum_by at extended
+    second_merge : sum_by at (merged_nodes (nodes_of_others image other m r) extended) ≡ sum_by at (nodes_of_others image other m r) + sum_by at extended
     second_merge =
-        sum_merged node_cmp at (other_nodes image other m r) extended
-        (λ x y h l. differ x.address y.address (λ e. apart x y (All-contains InFirst (other_nodes image other m r) x first_lies h) (in_extended y l) e))
+        sum_merged node_cmp at (nodes_of_others image other m r) extended
+        (λ x y h l. differ x.address y.address (λ e. apart x y (All-contains InFirst (nodes_of_others image other m r) x first_lies h) (in_extended y l) e))
       where
         apart : (x y : TreeNode) → InFirst x → Contains (drop (extents_from r) (slots m)) y.address → x.address ≡ y.address → ⊥
         apart x y first l e =
@@ -254,7 +211,7 @@ module _ (o : Options) (ids : Ids) (now : ℕ) (image other : Image) (m : Making
     tree_sum : (owner : ℕ) (list : List ℕ) (t : TreeOn) → AreAt o ids now image other m r nodes v list t → sum_by met_at t.nodes ≡ sum_by at (nodes_of_tree owner n (lengths_of t.items) list)
     tree_sum owner list t are =
         sym (sum_by-IsPermutation met_at t.nodes (packed_at n list t.items) are)
-        ∙ sym (sum_mapped (λ (p : Pointer). record { address = p.address; level = p.level; owner = owner }) at (packed_at n list t.items))
+        ∙ sym (sum_mapped (λ (p : NodePointer). record { address = p.address; level = p.level; owner = owner }) at (packed_at n list t.items))
 
     abbrev six : List TreeNode → List TreeNode → List TreeNode → List TreeNode → List TreeNode → List TreeNode → ℕ
     six a b c d e g = sum_by at a + (sum_by at b + (sum_by at c + (sum_by at d + (sum_by at e + sum_by at g))))
@@ -280,11 +237,11 @@ module _ (o : Options) (ids : Ids) (now : ℕ) (image other : Image) (m : Making
     root_sum : sum_by met_at k.root_tree.nodes ≡ sum_by at rooted
     root_sum =
         let list : List ℕ = drop (root_from r) (slots m) in
-        let first = tree_sum 1 (take r.root.nodes list) k.root_tree (root_at o ids now image other m r nodes v) in
-        let here = sym (sum_mapped (λ (t : TreeNode). t.address) f (nodes_of_tree 1 n (lengths_of (root_tree_items m r)) (take r.root.nodes list))) in
-        let there = sum_mapped (λ (t : TreeNode). t.address) f (nodes_of_tree 1 n (lengths_of (root_tree_items m r)) list) in
-        let one = tree_at 1 n (lengths_of (root_tree_items m r)) (take r.root.nodes list) in
-        let two = tree_at 1 n (lengths_of (root_tree_items m r)) list in
+        let first = tree_sum ROOT_TREE (take r.root.nodes list) k.root_tree (root_at o ids now image other m r nodes v) in
+        let here = sym (sum_mapped (λ (t : TreeNode). t.address) f (nodes_of_tree ROOT_TREE n (lengths_of (root_tree_items m r)) (take r.root.nodes list))) in
+        let there = sum_mapped (λ (t : TreeNode). t.address) f (nodes_of_tree ROOT_TREE n (lengths_of (root_tree_items m r)) list) in
+        let one = tree_at ROOT_TREE n (lengths_of (root_tree_items m r)) (take r.root.nodes list) in
+        let two = tree_at ROOT_TREE n (lengths_of (root_tree_items m r)) list in
         let count : tree_nodes n (lengths_of (root_tree_items m r)) ≡ r.root.nodes = sym stand.root.count in
         let same : take (tree_nodes n (lengths_of (root_tree_items m r))) (take r.root.nodes list) ≡ take (tree_nodes n (lengths_of (root_tree_items m r))) list =
         subst (λ (c : ℕ). take c (take r.root.nodes list) ≡ take c list) (sym count) (take_twice r.root.nodes list) in
@@ -311,20 +268,20 @@ module _ (o : Options) (ids : Ids) (now : ℕ) (image other : Image) (m : Making
     -- A sum over the nodes that a walk of all trees meets is that over the nodes that are told.
     pub nodes_sum : sum_by met_at (flat_map (λ (t : TreeOn). t.nodes) (all_trees k)) ≡ sum_by at nodes
     nodes_sum =
-        let extents : TreeOn = tree_for other s 2 r.extents (extent_items m.chunks m.pieces nodes n) in
-        let devices : TreeOn = tree_for other s 4 r.device (device_items (new_ids m) m.chunks) in
-        let filed : TreeOn = tree_for other s 5 r.files (file_tree_items image m) in
-        let summed : TreeOn = tree_for other s 7 r.sums (sum_tree_items other m) in
-        let imaged : TreeOn = tree_for other s 256 r.image (image_tree_items m) in
-        let moved : TreeOn = tree_for other s (2 ^ 64 - 9) r.relocation (relocation_items m.now) in
+        let extents : TreeOn = tree_for other s EXTENT_TREE r.extents (extent_items m.chunks m.pieces nodes n) in
+        let devices : TreeOn = tree_for other s DEV_TREE r.device (device_items (new_ids m) m.chunks) in
+        let filed : TreeOn = tree_for other s FS_TREE r.files (file_tree_items image m) in
+        let summed : TreeOn = tree_for other s CSUM_TREE r.sums (sum_tree_items other m) in
+        let imaged : TreeOn = tree_for other s CONV_IMAGE_SUBVOL r.image (image_tree_items m) in
+        let moved : TreeOn = tree_for other s DATA_RELOC_TREE r.relocation (relocation_items m.now) in
         let all = eight_sum k.chunk_tree k.root_tree extents devices filed summed imaged moved in
-        let chunk = tree_sum 3 (chunk_slots m) k.chunk_tree (chunk_at o ids now image other m r nodes v) in
+        let chunk = tree_sum CHUNK_TREE (chunk_slots m) k.chunk_tree (chunk_at o ids now image other m r nodes v) in
         let root = root_sum in
-        let x2 = tree_sum 2 (drop (extents_from r) (slots m)) extents (extents_at o ids now image other m r nodes v) in
-        let x4 = tree_sum 4 (drop (device_from r) (slots m)) devices (device_at o ids now image other m r nodes v) in
-        let x5 = tree_sum 5 (slots m) filed (files_at o ids now image other m r nodes v) in
-        let x7 = tree_sum 7 (drop (sums_from r) (slots m)) summed (sums_at o ids now image other m r nodes v) in
-        let x256 = tree_sum 256 (drop (image_from r) (slots m)) imaged (saved_at o ids now image other m r nodes v) in
-        let last = tree_sum (2 ^ 64 - 9) (drop (relocation_from r) (slots m)) moved (relocation_at o ids now image other m r nodes v) in
+        let x2 = tree_sum EXTENT_TREE (drop (extents_from r) (slots m)) extents (extents_at o ids now image other m r nodes v) in
+        let x4 = tree_sum DEV_TREE (drop (device_from r) (slots m)) devices (device_at o ids now image other m r nodes v) in
+        let x5 = tree_sum FS_TREE (slots m) filed (files_at o ids now image other m r nodes v) in
+        let x7 = tree_sum CSUM_TREE (drop (sums_from r) (slots m)) summed (sums_at o ids now image other m r nodes v) in
+        let x256 = tree_sum CONV_IMAGE_SUBVOL (drop (image_from r) (slots m)) imaged (saved_at o ids now image other m r nodes v) in
+        let last = tree_sum DATA_RELOC_TREE (drop (relocation_from r) (slots m)) moved (relocation_at o ids now image other m r nodes v) in
         let told = told_sum in
         omega (arith, all, chunk, root, x2, x4, x5, x7, x256, last, told)

@@ -1,78 +1,49 @@
 -- The chunks of a converted volume lie apart, and its device extents are their stripes.
-use Rattle.std.proofs.Common.{◌≡◌, ◌≤◌, ℕ, ◌+◌, ◌*◌, ◌^◌, inl, inr, Bool, true, false, not, List, map, filter, get_or, refl, sym, ap, subst, ◌∙◌, ⊎_elim, arith, eqb}
-use Rattle.std.specs.Prelude.{All, AllPairs, Contains}
-use Rattle.std.proofs.lemmas.Bool.{cases_Bool, not_from_false}
-use Rattle.std.proofs.lemmas.List.{append-nil}
-use Rattle.std.proofs.lemmas.List.Elements.{All-map, Contains-append_cases, Contains-append_left, Contains-append_right}
-use Rattle.std.proofs.lemmas.List.Kept.{AllPairs-filter}
-use Rattle.reiser_volume.specs.outside.History.{Image}
-use Rattle.reiser_volume.specs.vol_block.declared.ids.Ids.{Ids}
-use Rattle.btr_reader.specs.btr_node.Leaf.{Item}
-use Rattle.btr_check_rules.specs.Groups.{Apart, AreStripes, IsExtentOf, dev_extents}
-use Rattle.btr_check_rules.specs.Recount.{Recount}
+use Rattle.convert_core_laws.proofs.Imports.{◌≡◌, ◌≤◌, ℕ, ◌+◌, ◌*◌, ◌^◌, inl, inr, Bool, true, false, not, List, map, filter, get_or, refl, sym, ap, subst, ◌∙◌, ⊎_elim, arith, eqb, All, AllPairs, Contains, cases_Bool, not_from_false, append-nil, All-map, Contains-append_cases, Contains-append_left, Contains-append_right, AllPairs-filter, DEV_EXTENT, Image, Ids, Item, AreStripes, IsChunkOn, IsExtentOf, dev_extents, Recount, dev_extents_read_back, Device, ChunkAt, IsMaking, Making, new_ids, VolumeTrees, blocks_few, is_system_role, NewIdsFit, IsNewVolume, boot_part, chunk_at, other_part, super_for, all_at, pairs_append, pairs_map, two_cases, from_filter, from_map, in_filter, in_map, all_from_contains, dev_extent_body, dev_extent_item, device_items, AreIds, TreeNode, chunk_ends, IsChunk, role_of, usable_end, PlannedChunk, Options, ConvertedChunksAreSound, recount_for}
+use Rattle.btr_check_rules.specs.Groups.{Apart}
 use Rattle.btr_reader.specs.btr_space_items.DevExtent.{dev_extent_layout}
-use Rattle.btr_reader.proofs.btr_space_items.Records.{dev_extents_read_back}
-use Rattle.btr_reader.specs.declared.chunk.ChunkAt.{ChunkAt}
-use Rattle.convert_core.specs.convert_steps.Making.{IsMaking, Making, new_ids}
-use Rattle.convert_core.specs.convert_steps.declared.trees.VolumeTrees.{VolumeTrees}
-use Rattle.convert_core.proofs.Wholeness.{blocks_few}
-use Rattle.convert_core.specs.convert_steps.Superblock.{is_system_role}
-use Rattle.convert_core_laws.specs.reading.Identifiers.{NewIdsFit}
-use Rattle.convert_core_laws.specs.reading.Opened.{IsNewVolume, boot_part, chunk_at, other_part}
-use Rattle.convert_core.proofs.extent_pieces.Lists.{all_at, pairs_append, pairs_map}
-use Rattle.convert_core.proofs.extent_pieces.Owning.{two_cases}
-use Rattle.reiser_volume.proofs.fs_paths.Lists.{from_filter, from_map, in_filter, in_map}
-use Rattle.reiser_volume.proofs.reiser_bitmap.Ranges.{all_from_contains}
-use Rattle.convert_core.specs.space_items.Chunks.{dev_extent_body, dev_extent_item, device_items}
-use Rattle.convert_core.specs.space_items.Laws.{AreIds}
-use Rattle.convert_core.specs.space_items.declared.node.TreeNode.{TreeNode}
-use Rattle.convert_core.proofs.space_items.ChunkLists.{chunk_ends}
-use Rattle.convert_core.specs.unit_plan.declared.chunk.Chunk.{Chunk}
-use Rattle.convert_core.specs.convert_options.declared.options.Options.{Options}
-use Rattle.convert_core_laws.specs.soundness.Laws.{ConvertedChunksAreSound}
-use Rattle.convert_core_laws.specs.soundness.Recounted.{recount_for}
 use Rattle.convert_core_laws.proofs.soundness.Lists.{filter_all}
-use Rattle.convert_core_laws.proofs.soundness.Recounting.{in_parts, volume_for}
+use Rattle.convert_core_laws.proofs.soundness.Recounting.{device_is, in_parts, total_is, volume_for}
 
 -- ---- chunks lie apart
 
-abbrev IsBelow : Chunk → Chunk → Type 0
+abbrev IsBelow : PlannedChunk → PlannedChunk → Type 0
 IsBelow c d = c.start + c.length ≤ d.start
 
-abbrev AreApart : Chunk → Chunk → Type 0
+abbrev AreApart : PlannedChunk → PlannedChunk → Type 0
 AreApart c d = Apart (4096 * c.start) (4096 * c.length) (4096 * d.start) (4096 * d.length)
 
-below_apart : (c d : Chunk) → IsBelow c d → AreApart c d
+below_apart : (c d : PlannedChunk) → IsBelow c d → AreApart c d
 below_apart c d low = inl (omega (arith, low))
 
-above_apart : (c d : Chunk) → IsBelow d c → AreApart c d
+above_apart : (c d : PlannedChunk) → IsBelow d c → AreApart c d
 above_apart c d low = inr (omega (arith, low))
 
 -- a chunk of the plan is in one of the two parts
-pub in_parts_from : (cs : List Chunk) (c : Chunk) → Contains cs c → Contains (in_parts cs) c
+pub in_parts_from : (cs : List PlannedChunk) (c : PlannedChunk) → Contains cs c → Contains (in_parts cs) c
 in_parts_from cs c h =
     ⊎_elim
-    (λ (t : is_system_role c.role ≡ true). Contains-append_left (boot_part cs) (other_part cs) c (in_filter (λ (d : Chunk). is_system_role d.role) cs c h t))
-    (λ (f : is_system_role c.role ≡ false). Contains-append_right (boot_part cs) (other_part cs) c (in_filter (λ (d : Chunk). not (is_system_role d.role)) cs c h (not_from_false (is_system_role c.role) f)))
+    (λ (t : is_system_role c.role ≡ true). Contains-append_left (boot_part cs) (other_part cs) c (in_filter (λ (d : PlannedChunk). is_system_role d.role) cs c h t))
+    (λ (f : is_system_role c.role ≡ false). Contains-append_right (boot_part cs) (other_part cs) c (in_filter (λ (d : PlannedChunk). not (is_system_role d.role)) cs c h (not_from_false (is_system_role c.role) f)))
     (cases_Bool (is_system_role c.role))
 
-pub from_parts : (cs : List Chunk) (c : Chunk) → Contains (in_parts cs) c → Contains cs c
+pub from_parts : (cs : List PlannedChunk) (c : PlannedChunk) → Contains (in_parts cs) c → Contains cs c
 from_parts cs c h =
     ⊎_elim
-    (λ (k : Contains (boot_part cs) c). (from_filter (λ (d : Chunk). is_system_role d.role) cs c k).0)
-    (λ (k : Contains (other_part cs) c). (from_filter (λ (d : Chunk). not (is_system_role d.role)) cs c k).0)
+    (λ (k : Contains (boot_part cs) c). (from_filter (λ (d : PlannedChunk). is_system_role d.role) cs c k).0)
+    (λ (k : Contains (other_part cs) c). (from_filter (λ (d : PlannedChunk). not (is_system_role d.role)) cs c k).0)
     (Contains-append_cases (boot_part cs) (other_part cs) c h)
 
-parts_apart : (cs : List Chunk) → AllPairs IsBelow cs → AllPairs AreApart (in_parts cs)
+parts_apart : (cs : List PlannedChunk) → AllPairs IsBelow cs → AllPairs AreApart (in_parts cs)
 parts_apart cs ascend =
     pairs_append AreApart (boot_part cs) (other_part cs)
-    (λ i j d l h. below_apart (get_or (boot_part cs) i d) (get_or (boot_part cs) j d) (AllPairs-filter IsBelow (λ (c : Chunk). is_system_role c.role) cs ascend i j d l h))
-    (λ i j d l h. below_apart (get_or (other_part cs) i d) (get_or (other_part cs) j d) (AllPairs-filter IsBelow (λ (c : Chunk). not (is_system_role c.role)) cs ascend i j d l h))
+    (λ i j d l h. below_apart (get_or (boot_part cs) i d) (get_or (boot_part cs) j d) (AllPairs-filter IsBelow (λ (c : PlannedChunk). is_system_role c.role) cs ascend i j d l h))
+    (λ i j d l h. below_apart (get_or (other_part cs) i d) (get_or (other_part cs) j d) (AllPairs-filter IsBelow (λ (c : PlannedChunk). not (is_system_role c.role)) cs ascend i j d l h))
     (λ c h. all_from_contains (AreApart c) (other_part cs) (λ d k.
-    let first = from_filter (λ (e : Chunk). is_system_role e.role) cs c h in
-    let second = from_filter (λ (e : Chunk). not (is_system_role e.role)) cs d k in
+    let first = from_filter (λ (e : PlannedChunk). is_system_role e.role) cs c h in
+    let second = from_filter (λ (e : PlannedChunk). not (is_system_role e.role)) cs d k in
     ⊎_elim
-    (λ (same : c ≡ d). absurd (differ (is_system_role d.role) (subst (λ (e : Chunk). is_system_role e.role ≡ true) same first.1) second.1))
+    (λ (same : c ≡ d). absurd (differ (is_system_role d.role) (subst (λ (e : PlannedChunk). is_system_role e.role ≡ true) same first.1) second.1))
     (λ apart. ⊎_elim (λ low. below_apart c d low) (λ high. above_apart c d high) apart)
     (two_cases IsBelow cs c d ascend first.0 second.0)))
   where
@@ -82,7 +53,7 @@ parts_apart cs ascend =
 
 -- ---- device extents
 
-extent_is : (ids : Ids) (c : Chunk) → AreIds ids → c.start + c.length ≤ 2 ^ 29 → IsExtentOf (chunk_at ids c) (dev_extent_item ids c)
+extent_is : (ids : Ids) (c : PlannedChunk) → AreIds ids → c.start + c.length ≤ 2 ^ 29 → IsExtentOf (chunk_at ids c) (dev_extent_item ids c)
 unfolding dev_extent_layout
 extent_is ids c are small = record {
   key = refl;
@@ -101,37 +72,63 @@ module _ (o : Options) (ids : Ids) (now : ℕ) (image other : Image) (m : Making
 
   pub extents_are : dev_extents k ≡ map (dev_extent_item (new_ids m)) m.chunks
   extents_are =
-      ap (filter (λ (i : Item). eqb i.0.kind 204)) (append-nil (device_items (new_ids m) m.chunks))
-      ∙ filter_all (λ (i : Item). eqb i.0.kind 204) (device_items (new_ids m) m.chunks) (All-map (λ (i : Item). eqb i.0.kind 204 ≡ true) (dev_extent_item (new_ids m)) m.chunks (λ n d h. refl))
+      ap (filter (λ (i : Item). eqb i.0.kind DEV_EXTENT)) (append-nil (device_items (new_ids m) m.chunks))
+      ∙ filter_all (λ (i : Item). eqb i.0.kind DEV_EXTENT) (device_items (new_ids m) m.chunks) (All-map (λ (i : Item). eqb i.0.kind DEV_EXTENT ≡ true) (dev_extent_item (new_ids m)) m.chunks (λ n d h. refl))
 
-  pub small : (c : Chunk) → Contains m.chunks c → c.start + c.length ≤ 2 ^ 29
+  pub small : (c : PlannedChunk) → Contains m.chunks c → c.start + c.length ≤ 2 ^ 29
   small c h =
-      let end = all_at (λ (d : Chunk). d.start + d.length ≤ m.volume.sup.blocks) m.chunks c (chunk_ends m.plan m.volume.sup.blocks m.chunks making.chunks_are) h in
+      let end = all_at (λ (d : PlannedChunk). d.start + d.length ≤ m.volume.sup.blocks) m.chunks c (chunk_ends m.plan m.volume.sup.blocks m.chunks making.chunks_are) h in
       let few = blocks_few m.volume image m.options m.plan m.pieces making.has_pieces in
       omega (arith, end, few)
 
-  is_extent : (c : Chunk) → Contains m.chunks c → IsExtentOf (chunk_at (new_ids m) c) (dev_extent_item (new_ids m) c)
+  is_extent : (c : PlannedChunk) → Contains m.chunks c → IsExtentOf (chunk_at (new_ids m) c) (dev_extent_item (new_ids m) c)
   is_extent c h = extent_is (new_ids m) c v.ids_ (small c h)
 
-  pub chunk_there : (c : Chunk) → Contains m.chunks c → Contains k.chunks (chunk_at (new_ids m) c)
+  pub chunk_there : (c : PlannedChunk) → Contains m.chunks c → Contains k.chunks (chunk_at (new_ids m) c)
   chunk_there c h = in_map (chunk_at (new_ids m)) (in_parts m.chunks) c (in_parts_from m.chunks c h)
 
   -- and each chunk that is read is one of the plan
-  pub chunk_from : (c : ChunkAt) → Contains k.chunks c → (d : Chunk) × Contains m.chunks d × (chunk_at (new_ids m) d ≡ c)
+  pub chunk_from : (c : ChunkAt) → Contains k.chunks c → (d : PlannedChunk) × Contains m.chunks d × (chunk_at (new_ids m) d ≡ c)
   chunk_from c h = let at = from_map (chunk_at (new_ids m)) (in_parts m.chunks) c h in (at.0, from_parts m.chunks at.0 at.1, at.2)
 
   apart_as_read : AllPairs (λ (c d : ChunkAt). Apart c.logical c.chunk.length d.logical d.chunk.length) k.chunks
   apart_as_read =
       pairs_map (λ (c d : ChunkAt). Apart c.logical c.chunk.length d.logical d.chunk.length) (chunk_at (new_ids m)) (in_parts m.chunks) (parts_apart m.chunks making.chunks_are.ascending)
 
+  -- ---- each chunk is valid
+
+  is_valid : (c : PlannedChunk) → Contains m.chunks c → IsChunkOn (super_for m r nodes) (chunk_at (new_ids m) c)
+  is_valid c h =
+      let some = (all_at (IsChunk (role_of m.plan m.volume.sup.blocks) (usable_end m.volume.sup.blocks)) m.chunks c making.chunks_are.each h).not_empty in
+      let end = all_at (λ (d : PlannedChunk). d.start + d.length ≤ m.volume.sup.blocks) m.chunks c (chunk_ends m.plan m.volume.sup.blocks m.chunks making.chunks_are) h in
+      let total = total_is m r nodes in
+      record {
+        sectors = refl;
+        stripes = refl;
+        some = λ e. omega (arith, e, some);
+        whole = (omega arith, omega arith);
+        stripe = record {
+          device = (ap (λ (d : Device). d.devid) (sym (device_is m r nodes)), ap (λ (d : Device). d.uuid) (sym (device_is m r nodes)));
+          start = omega arith;
+          inside = omega (arith, end, total);
+        };
+        mirror = λ stripe e. absurd (cc e);
+      }
+
+  all_valid : All (IsChunkOn (super_for m r nodes)) k.chunks
+  all_valid =
+      all_from_contains (IsChunkOn (super_for m r nodes)) k.chunks
+      (λ c h. let at = chunk_from c h in subst (IsChunkOn (super_for m r nodes)) at.2 (is_valid at.0 at.1))
+
   pub stripes : AreStripes k
   stripes = record {
+    valid = all_valid;
     logical = apart_as_read;
     physical =
         pairs_map (λ (c d : ChunkAt). Apart c.chunk.stripe.offset c.chunk.length d.chunk.stripe.offset d.chunk.length) (chunk_at (new_ids m)) (in_parts m.chunks) (parts_apart m.chunks making.chunks_are.ascending);
     each = subst (All (λ i. (c : ChunkAt) × Contains k.chunks c × IsExtentOf c i)) (sym extents_are)
         (All-map (λ i. (c : ChunkAt) × Contains k.chunks c × IsExtentOf c i) (dev_extent_item (new_ids m)) m.chunks
-        (all_from_contains (λ (c : Chunk). (d : ChunkAt) × Contains k.chunks d × IsExtentOf d (dev_extent_item (new_ids m) c)) m.chunks (λ c h. (chunk_at (new_ids m) c, chunk_there c h, is_extent c h))));
+        (all_from_contains (λ (c : PlannedChunk). (d : ChunkAt) × Contains k.chunks d × IsExtentOf d (dev_extent_item (new_ids m) c)) m.chunks (λ c h. (chunk_at (new_ids m) c, chunk_there c h, is_extent c h))));
     whole = all_from_contains (λ (c : ChunkAt). (i : Item) × Contains (dev_extents k) i × IsExtentOf c i) k.chunks (λ c h.
         let at = chunk_from c h in (
           dev_extent_item (new_ids m) at.0,

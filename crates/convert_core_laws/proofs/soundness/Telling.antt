@@ -1,33 +1,13 @@
 -- What lists of items tell of names, by their parts.
-use Rattle.std.proofs.Common.{◌≡◌, ℕ, ◌==◌, Bool, true, false, List, [], ◌∷◌, ◌++◌, map, flat_map, Option, Some, refl, sym, ap, subst, ◌∙◌, if◌then◌else◌, nat_lt, arith}
-use Rattle.std.specs.Prelude.{All, IsTrue, is_some}
-use Rattle.std.specs.List.{AllByRecursion}
-use Rattle.std.proofs.lemmas.Bool.{eqb-true}
-use Rattle.std.proofs.lemmas.List.{append-nil}
-use Rattle.std.proofs.lemmas.List.Elements.{All-from_recursion}
-use Rattle.reiser_volume.specs.castagnoli.Castagnoli.{extref_hash, name_hash}
-use Rattle.btr_reader.specs.btr_keys.DirEntry.{DirEntryValue, dir_entry_bytes, dir_entry_head, dir_items_of}
-use Rattle.btr_reader.specs.btr_keys.Extref.{ExtrefValue, extref_bytes, extref_head, extrefs_of}
-use Rattle.btr_reader.specs.btr_keys.FileExtent.{FileExtentValue, file_extent_bytes, file_extent_of}
-use Rattle.btr_reader.specs.btr_keys.Inode.{inode_of}
-use Rattle.btr_reader.specs.btr_keys.InodeRef.{InodeRefValue, inode_ref_bytes, inode_ref_head, inode_refs_of}
-use Rattle.btr_reader.specs.btr_keys.Key.{make_key}
+use Rattle.convert_core_laws.proofs.Imports.{◌≡◌, ℕ, ◌==◌, Bool, true, false, List, [], ◌∷◌, ◌++◌, map, Option, Some, refl, sym, ap, subst, ◌∙◌, nat_lt, arith, All, IsTrue, is_some, AllByRecursion, eqb-true, append-nil, All-from_recursion, DIR_INDEX, DIR_ITEM, EXTENT_DATA, INODE_EXTREF, INODE_ITEM, INODE_REF, extref_hash, name_hash, DirEntryValue, dir_entry_bytes, dir_entry_head, dir_items_of, ExtrefValue, extref_bytes, extref_head, extrefs_of, FileExtentValue, file_extent_bytes, file_extent_of, inode_of, InodeRefValue, inode_ref_bytes, inode_ref_head, inode_refs_of, make_key, Inode, dir_items_read_back, extrefs_read_back, inode_refs_read_back, Item, BackName, NamedEntry, IndexEntry, entry_of, or_none, Indexed, entry_items, all_append, all_mapped, extent_item, grouped, in_group, inode_item, ref_item}
+use Rattle.std.proofs.Common.{flat_map, if◌then◌else◌}
 use Rattle.btr_reader.specs.btr_keys.Repeated.{RecordsReadBack}
-use Rattle.btr_reader.specs.btr_keys.declared.inode.Inode.{Inode}
-use Rattle.btr_reader.proofs.btr_keys.Records.{dir_items_read_back, extrefs_read_back, inode_refs_read_back}
-use Rattle.btr_reader.specs.btr_node.Leaf.{Item}
-use Rattle.btr_check_rules.specs.Names.{BackName, Entry, IndexEntry, entry_of, or_none}
-use Rattle.convert_core.specs.file_items.Names.{Indexed, entry_items}
-use Rattle.convert_trees_laws.proofs.Rising.{all_append, all_mapped}
-use Rattle.convert_core.specs.btr_item_list.Extents.{extent_item}
-use Rattle.convert_core.specs.btr_item_list.Groups.{grouped, in_group}
-use Rattle.convert_core.specs.btr_item_list.Inodes.{inode_item, ref_item}
 use Rattle.convert_trees_laws.proofs.InodeRead.{inode_read}
 use Rattle.convert_core_laws.proofs.soundness.NameLists.{flat_append, flat_mapped}
 
 -- ---- what an item tells
 
-abbrev pub hashed_of : Item → List Entry
+abbrev pub hashed_of : Item → List NamedEntry
 hashed_of i = map (entry_of i) (or_none (dir_items_of i.1))
 
 abbrev pub indexed_of : Item → List IndexEntry
@@ -44,30 +24,30 @@ if_kind kind f i = if i.0.kind == kind then f i else []
 
 -- the body is on the form of the item's kind
 pub record IsOnForm (i : Item) : Type 0 where
-  pub inode : i.0.kind ≡ 1 → IsTrue (is_some (inode_of i.1))
-  pub refs : i.0.kind ≡ 12 → IsTrue (is_some (inode_refs_of i.1))
-  pub extrefs : i.0.kind ≡ 13 → (es : List ExtrefValue) × (extrefs_of i.1 ≡ Some es) × All (λ e. extref_hash e.parent e.name ≡ i.0.offset) es
-  pub hashed : i.0.kind ≡ 84 → (es : List DirEntryValue) × (dir_items_of i.1 ≡ Some es) × All (λ e. (name_hash e.name ≡ i.0.offset) × (e.data_length ≡ 0)) es
-  pub indexed : i.0.kind ≡ 96 → (e : DirEntryValue) × (dir_items_of i.1 ≡ Some (e ∷ [])) × (e.data_length ≡ 0)
-  pub extent : i.0.kind ≡ 108 → IsTrue (is_some (file_extent_of i.1))
+  pub inode : i.0.kind ≡ INODE_ITEM → IsTrue (is_some (inode_of i.1))
+  pub refs : i.0.kind ≡ INODE_REF → IsTrue (is_some (inode_refs_of i.1))
+  pub extrefs : i.0.kind ≡ INODE_EXTREF → (es : List ExtrefValue) × (extrefs_of i.1 ≡ Some es) × All (λ e. extref_hash e.parent e.name ≡ i.0.offset) es
+  pub hashed : i.0.kind ≡ DIR_ITEM → (es : List DirEntryValue) × (dir_items_of i.1 ≡ Some es) × All (λ e. (name_hash e.name ≡ i.0.offset) × (e.data_length ≡ 0)) es
+  pub indexed : i.0.kind ≡ DIR_INDEX → (e : DirEntryValue) × (dir_items_of i.1 ≡ Some (e ∷ [])) × (e.data_length ≡ 0)
+  pub extent : i.0.kind ≡ EXTENT_DATA → IsTrue (is_some (file_extent_of i.1))
 
 -- What items tell: entries by their hashes, entries by their indexes, and the names of inode refs and extrefs.
-pub record Told (items : List Item) (hashed : List Entry) (indexed : List IndexEntry) (refs fars : List BackName) : Type 0 where
-  pub hash_is : flat_map (if_kind 84 hashed_of) items ≡ hashed
-  pub index_is : flat_map (if_kind 96 indexed_of) items ≡ indexed
-  pub ref_is : flat_map (if_kind 12 ref_of) items ≡ refs
-  pub far_is : flat_map (if_kind 13 far_of) items ≡ fars
+pub record Told (items : List Item) (hashed : List NamedEntry) (indexed : List IndexEntry) (refs fars : List BackName) : Type 0 where
+  pub hash_is : flat_map (if_kind DIR_ITEM hashed_of) items ≡ hashed
+  pub index_is : flat_map (if_kind DIR_INDEX indexed_of) items ≡ indexed
+  pub ref_is : flat_map (if_kind INODE_REF ref_of) items ≡ refs
+  pub far_is : flat_map (if_kind INODE_EXTREF far_of) items ≡ fars
   pub forms : AllByRecursion IsOnForm items
 
 joined_is : {X : Type 0} (f : Item → List X) (xs ys : List Item) (a b : List X) → flat_map f xs ≡ a → flat_map f ys ≡ b → flat_map f (xs ++ ys) ≡ a ++ b
 joined_is {X} f xs ys a b one two = flat_append f xs ys ∙ (ap (λ (l : List X). l ++ flat_map f ys) one ∙ ap (λ (l : List X). a ++ l) two)
 
-pub told_append : (xs ys : List Item) (h h' : List Entry) (x x' : List IndexEntry) (r r' f f' : List BackName) → Told xs h x r f → Told ys h' x' r' f' → Told (xs ++ ys) (h ++ h') (x ++ x') (r ++ r') (f ++ f')
+pub told_append : (xs ys : List Item) (h h' : List NamedEntry) (x x' : List IndexEntry) (r r' f f' : List BackName) → Told xs h x r f → Told ys h' x' r' f' → Told (xs ++ ys) (h ++ h') (x ++ x') (r ++ r') (f ++ f')
 told_append xs ys h h' x x' r r' f f' one two = record {
-  hash_is = joined_is (if_kind 84 hashed_of) xs ys h h' one.hash_is two.hash_is;
-  index_is = joined_is (if_kind 96 indexed_of) xs ys x x' one.index_is two.index_is;
-  ref_is = joined_is (if_kind 12 ref_of) xs ys r r' one.ref_is two.ref_is;
-  far_is = joined_is (if_kind 13 far_of) xs ys f f' one.far_is two.far_is;
+  hash_is = joined_is (if_kind DIR_ITEM hashed_of) xs ys h h' one.hash_is two.hash_is;
+  index_is = joined_is (if_kind DIR_INDEX indexed_of) xs ys x x' one.index_is two.index_is;
+  ref_is = joined_is (if_kind INODE_REF ref_of) xs ys r r' one.ref_is two.ref_is;
+  far_is = joined_is (if_kind INODE_EXTREF far_of) xs ys f f' one.far_is two.far_is;
   forms = all_append IsOnForm xs ys one.forms two.forms;
 }
 
@@ -193,7 +173,7 @@ told_ref n parent value fits =
 
 module _ {A : Type 0} (n : ℕ) (number : A → ℕ) (value : A → InodeRefValue) where
   abbrev pub ref_group : ℕ × List A → Item
-  ref_group g = (make_key n 12 g.0, flat_map (λ x. inode_ref_bytes (value x)) g.1)
+  ref_group g = (make_key n INODE_REF g.0, flat_map (λ x. inode_ref_bytes (value x)) g.1)
 
   abbrev pub ref_name : A → BackName
   ref_name x = record { inode = n; dir = number x; index = (value x).index; name = (value x).name }
@@ -242,7 +222,7 @@ module _ {A : Type 0} (n : ℕ) (value : A → ExtrefValue) where
   hash_of x = extref_hash (value x).parent (value x).name
 
   abbrev pub far_group : ℕ × List A → Item
-  far_group g = (make_key n 13 g.0, flat_map (λ x. extref_bytes (value x)) g.1)
+  far_group g = (make_key n INODE_EXTREF g.0, flat_map (λ x. extref_bytes (value x)) g.1)
 
   abbrev pub far_name : A → BackName
   far_name x = record { inode = n; dir = (value x).parent; index = (value x).index; name = (value x).name }
@@ -288,7 +268,7 @@ module _ {A : Type 0} (n : ℕ) (value : A → ExtrefValue) where
 -- ---- entries of a directory
 
 module _ (n : ℕ) where
-  abbrev pub entry_by : Indexed → Entry
+  abbrev pub entry_by : Indexed → NamedEntry
   entry_by e = record { dir = n; name = e.1.name; location = e.1.location; kind = e.1.kind }
 
   abbrev pub index_by : Indexed → IndexEntry
@@ -303,10 +283,10 @@ module _ (n : ℕ) where
   hash_by e = name_hash e.1.name
 
   abbrev hash_group : ℕ × List Indexed → Item
-  hash_group g = (make_key n 84 g.0, flat_map (λ (e : Indexed). dir_entry_bytes e.1) g.1)
+  hash_group g = (make_key n DIR_ITEM g.0, flat_map (λ (e : Indexed). dir_entry_bytes e.1) g.1)
 
   abbrev index_item : Indexed → Item
-  index_item e = (make_key n 96 e.0, dir_entry_bytes e.1)
+  index_item e = (make_key n DIR_INDEX e.0, dir_entry_bytes e.1)
 
   one_hash_group : (g : ℕ × List Indexed) → IsGroup hash_by FitsEntry g → Told (hash_group g ∷ []) (map entry_by g.1) [] [] []
   one_hash_group g of =
@@ -367,11 +347,11 @@ module _ (n : ℕ) where
   index_list (e ∷ list) all = told_append (index_item e ∷ []) (map index_item list) [] [] (index_by e ∷ []) (map index_by list) [] [] [] [] (one_index e all.0) (index_list list all.1)
 
   -- the entries in the order of their hashes
-  abbrev pub hash_entries : List Indexed → List Entry
+  abbrev pub hash_entries : List Indexed → List NamedEntry
   hash_entries list = flat_map (λ g. map entry_by g.1) (grouped hash_by list)
 
   pub told_entries : (list : List Indexed) → AllByRecursion FitsEntry list → Told (entry_items n list) (hash_entries list) (map index_by list) [] []
   told_entries list all =
-      let hashed : List Entry = hash_entries list in
-      subst (λ (h : List Entry). Told (entry_items n list) h (map index_by list) [] []) (append-nil hashed)
+      let hashed : List NamedEntry = hash_entries list in
+      subst (λ (h : List NamedEntry). Told (entry_items n list) h (map index_by list) [] []) (append-nil hashed)
       (told_append (map hash_group (grouped hash_by list)) (map index_item list) hashed [] [] (map index_by list) [] [] [] [] (hash_groups (grouped hash_by list) (groups_are hash_by FitsEntry list all)) (index_list list all))

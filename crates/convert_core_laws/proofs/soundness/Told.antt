@@ -1,36 +1,6 @@
 -- Each node that the extent tree tells of is one that a walk meets, and the other way round.
-use Rattle.std.proofs.Common.{◌≡◌, ◌≢◌, ◌≤◌, ℕ, suc, ◌+◌, ◌-◌, ◌^◌, eqb, Bool, cond, List, [], ◌∷◌, ◌++◌, length, map, take, drop, sum, refl, sym, ap, ap₂, subst, ◌∙◌, ⊎_elim, arith}
-use Rattle.std.specs.Prelude.{All, Contains}
-use Rattle.std.specs.List.{flat_map, sum_by}
-use Rattle.std.proofs.lemmas.Bool.{cases_eq, eq-eqb, ne_eqb}
-use Rattle.std.proofs.lemmas.List.{drop-take, take-take}
-use Rattle.std.proofs.lemmas.List.Elements.{All-append, All-contains, All-map}
-use Rattle.std.proofs.lemmas.List.Sorted.{Contains-permutation, IsPermutation-sym}
-use Rattle.std.proofs.lemmas.List.Sums.{sum_by-cons}
-use Rattle.reiser_volume.specs.outside.History.{Image}
-use Rattle.reiser_volume.specs.vol_block.declared.ids.Ids.{Ids}
-use Rattle.btr_check_rules.specs.Recount.{Recount, TreeOn, all_trees}
-use Rattle.btr_reader.specs.btr_super.declared.superblock.Super.{Super}
-use Rattle.convert_core.specs.btr_tree.Building.{pointer_to}
-use Rattle.convert_core.specs.btr_tree.Packing.{leaves, tree_levels}
-use Rattle.convert_core.specs.btr_tree.Roots.{level_pointers, lengths_of}
-use Rattle.btr_reader.specs.btr_reader_walk.declared.tree.Pointer.{Pointer}
-use Rattle.convert_core.specs.convert_steps.Making.{Making, chunk_slots, new_ids, slots}
-use Rattle.convert_core.specs.convert_steps.Standing.{HasTrees, device_from, extents_from, file_tree_items, image_from, image_tree_items, nodes_from, other_nodes, relocation_from, root_from, root_tree_items, sum_tree_items, sums_from}
-use Rattle.convert_core.specs.convert_steps.declared.trees.VolumeTrees.{VolumeTrees}
-use Rattle.convert_core_laws.specs.reading.Opened.{IsNewVolume, super_for}
-use Rattle.convert_core.specs.file_items.Small.{relocation_items}
-use Rattle.convert_core.proofs.extent_pieces.Owning.{two_cases}
-use Rattle.reiser_volume.proofs.fs_paths.Lists.{in_flat_map}
-use Rattle.reiser_volume.proofs.reiser_bitmap.Ranges.{all_from_contains, contains_cases, contains_head, contains_tail}
-use Rattle.convert_core.specs.space_items.Chunks.{device_items}
-use Rattle.convert_core.specs.space_items.Extents.{extent_items}
-use Rattle.convert_core.specs.space_items.Nodes.{nodes_of_tree}
-use Rattle.convert_core.specs.space_items.declared.node.TreeNode.{TreeNode}
-use Rattle.convert_core.proofs.space_items.Merges.{all-merge}
-use Rattle.convert_core.proofs.space_items.NodeMerge.{node_cmp}
-use Rattle.convert_core.specs.convert_options.declared.options.Options.{Options}
-use Rattle.convert_core_laws.specs.soundness.Recounted.{recount_for, tree_for}
+use Rattle.convert_core_laws.proofs.Imports.{◌≡◌, ◌≢◌, ◌≤◌, ℕ, suc, ◌+◌, ◌-◌, ◌^◌, eqb, Bool, cond, List, [], ◌∷◌, ◌++◌, length, map, take, drop, refl, sym, ap, ap₂, subst, ◌∙◌, ⊎_elim, arith, All, Contains, flat_map, sum_by, cases_eq, eq-eqb, ne_eqb, drop-take, take-take, All-append, All-contains, All-map, Contains-permutation, IsPermutation-sym, sum_by-cons, CONV_IMAGE_SUBVOL, CSUM_TREE, DATA_RELOC_TREE, DEV_TREE, EXTENT_TREE, FS_TREE, ROOT_TREE, Image, Ids, Recount, TreeOn, all_trees, Super, pointer_to, packed_leaves, tree_levels, level_pointers, lengths_of, NodePointer, Making, chunk_slots, new_ids, slots, HasTrees, device_from, extents_from, file_tree_items, image_from, image_tree_items, nodes_from, nodes_of_others, relocation_from, root_from, root_tree_items, sum_tree_items, sums_from, VolumeTrees, IsNewVolume, super_for, relocation_items, two_cases, in_flat_map, all_from_contains, contains_cases, contains_head, contains_tail, device_items, extent_items, nodes_of_tree, TreeNode, all-merge, node_cmp, Options, recount_for, tree_for}
+use Rattle.std.proofs.Common.{sum}
 use Rattle.convert_core_laws.proofs.soundness.Nodes.{AreAt, chunk_at, device_at, extents_at, files_at, packed_at, relocation_at, root_at, saved_at, sums_at}
 use Rattle.convert_core_laws.proofs.soundness.Apart.{once}
 use Rattle.convert_core_laws.proofs.soundness.Row.{chunked, extended, nodes_sum, row}
@@ -43,7 +13,7 @@ taken_pointers generation level skip c list (n ∷ sizes) few =
     let parts : skip + (c - skip) ≡ c = omega (arith, few) in
     let cut : drop skip (take c list) ≡ take (c - skip) (drop skip list) = ap (λ (k : ℕ). drop skip (take k list)) (sym parts) ∙ drop-take skip (c - skip) list in
     let here : take n (drop skip (take c list)) ≡ take n (drop skip list) = ap (take n) cut ∙ take-take n (c - skip) (drop skip list) (omega (arith, few, total)) in
-    ap₂ (λ (ps qs : List Pointer). ps ++ qs) (ap (map (pointer_to generation level)) here) (taken_pointers generation (suc level) (skip + n) c list sizes (omega (arith, few, total)))
+    ap₂ (λ (ps qs : List NodePointer). ps ++ qs) (ap (map (pointer_to generation level)) here) (taken_pointers generation (suc level) (skip + n) c list sizes (omega (arith, few, total)))
 
 -- how often an address is there
 abbrev hits : ℕ → ℕ → ℕ
@@ -84,75 +54,75 @@ module _ (o : Options) (ids : Ids) (now : ℕ) (image other : Image) (m : Making
   pub record IsMet (x : TreeNode) : Type 0 where
     pub tree : TreeOn
     pub there : Contains (all_trees k) tree
-    pub pointer : Pointer
+    pub pointer : NodePointer
     pub met : Contains tree.nodes pointer
     pub is : x ≡ record { address = pointer.address; level = pointer.level; owner = tree.number }
 
   tree_told : (list : List ℕ) (t : TreeOn) → Contains (all_trees k) t → AreAt o ids now image other m r nodes v list t → All IsMet (nodes_of_tree t.number n (lengths_of t.items) list)
   tree_told list t there are =
-      All-map IsMet (λ (p : Pointer). record { address = p.address; level = p.level; owner = t.number }) (packed_at n list t.items)
-      (all_from_contains (λ (p : Pointer). IsMet (record { address = p.address; level = p.level; owner = t.number })) (packed_at n list t.items)
+      All-map IsMet (λ (p : NodePointer). record { address = p.address; level = p.level; owner = t.number }) (packed_at n list t.items)
+      (all_from_contains (λ (p : NodePointer). IsMet (record { address = p.address; level = p.level; owner = t.number })) (packed_at n list t.items)
       (λ p h. record { tree = t; there = there; pointer = p; met = Contains-permutation (packed_at n list t.items) t.nodes p (IsPermutation-sym t.nodes (packed_at n list t.items) are) h; is = refl }))
 
   -- the root tree's nodes lie at the first of the slots behind the others
-  root_told : All IsMet (nodes_from m 1 (root_from r) (root_tree_items m r))
+  root_told : All IsMet (nodes_from m ROOT_TREE (root_from r) (root_tree_items m r))
   root_told =
       let list : List ℕ = drop (root_from r) (slots m) in
-      let few : 0 + sum (tree_levels n (length (leaves n (lengths_of (root_tree_items m r))))) ≤ r.root.nodes = (let count = stand.root.count in omega (arith, count)) in
+      let few : 0 + sum (tree_levels n (length (packed_leaves n (lengths_of (root_tree_items m r))))) ≤ r.root.nodes = (let count = stand.root.count in omega (arith, count)) in
       let same : packed_at n (take r.root.nodes list) (root_tree_items m r) ≡ packed_at n list (root_tree_items m r) =
-      taken_pointers 1 0 0 r.root.nodes list (tree_levels n (length (leaves n (lengths_of (root_tree_items m r))))) few in
-      subst (All IsMet) (ap (map (λ (p : Pointer). record { address = p.address; level = p.level; owner = 1 })) same)
+      taken_pointers 1 0 0 r.root.nodes list (tree_levels n (length (packed_leaves n (lengths_of (root_tree_items m r))))) few in
+      subst (All IsMet) (ap (map (λ (p : NodePointer). record { address = p.address; level = p.level; owner = ROOT_TREE })) same)
       (tree_told (take r.root.nodes list) k.root_tree (1, omega arith, refl) (root_at o ids now image other m r nodes v))
 
   row_told : All IsMet (row o ids now image other m r nodes v)
   row_told =
-      let a : List TreeNode = nodes_from m 5 0 (file_tree_items image m) in
-      let b : List TreeNode = nodes_from m 256 (image_from r) (image_tree_items m) in
-      let c : List TreeNode = nodes_from m (2 ^ 64 - 9) (relocation_from r) (relocation_items m.now) in
-      let d : List TreeNode = nodes_from m 7 (sums_from r) (sum_tree_items other m) in
-      let e : List TreeNode = nodes_from m 4 (device_from r) (device_items (new_ids m) m.chunks) in
-      let f : List TreeNode = nodes_from m 1 (root_from r) (root_tree_items m r) in
-      All-append IsMet a (b ++ (c ++ (d ++ (e ++ f)))) (tree_told (slots m) (tree_for other s 5 r.files (file_tree_items image m)) (4, omega arith, refl) (files_at o ids now image other m r nodes v))
-      (All-append IsMet b (c ++ (d ++ (e ++ f))) (tree_told (drop (image_from r) (slots m)) (tree_for other s 256 r.image (image_tree_items m)) (6, omega arith, refl) (saved_at o ids now image other m r nodes v))
-      (All-append IsMet c (d ++ (e ++ f)) (tree_told (drop (relocation_from r) (slots m)) (tree_for other s (2 ^ 64 - 9) r.relocation (relocation_items m.now)) (7, omega arith, refl) (relocation_at o ids now image other m r nodes v))
-      (All-append IsMet d (e ++ f) (tree_told (drop (sums_from r) (slots m)) (tree_for other s 7 r.sums (sum_tree_items other m)) (5, omega arith, refl) (sums_at o ids now image other m r nodes v))
-      (All-append IsMet e f (tree_told (drop (device_from r) (slots m)) (tree_for other s 4 r.device (device_items (new_ids m) m.chunks)) (3, omega arith, refl) (device_at o ids now image other m r nodes v)) root_told))))
+      let a : List TreeNode = nodes_from m FS_TREE 0 (file_tree_items image m) in
+      let b : List TreeNode = nodes_from m CONV_IMAGE_SUBVOL (image_from r) (image_tree_items m) in
+      let c : List TreeNode = nodes_from m DATA_RELOC_TREE (relocation_from r) (relocation_items m.now) in
+      let d : List TreeNode = nodes_from m CSUM_TREE (sums_from r) (sum_tree_items other m) in
+      let e : List TreeNode = nodes_from m DEV_TREE (device_from r) (device_items (new_ids m) m.chunks) in
+      let f : List TreeNode = nodes_from m ROOT_TREE (root_from r) (root_tree_items m r) in
+      All-append IsMet a (b ++ (c ++ (d ++ (e ++ f)))) (tree_told (slots m) (tree_for other s FS_TREE r.files (file_tree_items image m)) (4, omega arith, refl) (files_at o ids now image other m r nodes v))
+      (All-append IsMet b (c ++ (d ++ (e ++ f))) (tree_told (drop (image_from r) (slots m)) (tree_for other s CONV_IMAGE_SUBVOL r.image (image_tree_items m)) (6, omega arith, refl) (saved_at o ids now image other m r nodes v))
+      (All-append IsMet c (d ++ (e ++ f)) (tree_told (drop (relocation_from r) (slots m)) (tree_for other s DATA_RELOC_TREE r.relocation (relocation_items m.now)) (7, omega arith, refl) (relocation_at o ids now image other m r nodes v))
+      (All-append IsMet d (e ++ f) (tree_told (drop (sums_from r) (slots m)) (tree_for other s CSUM_TREE r.sums (sum_tree_items other m)) (5, omega arith, refl) (sums_at o ids now image other m r nodes v))
+      (All-append IsMet e f (tree_told (drop (device_from r) (slots m)) (tree_for other s DEV_TREE r.device (device_items (new_ids m) m.chunks)) (3, omega arith, refl) (device_at o ids now image other m r nodes v)) root_told))))
 
   -- each node that is told is met
   pub all_told : All IsMet nodes
   all_told =
-      let extents : TreeOn = tree_for other s 2 r.extents (extent_items m.chunks m.pieces nodes n) in
+      let extents : TreeOn = tree_for other s EXTENT_TREE r.extents (extent_items m.chunks m.pieces nodes n) in
       subst (All IsMet) (sym stand.nodes_are.is)
-      (all-merge node_cmp IsMet (other_nodes image other m r) (extended o ids now image other m r nodes v)
+      (all-merge node_cmp IsMet (nodes_of_others image other m r) (extended o ids now image other m r nodes v)
       (all-merge node_cmp IsMet (row o ids now image other m r nodes v) (chunked o ids now image other m r nodes v) row_told (tree_told (chunk_slots m) k.chunk_tree (0, omega arith, refl) (chunk_at o ids now image other m r nodes v)))
       (tree_told (drop (extents_from r) (slots m)) extents (2, omega arith, refl) (extents_at o ids now image other m r nodes v)))
 
   -- ---- each node that is met is told
 
-  abbrev met : List Pointer
+  abbrev met : List NodePointer
   met = flat_map (λ (t : TreeOn). t.nodes) (all_trees k)
 
   -- the item of a node that is met
-  pub record IsTold (p : Pointer) : Type 0 where
+  pub record IsTold (p : NodePointer) : Type 0 where
     pub node : TreeNode
     pub there : Contains nodes node
     pub address_is : node.address ≡ p.address
     pub level_is : node.level ≡ p.level
 
-  pub all_met : (t : TreeOn) (p : Pointer) → Contains (all_trees k) t → Contains t.nodes p → IsTold p
+  pub all_met : (t : TreeOn) (p : NodePointer) → Contains (all_trees k) t → Contains t.nodes p → IsTold p
   all_met t p h l =
       let a : ℕ = p.address in
       let among : Contains met p = in_flat_map (λ (x : TreeOn). x.nodes) (all_trees k) t p h l in
-      let one : hits a p.address ≤ sum_by (λ (q : Pointer). hits a q.address) met = part_of_sum (λ (q : Pointer). hits a q.address) met p among in
+      let one : hits a p.address ≤ sum_by (λ (q : NodePointer). hits a q.address) met = part_of_sum (λ (q : NodePointer). hits a q.address) met p among in
       let hit : hits a p.address ≡ 1 = ap (λ (b : Bool). cond b 1 0) (eq-eqb a a refl) in
       let same = nodes_sum o ids now image other m r nodes v (hits a) in
       let at = hit_there a nodes (omega (arith, one, hit, same)) in
       by at.0 at.1 at.2 (All-contains IsMet nodes at.0 all_told at.1) among
     where
-      same_place : (p q : Pointer) → Contains met p → Contains met q → p.address ≡ q.address → p ≡ q
+      same_place : (p q : NodePointer) → Contains met p → Contains met q → p.address ≡ q.address → p ≡ q
       same_place p q x y same =
           ⊎_elim (λ (e : p ≡ q). e) (λ either. ⊎_elim (λ (apart : p.address ≢ q.address). absurd (apart same)) (λ (apart : q.address ≢ p.address). absurd (apart (sym same))) either)
-          (two_cases (λ (u w : Pointer). u.address ≢ w.address) met p q (once o ids now image other m r nodes v) x y)
+          (two_cases (λ (u w : NodePointer). u.address ≢ w.address) met p q (once o ids now image other m r nodes v) x y)
 
       by : (x : TreeNode) → Contains nodes x → x.address ≡ p.address → IsMet x → Contains met p → IsTold p
       by x there same is among =
@@ -160,4 +130,4 @@ module _ (o : Options) (ids : Ids) (now : ℕ) (image other : Image) (m : Making
           let place : x.address ≡ is.pointer.address = ap (λ (y : TreeNode). y.address) is.is in
           let level : x.level ≡ is.pointer.level = ap (λ (y : TreeNode). y.level) is.is in
           let pointer : is.pointer ≡ p = same_place is.pointer p beside among (sym place ∙ same) in
-          record { node = x; there = there; address_is = same; level_is = level ∙ ap (λ (q : Pointer). q.level) pointer }
+          record { node = x; there = there; address_is = same; level_is = level ∙ ap (λ (q : NodePointer). q.level) pointer }

@@ -1,54 +1,10 @@
 -- Each tree of a converted volume is there, and its bootstrap array holds the system chunks.
-use Rattle.std.proofs.Common.{◌≡◌, ◌≤◌, ◌<◌, ℕ, zero, suc, ◌+◌, ◌^◌, ◌-◌, ◌&&◌, ◌||◌, eqb, Bool, true, false, not, List, [], ◌∷◌, ◌++◌, length, get_or, map, refl, sym, ap, subst, ◌∙◌, ⊎_elim, arith}
-use Rattle.std.specs.Prelude.{All, AllPairs, Contains}
-use Rattle.std.specs.List.{list_any}
-use Rattle.std.proofs.lemmas.List.{map-append}
-use Rattle.std.proofs.lemmas.List.Elements.{All-cons, All-nil, Contains-append_cases}
-use Rattle.reiser_volume.proofs.fs_paths.Lists.{from_filter, from_map, in_filter, in_map}
-use Rattle.reiser_volume.specs.outside.History.{Image}
-use Rattle.reiser_volume.specs.vol_block.declared.ids.Ids.{Ids}
-use Rattle.btr_reader.specs.btr_reader_names.Roots.{has_root, is_root_of}
-use Rattle.btr_reader.specs.btr_node.Leaf.{Item}
-use Rattle.btr_reader.specs.Chunks.{system_kind}
-use Rattle.btr_reader.specs.Opening.{IsOpened, boot_chunks, boot_list, chunk_map, chunk_tree, form_of, root_tree}
-use Rattle.btr_reader.specs.declared.chunk.ChunkAt.{ChunkAt}
-use Rattle.btr_check_rules.specs.Recount.{IsRooted, IsTreeOn, Recount, TreeOn, chunks_on, roots_on}
-use Rattle.btr_check_rules.specs.Trees.{AreTrees}
-use Rattle.btr_reader.specs.btr_super.declared.superblock.Super.{Super}
-use Rattle.convert_core.specs.btr_tree.Laws.{GivesItself}
-use Rattle.convert_core.specs.btr_tree.declared.climb.Root.{Root}
-use Rattle.btr_reader.specs.btr_reader_walk.Events.{TreeItem, nodes_in, tree_events}
-use Rattle.btr_reader.specs.btr_reader_walk.Tree.{IsTree, bare_item}
-use Rattle.btr_reader.specs.btr_reader_walk.declared.map.MapRange.{MapRange}
-use Rattle.btr_reader.specs.btr_reader_walk.declared.tree.Form.{Form}
-use Rattle.btr_reader.specs.btr_reader_walk.declared.tree.Pointer.{Pointer}
-use Rattle.convert_core.specs.convert_steps.Making.{IsMaking, Making, chunk_slots, new_ids}
-use Rattle.convert_core.specs.convert_steps.Standing.{HasTrees, file_tree_items, form, image_tree_items, sum_tree_items}
-use Rattle.convert_core.specs.file_items.Small.{relocation_items}
-use Rattle.convert_core.specs.space_items.Extents.{extent_items}
-use Rattle.convert_core.specs.convert_steps.declared.trees.VolumeTrees.{VolumeTrees}
-use Rattle.convert_core.specs.convert_steps.Superblock.{is_system_role, new_super}
-use Rattle.convert_core_laws.specs.reading.Identifiers.{NewIdsFit}
-use Rattle.convert_core_laws.specs.reading.Laws.{MapsChunks}
-use Rattle.convert_core_laws.specs.reading.Opened.{IsNewVolume, ReadsTree, ReadsTrees, boot_part, chunk_at, map_for, other_part, super_for}
+use Rattle.convert_core_laws.proofs.Imports.{◌≡◌, ◌≤◌, ◌<◌, ℕ, zero, suc, ◌+◌, ◌^◌, ◌-◌, ◌&&◌, ◌||◌, eqb, Bool, true, false, not, List, [], ◌∷◌, ◌++◌, length, get_or, map, refl, sym, ap, subst, ◌∙◌, ⊎_elim, arith, All, AllPairs, Contains, list_any, map-append, All-from_recursion, Contains-append_cases, ROOT_ITEM, CHUNK_TREE, CONV_IMAGE_SUBVOL, CSUM_TREE, DATA_RELOC_TREE, DEV_TREE, EXTENT_TREE, FS_TREE, ROOT_TREE, from_filter, from_map, in_filter, in_map, Image, Ids, has_root, is_root_of, Item, system_kind, IsBtrfsOpened, boot_chunks, boot_list, chunk_map, chunk_tree, form_of, root_tree, ChunkAt, IsRooted, IsTreeOn, Recount, TreeOn, chunks_on, root_items_on, AreTrees, KeepTreeRules, Super, GivesItself, Root, TreeItem, nodes_in, walk_events, IsTree, bare_item, MapRange, Form, NodePointer, IsMaking, Making, chunk_slots, new_ids, HasTrees, file_tree_items, form, image_tree_items, sum_tree_items, relocation_items, extent_items, VolumeTrees, is_system_role, new_super, MapsChunks, IsNewVolume, ReadsTree, ReadsTrees, boot_part, chunk_at, map_for, other_part, super_for, two_cases, all_from_contains, chunk_items, chunk_kind, device_items, TreeNode, pointer_to_root, IsChunk, role_of, usable_end, PlannedChunk, Role, System, Metadata, Data, Options, all_at, recount_for, tree_for, trees_for}
 use Rattle.convert_core_laws.proofs.reading.Opening.{maps_chunks, opened}
 use Rattle.convert_core_laws.proofs.reading.Reading.{all_read}
 use Rattle.convert_core_laws.proofs.reading.Stood.{IsRead, read_by}
-use Rattle.convert_core.proofs.extent_pieces.Owning.{two_cases}
-use Rattle.reiser_volume.proofs.reiser_bitmap.Ranges.{all_from_contains}
-use Rattle.convert_core.specs.space_items.Chunks.{chunk_items, chunk_kind, device_items}
-use Rattle.convert_core.specs.space_items.declared.node.TreeNode.{TreeNode}
-use Rattle.convert_core.specs.btr_tree_writer.Trees.{root_pointer}
-use Rattle.convert_core.specs.unit_plan.Chunks.{IsChunk, role_of, usable_end}
-use Rattle.convert_core.specs.unit_plan.declared.chunk.Chunk.{Chunk}
-use Rattle.convert_core.specs.unit_plan.declared.chunk.Role.{Role}
-use Rattle.convert_core.specs.unit_plan.declared.chunk.Role.TheVariants.{System, Metadata, Data}
-use Rattle.convert_core.specs.convert_options.declared.options.Options.{Options}
-use Rattle.convert_core.proofs.extent_pieces.Lists.{all_at}
-use Rattle.convert_core_laws.specs.soundness.Laws.{ConvertedTreesAreSound}
-use Rattle.convert_core_laws.specs.soundness.Recounted.{recount_for, tree_for, trees_for}
 use Rattle.convert_core_laws.proofs.soundness.ChunkList.{Known, chunks_added}
-use Rattle.convert_core_laws.proofs.soundness.Recounting.{form_is, volume_for}
+use Rattle.convert_core_laws.proofs.soundness.Recounting.{form_is}
 use Rattle.convert_core_laws.proofs.soundness.Stripes.{small}
 
 -- ---- numbers of trees
@@ -72,14 +28,12 @@ six_once a b c d e f p q x y z =
     let last : List TreeOn = f ∷ [] in
     two a b (c ∷ (d ∷ (e ∷ last))) p (two b c (d ∷ (e ∷ last)) q (two c d (e ∷ last) x (two d e last y (two e f [] z (one f)))))
 
-pub six_all : (P : TreeOn → Type 0) (a b c d e f : TreeOn) → P a → P b → P c → P d → P e → P f → All P (a ∷ (b ∷ (c ∷ (d ∷ (e ∷ (f ∷ []))))))
-six_all P a b c d e f p q x y z w =
-    let last : List TreeOn = f ∷ [] in
-    All-cons P a (b ∷ (c ∷ (d ∷ (e ∷ last)))) p (All-cons P b (c ∷ (d ∷ (e ∷ last))) q (All-cons P c (d ∷ (e ∷ last)) x (All-cons P d (e ∷ last) y (All-cons P e last z (All-cons P f [] w (All-nil P))))))
+pub six_all : {X : Type 0} (P : X → Type 0) (a b c d e f : X) → P a → P b → P c → P d → P e → P f → All P (a ∷ (b ∷ (c ∷ (d ∷ (e ∷ (f ∷ []))))))
+six_all P a b c d e f p q x y z w = All-from_recursion P (a ∷ (b ∷ (c ∷ (d ∷ (e ∷ (f ∷ [])))))) (p, (q, (x, (y, (z, (w, tt))))))
 
 -- which trees have a root item is told by the items without their leaves
 abbrev is_root : ℕ → Item → Bool
-is_root number i = eqb i.0.objectid number && eqb i.0.kind 132
+is_root number i = eqb i.0.objectid number && eqb i.0.kind ROOT_ITEM
 
 bare_roots : (number : ℕ) (items : List TreeItem) → has_root items number ≡ list_any (is_root number) (map bare_item items)
 bare_roots number [] = refl
@@ -101,11 +55,11 @@ numbers_are false false false false false false true = refl
 numbers_are false false false false false false false = refl
 
 module _ (m : Making) (r : VolumeTrees) (nodes : List TreeNode) where
-  chunk_root_is : (chunk_tree (super_for m r nodes)).root ≡ root_pointer r.chunk
+  chunk_root_is : (chunk_tree (super_for m r nodes)).root ≡ pointer_to_root r.chunk
   unfolding new_super
   chunk_root_is = refl
 
-  root_root_is : (root_tree (super_for m r nodes)).root ≡ root_pointer r.root
+  root_root_is : (root_tree (super_for m r nodes)).root ≡ pointer_to_root r.root
   unfolding new_super
   root_root_is = refl
 
@@ -131,7 +85,7 @@ module _ (o : Options) (ids : Ids) (now : ℕ) (image other : Image) (m : Making
   pub map_is : chunk_map other (super_for m r nodes) ≡ map_for m.chunks
   map_is = maps.map_is
 
-  opens : IsOpened other (super_for m r nodes) (chunk_map other (super_for m r nodes))
+  opens : IsBtrfsOpened other (super_for m r nodes) (chunk_map other (super_for m r nodes))
   opens = let is = opened o ids now image other m r nodes v in record { sound = is.sound; super = is.super; map_is = refl }
 
   reads : ReadsTrees image other (super_for m r nodes) (chunk_map other (super_for m r nodes)) m r nodes
@@ -140,7 +94,7 @@ module _ (o : Options) (ids : Ids) (now : ℕ) (image other : Image) (m : Making
   rooted_at : (number : ℕ) (root : Root) (items : List Item) → ReadsTree other (super_for m r nodes) (chunk_map other (super_for m r nodes)) number root items → IsRooted other (super_for m r nodes) (tree_for other (super_for m r nodes) number root items)
   rooted_at number root items tree = record {
     item = tree.item;
-    pointer = root_pointer root;
+    pointer = pointer_to_root root;
     last = tree.has_item;
     pointer_is = tree.leads;
     tree = record { items_are = record { sound = tree.sound; items_are = tree.items_are }; nodes_are = refl };
@@ -150,17 +104,17 @@ module _ (o : Options) (ids : Ids) (now : ℕ) (image other : Image) (m : Making
   chunk_tree_on =
       let gives : All (GivesItself own m.options.nodesize) (chunk_slots m) =
       all_from_contains (GivesItself own m.options.nodesize) (chunk_slots m) (λ a h. subst (λ (rs : List MapRange). GivesItself rs m.options.nodesize a) (sym map_is) (maps.own.chunk_nodes a h)) in
-      let read : IsRead other own (form m) (root_pointer r.chunk) 3 (chunk_items (new_ids m) m.volume.sup.blocks m.chunks) =
-      read_by other (form m) 3 (chunk_slots m) (chunk_items (new_ids m) m.volume.sup.blocks m.chunks) r.chunk stand.chunk own gives in
-      let is : IsTree other own (form m) (root_pointer r.chunk) 3 (chunk_items (new_ids m) m.volume.sup.blocks m.chunks) = record { sound = read.sound; items_are = read.items_are } in
-      let here : IsTree other own (form_of s) (root_pointer r.chunk) 3 (chunk_items (new_ids m) m.volume.sup.blocks m.chunks) =
-      subst (λ (f : Form). IsTree other own f (root_pointer r.chunk) 3 (chunk_items (new_ids m) m.volume.sup.blocks m.chunks)) (sym (form_is m r nodes)) is in
-      subst (λ (p : Pointer). IsTreeOn other s p k.chunk_tree) (sym (chunk_root_is m r nodes)) (record { items_are = here; nodes_are = refl })
+      let read : IsRead other own (form m) (pointer_to_root r.chunk) CHUNK_TREE (chunk_items (new_ids m) m.volume.sup.blocks m.chunks) =
+      read_by other (form m) CHUNK_TREE (chunk_slots m) (chunk_items (new_ids m) m.volume.sup.blocks m.chunks) r.chunk stand.chunk own gives in
+      let is : IsTree other own (form m) (pointer_to_root r.chunk) CHUNK_TREE (chunk_items (new_ids m) m.volume.sup.blocks m.chunks) = record { sound = read.sound; items_are = read.items_are } in
+      let here : IsTree other own (form_of s) (pointer_to_root r.chunk) CHUNK_TREE (chunk_items (new_ids m) m.volume.sup.blocks m.chunks) =
+      subst (λ (f : Form). IsTree other own f (pointer_to_root r.chunk) CHUNK_TREE (chunk_items (new_ids m) m.volume.sup.blocks m.chunks)) (sym (form_is m r nodes)) is in
+      subst (λ (p : NodePointer). IsTreeOn other s p k.chunk_tree) (sym (chunk_root_is m r nodes)) (record { items_are = here; nodes_are = refl })
 
   root_tree_on : IsTreeOn other (super_for m r nodes) (root_tree (super_for m r nodes)).root k.root_tree
   root_tree_on = record {
     items_are = record { sound = reads.roots_sound; items_are = reads.roots_are };
-    nodes_are = ap (λ (p : Pointer). nodes_in (tree_events other own (form_of s) p 1)) (root_root_is m r nodes);
+    nodes_are = ap (λ (p : NodePointer). nodes_in (walk_events other own (form_of s) p ROOT_TREE)) (root_root_is m r nodes);
   }
 
   abbrev others : List TreeOn
@@ -168,22 +122,22 @@ module _ (o : Options) (ids : Ids) (now : ℕ) (image other : Image) (m : Making
 
   all_rooted : All (IsRooted other (super_for m r nodes)) others
   all_rooted =
-      six_all (IsRooted other s) (tree_for other s 2 r.extents (extent_items m.chunks m.pieces nodes m.options.nodesize)) (tree_for other s 4 r.device (device_items (new_ids m) m.chunks))
-      (tree_for other s 5 r.files (file_tree_items image m)) (tree_for other s 7 r.sums (sum_tree_items other m)) (tree_for other s 256 r.image (image_tree_items m)) (tree_for other s (2 ^ 64 - 9) r.relocation (relocation_items m.now))
-      (rooted_at 2 r.extents (extent_items m.chunks m.pieces nodes m.options.nodesize) reads.extents) (rooted_at 4 r.device (device_items (new_ids m) m.chunks) reads.device)
-      (rooted_at 5 r.files (file_tree_items image m) reads.files) (rooted_at 7 r.sums (sum_tree_items other m) reads.sums) (rooted_at 256 r.image (image_tree_items m) reads.saved)
-      (rooted_at (2 ^ 64 - 9) r.relocation (relocation_items m.now) reads.relocation)
+      six_all (IsRooted other s) (tree_for other s EXTENT_TREE r.extents (extent_items m.chunks m.pieces nodes m.options.nodesize)) (tree_for other s DEV_TREE r.device (device_items (new_ids m) m.chunks))
+      (tree_for other s FS_TREE r.files (file_tree_items image m)) (tree_for other s CSUM_TREE r.sums (sum_tree_items other m)) (tree_for other s CONV_IMAGE_SUBVOL r.image (image_tree_items m)) (tree_for other s DATA_RELOC_TREE r.relocation (relocation_items m.now))
+      (rooted_at EXTENT_TREE r.extents (extent_items m.chunks m.pieces nodes m.options.nodesize) reads.extents) (rooted_at DEV_TREE r.device (device_items (new_ids m) m.chunks) reads.device)
+      (rooted_at FS_TREE r.files (file_tree_items image m) reads.files) (rooted_at CSUM_TREE r.sums (sum_tree_items other m) reads.sums) (rooted_at CONV_IMAGE_SUBVOL r.image (image_tree_items m) reads.saved)
+      (rooted_at DATA_RELOC_TREE r.relocation (relocation_items m.now) reads.relocation)
 
-  all_once : AllPairs (λ t u. t.number < u.number) others
+  pub all_once : AllPairs (λ t u. t.number < u.number) others
   all_once =
-      six_once (tree_for other s 2 r.extents (extent_items m.chunks m.pieces nodes m.options.nodesize)) (tree_for other s 4 r.device (device_items (new_ids m) m.chunks))
-      (tree_for other s 5 r.files (file_tree_items image m)) (tree_for other s 7 r.sums (sum_tree_items other m)) (tree_for other s 256 r.image (image_tree_items m)) (tree_for other s (2 ^ 64 - 9) r.relocation (relocation_items m.now))
+      six_once (tree_for other s EXTENT_TREE r.extents (extent_items m.chunks m.pieces nodes m.options.nodesize)) (tree_for other s DEV_TREE r.device (device_items (new_ids m) m.chunks))
+      (tree_for other s FS_TREE r.files (file_tree_items image m)) (tree_for other s CSUM_TREE r.sums (sum_tree_items other m)) (tree_for other s CONV_IMAGE_SUBVOL r.image (image_tree_items m)) (tree_for other s DATA_RELOC_TREE r.relocation (relocation_items m.now))
       (omega arith) (omega arith) (omega arith) (omega arith) (omega arith)
 
-  all_named : (number : ℕ) → list_any (λ (t : TreeOn). eqb t.number number) others ≡ has_root (roots_on other (super_for m r nodes)) number
+  all_named : (number : ℕ) → list_any (λ (t : TreeOn). eqb t.number number) others ≡ has_root (root_items_on other (super_for m r nodes)) number
   all_named number =
-      numbers_are (eqb 2 number) (eqb 4 number) (eqb 5 number) (eqb 7 number) (eqb 256 number) (eqb (2 ^ 64 - 9) number) (eqb 6 number)
-      ∙ sym (bare_roots number (roots_on other s) ∙ ap (list_any (is_root number)) reads.roots_are)
+      numbers_are (eqb 2 number) (eqb 4 number) (eqb 5 number) (eqb 7 number) (eqb 256 number) (eqb DATA_RELOC_TREE number) (eqb 6 number)
+      ∙ sym (bare_roots number (root_items_on other s) ∙ ap (list_any (is_root number)) reads.roots_are)
 
   -- ---- the chunks
 
@@ -193,26 +147,26 @@ module _ (o : Options) (ids : Ids) (now : ℕ) (image other : Image) (m : Making
   known : Known (new_ids m) (boot_part m.chunks) v.ids_.device m.chunks
   known = record {
     small = small o ids now image other m r nodes v;
-    booted = λ c h t. in_filter (λ (d : Chunk). is_system_role d.role) m.chunks c h t;
+    booted = λ c h t. in_filter (λ (d : PlannedChunk). is_system_role d.role) m.chunks c h t;
     others = λ c d h f k e. elsewhere c d h f k e;
   }
     where
-      some : (c : Chunk) → Contains m.chunks c → 1 ≤ c.length
+      some : (c : PlannedChunk) → Contains m.chunks c → 1 ≤ c.length
       some c h = (all_at (IsChunk (role_of m.plan m.volume.sup.blocks) (usable_end m.volume.sup.blocks)) m.chunks c making.chunks_are.each h).not_empty
 
       differ : (b : Bool) → b ≡ true → b ≡ false → ⊥
       differ true t f = cc f
       differ false t f = cc t
 
-      elsewhere : (c d : Chunk) → Contains m.chunks c → is_system_role c.role ≡ false → Contains (boot_part m.chunks) d → c.start ≡ d.start → ⊥
+      elsewhere : (c d : PlannedChunk) → Contains m.chunks c → is_system_role c.role ≡ false → Contains (boot_part m.chunks) d → c.start ≡ d.start → ⊥
       elsewhere c d h f among e =
-          let at = from_filter (λ (x : Chunk). is_system_role x.role) m.chunks d among in
+          let at = from_filter (λ (x : PlannedChunk). is_system_role x.role) m.chunks d among in
           let first = some c h in
           let second = some d at.0 in
           ⊎_elim
-          (λ (same : c ≡ d). differ (is_system_role d.role) at.1 (subst (λ (x : Chunk). is_system_role x.role ≡ false) same f))
+          (λ (same : c ≡ d). differ (is_system_role d.role) at.1 (subst (λ (x : PlannedChunk). is_system_role x.role ≡ false) same f))
           (λ apart. ⊎_elim (λ low. omega (arith, low, e, first)) (λ high. omega (arith, high, e, second)) apart)
-          (two_cases (λ (x y : Chunk). x.start + x.length ≤ y.start) m.chunks c d making.chunks_are.ascending h at.0)
+          (two_cases (λ (x y : PlannedChunk). x.start + x.length ≤ y.start) m.chunks c d making.chunks_are.ascending h at.0)
 
   chunks_are : k.chunks ≡ chunks_on (boot_list (boot_chunks (super_for m r nodes))) k.chunk_tree.items
   chunks_are =
@@ -229,7 +183,7 @@ module _ (o : Options) (ids : Ids) (now : ℕ) (image other : Image) (m : Making
       (in_map (chunk_at (new_ids m)) (boot_part m.chunks) at.0
       (⊎_elim (λ (first : Contains (boot_part m.chunks) at.0). first)
       (λ (second : Contains (other_part m.chunks) at.0).
-      absurd (no_system at.0.role (from_filter (λ (d : Chunk). not (is_system_role d.role)) m.chunks at.0 second).1 (ap (λ (x : ChunkAt). x.chunk.kind) at.2 ∙ is)))
+      absurd (no_system at.0.role (from_filter (λ (d : PlannedChunk). not (is_system_role d.role)) m.chunks at.0 second).1 (ap (λ (x : ChunkAt). x.chunk.kind) at.2 ∙ is)))
       (Contains-append_cases (boot_part m.chunks) (other_part m.chunks) at.0 at.1))))
     where
       no_system : (role : Role) → not (is_system_role role) ≡ true → chunk_kind role ≡ 2 → ⊥
@@ -237,8 +191,8 @@ module _ (o : Options) (ids : Ids) (now : ℕ) (image other : Image) (m : Making
       no_system Metadata t e = omega (arith, e)
       no_system Data t e = omega (arith, e)
 
-  pub trees : AreTrees other k
-  trees = record {
+  pub trees : KeepTreeRules k → AreTrees other k
+  trees rules = record {
     opened = opens;
     chunk_number = refl;
     chunk_tree_is = chunk_tree_on;
@@ -249,8 +203,5 @@ module _ (o : Options) (ids : Ids) (now : ℕ) (image other : Image) (m : Making
     each = all_named;
     chunks_are = chunks_are;
     boot = system_booted;
+    rules = rules;
   }
-
-pub converted_trees_are_sound : NewIdsFit → ConvertedTreesAreSound
-converted_trees_are_sound fit = λ o ids now image other m r nodes is size low are has bytes.
-    trees o ids now image other m r nodes (volume_for fit o ids now image other m r nodes is size are has)

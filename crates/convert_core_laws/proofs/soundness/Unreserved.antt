@@ -1,38 +1,8 @@
 -- No extent of a converted volume touches a reserved block.
-use Rattle.std.proofs.Common.{◌≡◌, ◌≤◌, ◌<◌, ℕ, ◌+◌, ◌*◌, ◌/◌, ◌%◌, ◌^◌, Bool, List, ◌++◌, length, map, Some, refl, sym, ap, subst, ◌∙◌, ⊎_elim, arith}
-use Rattle.std.specs.Prelude.{Contains}
-use Rattle.std.proofs.lemmas.Simd.{map-map}
-use Rattle.reiser_volume.specs.vol_block.Volume.{IsReserved}
-use Rattle.reiser_volume.specs.outside.History.{Image}
-use Rattle.reiser_volume.specs.vol_block.declared.ids.Ids.{Ids}
-use Rattle.btr_reader.specs.btr_node.NodeSize.{IsNodeSize}
-use Rattle.btr_reader.specs.Chunks.{range_of}
-use Rattle.btr_check_rules.specs.Places.{AreUnreserved, IsExtent, a_node, some_data}
-use Rattle.btr_check_rules.specs.Recount.{Recount, Span}
-use Rattle.convert_core.specs.btr_tree.Writing.{IsInNode, IsInSlots}
-use Rattle.btr_reader.specs.btr_reader_walk.Map.{place}
-use Rattle.btr_reader.specs.btr_reader_walk.declared.map.MapRange.{MapRange}
-use Rattle.btr_reader.specs.btr_reader_walk.declared.tree.Pointer.{Pointer}
-use Rattle.convert_core.specs.convert_steps.Making.{IsMaking, Making, chunk_slots, new_ids, slots}
-use Rattle.convert_core.specs.convert_steps.declared.trees.VolumeTrees.{VolumeTrees}
-use Rattle.convert_core.proofs.Moving.{metadata_free, system_free}
-use Rattle.convert_core.proofs.Reserved.{piece_apart}
-use Rattle.convert_core.proofs.Slots.{slot_unit}
-use Rattle.convert_core_laws.specs.reading.Identifiers.{NewIdsFit}
-use Rattle.convert_core_laws.specs.reading.Opened.{IsNewVolume, boot_part, chunk_at, other_part}
+use Rattle.convert_core_laws.proofs.Imports.{◌≡◌, ◌≤◌, ◌<◌, ℕ, ◌+◌, ◌*◌, ◌/◌, ◌%◌, ◌^◌, Bool, List, ◌++◌, length, map, Some, refl, sym, ap, subst, ◌∙◌, ⊎_elim, arith, Contains, map-map, IsReserved, Image, Ids, IsNodeSize, range_of, AreUnreserved, IsExtent, a_node, some_data, Recount, Span, IsInNode, IsInSlots, place, MapRange, NodePointer, IsMaking, Making, chunk_slots, new_ids, slots, VolumeTrees, metadata_free, system_free, piece_apart, slot_unit, NewIdsFit, IsNewVolume, boot_part, chunk_at, other_part, any_from, used_of, TreeNode, blocks_are, node_places, places_in, Options, Piece, from_flat_map, from_map, ConvertedReservedAreSound, recount_for}
 use Rattle.convert_core_laws.proofs.reading.Mapped.{in_parts, itself}
 use Rattle.convert_core_laws.proofs.reading.Places.{HasBlock, chunk_slot_block, piece_block, slot_block}
 use Rattle.convert_core_laws.proofs.reading.Superblock.{size}
-use Rattle.convert_core.proofs.extent_pieces.Lists.{any_from}
-use Rattle.reiser_volume.specs.Volume.{used_of}
-use Rattle.convert_core.specs.space_items.declared.node.TreeNode.{TreeNode}
-use Rattle.convert_trees_laws.proofs.Booting.{blocks_are}
-use Rattle.convert_core.specs.unit_plan.Places.{node_places, places_in}
-use Rattle.convert_core.specs.convert_options.declared.options.Options.{Options}
-use Rattle.convert_core.specs.unit_plan.declared.piece.Piece.{Piece}
-use Rattle.reiser_volume.proofs.fs_paths.Lists.{from_flat_map, from_map}
-use Rattle.convert_core_laws.specs.soundness.Laws.{ConvertedReservedAreSound}
-use Rattle.convert_core_laws.specs.soundness.Recounted.{recount_for}
 use Rattle.convert_core_laws.proofs.soundness.AllUses.{data_is}
 use Rattle.convert_core_laws.proofs.soundness.Nodes.{LiesAt, node_lies, of_chunks, of_others}
 use Rattle.convert_core_laws.proofs.soundness.Recounting.{nodesize_is, total_is, volume_for}
@@ -57,6 +27,21 @@ module _ (n : ℕ) (fit : IsNodeSize n) where
           rest')
           rest)
           fit
+
+  -- and so at one of 4096
+  pub place_whole : (units : List ℕ) (a : ℕ) → Contains (node_places n units) a → a % 4096 ≡ 0
+  place_whole units a h =
+      let whole = place_aligned units a h in
+      ⊎_elim (λ (e : n ≡ 4096). by 4096 e (λ w. omega (arith, w)) whole)
+      (λ rest. ⊎_elim (λ (e : n ≡ 8192). by 8192 e (λ w. omega (arith, w)) whole)
+      (λ rest'. ⊎_elim (λ (e : n ≡ 16384). by 16384 e (λ w. omega (arith, w)) whole)
+      (λ rest''. ⊎_elim (λ (e : n ≡ 32768). by 32768 e (λ w. omega (arith, w)) whole) (λ (e : n ≡ 65536). by 65536 e (λ w. omega (arith, w)) whole) rest'')
+      rest')
+      rest)
+      fit
+    where
+      by : (x : ℕ) → n ≡ x → (a % x ≡ 0 → a % 4096 ≡ 0) → a % n ≡ 0 → a % 4096 ≡ 0
+      by x e is whole = is (subst (λ (y : ℕ). a % y ≡ 0) e whole)
 
   -- an address in a node lies in one of its blocks
   pub node_block : (a b : ℕ) → a % n ≡ 0 → a ≤ b → b < a + n → IsInNode n a (b / 4096)
@@ -123,7 +108,7 @@ module _ (o : Options) (ids : Ids) (now : ℕ) (image other : Image) (m : Making
 
   pub good : (span : Span) (kind a : ℕ) → IsExtent k span kind → span.start ≤ a → a < span.start + span.length → IsGood (a / 4096)
   good span kind a (a_node t h node is) low high =
-      let p : Pointer = node.0 in
+      let p : NodePointer = node.0 in
       let e : span ≡ record { start = p.address; length = k.super.nodesize } = node.2 in
       let start : span.start ≡ p.address = ap (λ (x : Span). x.start) e in
       let long : span.length ≡ m.options.nodesize = ap (λ (x : Span). x.length) e ∙ nodesize_is m r nodes in

@@ -1,41 +1,8 @@
 -- Each piece of data is used by a tree.
-use Rattle.std.proofs.Common.{◌≡◌, ◌<◌, ℕ, ◌*◌, ◌^◌, eqb, Bool, true, false, List, [], ◌∷◌, filter, Option, Some, None, refl, sym, ap, subst, ◌∙◌, arith}
-use Rattle.std.specs.Prelude.{Contains, if◌then◌else◌, is_some}
-use Rattle.std.specs.List.{AllByRecursion}
-use Rattle.std.specs.Option.{option_map_or}
-use Rattle.std.proofs.lemmas.Bool.{eq-eqb}
-use Rattle.std.proofs.lemmas.List.Elements.{Contains-append_right}
-use Rattle.reiser_volume.proofs.fs_paths.Lists.{from_filter, in_filter, in_flat_map, in_map}
-use Rattle.indexmap.specs.IndexMap.{keys}
-use Rattle.reiser_volume.specs.outside.History.{Image}
-use Rattle.btr_reader.specs.btr_keys.FileExtent.{file_extent_bytes, file_extent_of}
-use Rattle.btr_reader.specs.btr_node.Leaf.{Item}
-use Rattle.btr_reader.specs.btr_node.NodeSize.{IsNodeSize}
-use Rattle.btr_check_rules.specs.Recount.{DataUse, IsData, Recount, TreeOn, all_trees, data_uses, use_in, uses_in}
+use Rattle.convert_core_laws.proofs.Imports.{◌≡◌, ◌<◌, ℕ, ◌*◌, ◌^◌, eqb, Bool, true, false, List, [], ◌∷◌, filter, Option, Some, None, refl, sym, ap, subst, ◌∙◌, arith, Contains, if◌then◌else◌, is_some, AllByRecursion, option_map_or, eq-eqb, Contains-append_right, CONV_IMAGE_SUBVOL, FS_TREE, from_filter, in_filter, in_flat_map, in_map, keys, Image, file_extent_bytes, file_extent_of, Item, IsNodeSize, DataUse, IsData, Recount, TreeOn, all_trees, data_uses, use_in, uses_in, IsMaking, Making, HasExtents, HasPieces, made_from, file_tree_items, image_tree_items, VolumeTrees, super_for, numbered, extents_at, file_block, is_owned_by, pieces_of, pieces_of_volume, piece_bytes, source_block, image_head, image_items, Source, file_extent_items, inline_in, ino_of, size_in, fs_tree_items, FilesAreHeld, can_move, has_bytes, extent_item, inline_extent, regular_extent, target_bytes, items_of, ascending_filter, contains_head, contains_tail, ObjectKey, TreeNode, Piece, recount_for, tree_for}
 use Rattle.convert_core_laws.proofs.Owned.{extents_found}
 use Rattle.convert_core_laws.proofs.Pieces.{one_of_inode}
 use Rattle.convert_core_laws.proofs.ByteReading.{is_extent}
-use Rattle.convert_core.specs.convert_steps.Making.{IsMaking, Making}
-use Rattle.convert_core.specs.convert_steps.Source.{HasExtents, HasPieces, made_from}
-use Rattle.convert_core.specs.convert_steps.Standing.{file_tree_items, image_tree_items}
-use Rattle.convert_core.specs.convert_steps.declared.trees.VolumeTrees.{VolumeTrees}
-use Rattle.convert_core_laws.specs.reading.Opened.{super_for}
-use Rattle.convert_core.proofs.extent_pieces.Named.{numbered}
-use Rattle.convert_core.specs.file_items.Extents.{extents_at, file_block, is_owned_by, pieces_of, pieces_of_volume, piece_bytes, source_block}
-use Rattle.convert_core.specs.file_items.Small.{image_head, image_items}
-use Rattle.convert_core.specs.file_items.Tree.{Source, extent_items, inline_in, number_of, size_in, tree_items}
-use Rattle.convert_trees_laws.specs.Held.{FilesAreHeld}
-use Rattle.convert_core.proofs.Moving.{can_move}
-use Rattle.reiser_volume.specs.fs_rows.Kinds.{has_bytes}
-use Rattle.convert_core.specs.btr_item_list.Extents.{extent_item, inline_extent, regular_extent}
-use Rattle.reiser_volume.specs.reiser_volume_files.Bytes.{target_bytes}
-use Rattle.reiser_volume.specs.reiser_volume_objects.Keys.{items_of}
-use Rattle.convert_core.proofs.btr_item_list.Sorting.{ascending_filter}
-use Rattle.reiser_volume.proofs.reiser_bitmap.Ranges.{contains_head, contains_tail}
-use Rattle.reiser_volume.specs.reiser_volume_objects.declared.key.ObjectKey.{ObjectKey}
-use Rattle.convert_core.specs.space_items.declared.node.TreeNode.{TreeNode}
-use Rattle.convert_core.specs.unit_plan.declared.piece.Piece.{Piece}
-use Rattle.convert_core_laws.specs.soundness.Recounted.{recount_for, tree_for}
 use Rattle.convert_core_laws.proofs.soundness.AllUses.{from_is, source_low, span_of}
 use Rattle.convert_core_laws.proofs.soundness.Uses.{owner_low, piece_use, use_at, uses_of}
 
@@ -48,12 +15,12 @@ unfolding image_items
 behind_head blocks pieces datasum now i h = Contains-append_right (image_head blocks (piece_bytes (pieces_of_volume pieces)) datasum now) (extents_at 257 source_block (pieces_of_volume pieces)) i h
 
 -- the extents of a file that is not inline are those of its pieces
-in_extents : (s : Source) (key : ObjectKey) (item : Item) → inline_in s key ≡ false → Contains (extents_at (number_of s key) file_block (pieces_of s.pieces (number_of s key))) item → Contains (extent_items s key) item
-unfolding extent_items
+in_extents : (s : Source) (key : ObjectKey) (item : Item) → inline_in s key ≡ false → Contains (extents_at (ino_of s key) file_block (pieces_of s.pieces (ino_of s key))) item → Contains (file_extent_items s key) item
+unfolding file_extent_items
 in_extents s key item off h = by (inline_in s key) off
   where
     by : (b : Bool) → b ≡ false
-        → Contains (if b then extent_item (number_of s key) 0 (inline_extent (target_bytes (items_of key s.items) (size_in s key))) ∷ [] else extents_at (number_of s key) file_block (pieces_of s.pieces (number_of s key))) item
+        → Contains (if b then extent_item (ino_of s key) 0 (inline_extent (target_bytes (items_of key s.items) (size_in s key))) ∷ [] else extents_at (ino_of s key) file_block (pieces_of s.pieces (ino_of s key))) item
     by true f = absurd (cc f)
     by false f = h
 
@@ -73,10 +40,10 @@ module _ (image : Image) (m : Making) (made : IsMaking image m) (size : IsNodeSi
     k = recount_for image other m r nodes
 
     abbrev files : TreeOn
-    files = tree_for other (super_for m r nodes) 5 r.files (file_tree_items image m)
+    files = tree_for other (super_for m r nodes) FS_TREE r.files (file_tree_items image m)
 
     abbrev saved : TreeOn
-    saved = tree_for other (super_for m r nodes) 256 r.image (image_tree_items m)
+    saved = tree_for other (super_for m r nodes) CONV_IMAGE_SUBVOL r.image (image_tree_items m)
 
     files_there : Contains (all_trees k) files
     files_there = (4, omega arith, refl)
@@ -90,7 +57,7 @@ module _ (image : Image) (m : Making) (made : IsMaking image m) (size : IsNodeSi
         subst (λ (l : List DataUse). Contains l (use_at tree inode block p)) (sym (piece_use image m made tree inode block p h low)) (contains_head (use_at tree inode block p) [])
 
     -- by the saved image
-    pub saved_use : (p : Piece) → Contains m.pieces p → is_some p.from ≡ true → Contains (data_uses k) (use_at 256 257 (source_block p) p)
+    pub saved_use : (p : Piece) → Contains m.pieces p → is_some p.from ≡ true → Contains (data_uses k) (use_at CONV_IMAGE_SUBVOL 257 (source_block p) p)
     saved_use p h t =
         let some : List Piece = filter (λ (q : Piece). is_some q.from) m.pieces in
         let listed : Contains (pieces_of_volume m.pieces) p =
@@ -101,38 +68,38 @@ module _ (image : Image) (m : Making) (made : IsMaking image m) (size : IsNodeSi
         let there : Contains (image_tree_items m) i =
         behind_head m.volume.sup.blocks m.pieces m.options.datasum m.now i (in_map (λ (q : Piece). extent_item 257 (source_block q) (regular_extent q.place q.count)) (pieces_of_volume m.pieces) p listed) in
         let low = source_low image m made size p h (from_is image m made size p t) in
-        in_flat_map uses_in (all_trees k) saved (use_at 256 257 (source_block p) p) saved_there
-        (uses_of saved (use_at 256 257 (source_block p) p) i there refl (one_use 256 257 (source_block p) p h (omega (arith, low))))
+        in_flat_map uses_in (all_trees k) saved (use_at CONV_IMAGE_SUBVOL 257 (source_block p) p) saved_there
+        (uses_of saved (use_at CONV_IMAGE_SUBVOL 257 (source_block p) p) i there refl (one_use CONV_IMAGE_SUBVOL 257 (source_block p) p h (omega (arith, low))))
 
     -- by the file that owns it
-    pub file_use : (p : Piece) (i b : ℕ) → Contains m.pieces p → p.owner ≡ Some (i, b) → Contains (data_uses k) (use_at 5 i b p)
+    pub file_use : (p : Piece) (i b : ℕ) → Contains m.pieces p → p.owner ≡ Some (i, b) → Contains (data_uses k) (use_at FS_TREE i b p)
     file_use p i b h own =
         let at = numbered image (keys m.volume.named) (record { accepted = of.accepted; are_keys = of.opened.are_keys; ascend = of.opened.ascends }) in
         let w = (held m.volume image m.options m.plan m.pieces of).each p i b h own in
         let key : ObjectKey = w.0 in
         let ext : HasExtents s key = w.1 in
-        let number : number_of s key ≡ i = w.2 in
+        let number : ino_of s key ≡ i = w.2 in
         let block : file_block p ≡ b = ap (λ (x : Option (ℕ × ℕ)). option_map_or (λ y. y.1) x 0) own in
-        let mine : p.owner ≡ Some (number_of s key, file_block p) =
-        own ∙ (ap (λ (x : ℕ). let y : Option (ℕ × ℕ) = Some (x, b) in y) (sym number) ∙ ap (λ (x : ℕ). let y : Option (ℕ × ℕ) = Some (number_of s key, x) in y) (sym block)) in
-        let test : is_owned_by (number_of s key) p ≡ true = ap (λ (x : Option (ℕ × ℕ)). option_map_or (λ y. eqb y.0 (number_of s key)) x false) mine ∙ eq-eqb (number_of s key) (number_of s key) refl in
-        let listed : Contains (pieces_of m.pieces (number_of s key)) p =
-        one_of_inode (Contains (pieces_of m.pieces (number_of s key))) m.pieces (number_of s key) p (all_self (Contains (pieces_of m.pieces (number_of s key))) (pieces_of m.pieces (number_of s key)) (λ x l. l)) h test in
-        let item : Item = extent_item (number_of s key) (file_block p) (regular_extent p.place p.count) in
-        let there : Contains (extent_items s key) item = in_extents s key item ext.not_inline (in_map (λ (q : Piece). extent_item (number_of s key) (file_block q) (regular_extent q.place q.count)) (pieces_of m.pieces (number_of s key)) p listed) in
-        let among : Contains (tree_items s) item =
-        (from_filter (is_extent (number_of s key)) (tree_items s) item
+        let mine : p.owner ≡ Some (ino_of s key, file_block p) =
+        own ∙ (ap (λ (x : ℕ). let y : Option (ℕ × ℕ) = Some (x, b) in y) (sym number) ∙ ap (λ (x : ℕ). let y : Option (ℕ × ℕ) = Some (ino_of s key, x) in y) (sym block)) in
+        let test : is_owned_by (ino_of s key) p ≡ true = ap (λ (x : Option (ℕ × ℕ)). option_map_or (λ y. eqb y.0 (ino_of s key)) x false) mine ∙ eq-eqb (ino_of s key) (ino_of s key) refl in
+        let listed : Contains (pieces_of m.pieces (ino_of s key)) p =
+        one_of_inode (Contains (pieces_of m.pieces (ino_of s key))) m.pieces (ino_of s key) p (all_self (Contains (pieces_of m.pieces (ino_of s key))) (pieces_of m.pieces (ino_of s key)) (λ x l. l)) h test in
+        let item : Item = extent_item (ino_of s key) (file_block p) (regular_extent p.place p.count) in
+        let there : Contains (file_extent_items s key) item = in_extents s key item ext.not_inline (in_map (λ (q : Piece). extent_item (ino_of s key) (file_block q) (regular_extent q.place q.count)) (pieces_of m.pieces (ino_of s key)) p listed) in
+        let among : Contains (fs_tree_items s) item =
+        (from_filter (is_extent (ino_of s key)) (fs_tree_items s) item
         (subst (λ (l : List Item). Contains l item) (sym (extents_found s at.0 at.1 key ext.named (ap has_bytes ext.file))) there)).0 in
-        let low = owner_low image m made p (number_of s key) h mine in
-        let told : Contains (data_uses k) (use_at 5 (number_of s key) (file_block p) p) =
-        in_flat_map uses_in (all_trees k) files (use_at 5 (number_of s key) (file_block p) p) files_there
-        (uses_of files (use_at 5 (number_of s key) (file_block p) p) item among refl (one_use 5 (number_of s key) (file_block p) p h (omega (arith, low)))) in
-        subst (λ (x : ℕ). Contains (data_uses k) (use_at 5 i x p)) block (subst (λ (x : ℕ). Contains (data_uses k) (use_at 5 x (file_block p) p)) number told)
+        let low = owner_low image m made p (ino_of s key) h mine in
+        let told : Contains (data_uses k) (use_at FS_TREE (ino_of s key) (file_block p) p) =
+        in_flat_map uses_in (all_trees k) files (use_at FS_TREE (ino_of s key) (file_block p) p) files_there
+        (uses_of files (use_at FS_TREE (ino_of s key) (file_block p) p) item among refl (one_use FS_TREE (ino_of s key) (file_block p) p h (omega (arith, low)))) in
+        subst (λ (x : ℕ). Contains (data_uses k) (use_at FS_TREE i x p)) block (subst (λ (x : ℕ). Contains (data_uses k) (use_at FS_TREE x (file_block p) p)) number told)
 
     -- Each piece is a range of data.
     pub is_data : (p : Piece) → Contains m.pieces p → IsData k (span_of p)
     is_data p h = by p.from refl
       where
         by : (o : Option ℕ) → p.from ≡ o → IsData k (span_of p)
-        by None is = let w = owned p h is in (use_at 5 w.0 w.1 p, file_use p w.0 w.1 h w.2, refl)
-        by (Some b) is = (use_at 256 257 (source_block p) p, saved_use p h (ap is_some is), refl)
+        by None is = let w = owned p h is in (use_at FS_TREE w.0 w.1 p, file_use p w.0 w.1 h w.2, refl)
+        by (Some b) is = (use_at CONV_IMAGE_SUBVOL 257 (source_block p) p, saved_use p h (ap is_some is), refl)

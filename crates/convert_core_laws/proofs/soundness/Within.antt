@@ -1,57 +1,5 @@
 -- Each extent of a converted volume lies in one chunk of its kind.
-use Rattle.std.proofs.Common.{◌≡◌, ◌≢◌, ◌≤◌, ◌<◌, ℕ, zero, suc, ◌+◌, ◌-◌, ◌*◌, ◌/◌, ◌%◌, inl, inr, Bool, true, false, not, List, [], ◌∷◌, ◌++◌, length, map, take, drop, Some, refl, sym, ap, subst, ◌∙◌, ⊎_elim, arith}
-use Rattle.std.specs.Prelude.{Contains}
-use Rattle.std.specs.List.{range_with_len}
-use Rattle.std.proofs.lemmas.Bool.{and_from, and_parts, both_ways, cases_Bool, cases_lt, not_from_false, or_left, or_right}
-use Rattle.std.proofs.lemmas.List.Elements.{Contains-append_cases}
-use Rattle.std.proofs.lemmas.List.Folds.{list_any-from_Any}
-use Rattle.std.proofs.lemmas.List.Sorted.{Contains-permutation, IsPermutation-sym}
-use Rattle.std.proofs.Math.Seq.{take-append_seam}
-use Rattle.reiser_volume.specs.vol_block.Volume.{IsReserved, is_reserved}
-use Rattle.reiser_volume.proofs.vol_block.Reserved.{decides_reserved}
-use Rattle.reiser_volume.specs.outside.History.{Image}
-use Rattle.reiser_volume.specs.vol_block.declared.ids.Ids.{Ids}
-use Rattle.btr_reader.specs.btr_node.NodeSize.{IsNodeSize}
-use Rattle.btr_reader.specs.declared.chunk.ChunkAt.{ChunkAt}
-use Rattle.btr_check_rules.specs.Places.{AreApart, IsExtent, LiesIn}
-use Rattle.btr_check_rules.specs.Recount.{Recount, Span}
-use Rattle.convert_core.specs.convert_steps.Making.{IsMaking, Making, new_ids}
-use Rattle.convert_core.specs.convert_steps.Source.{HasPieces}
-use Rattle.convert_core.specs.convert_steps.declared.trees.VolumeTrees.{VolumeTrees}
-use Rattle.convert_core.proofs.Moving.{can_move, piece_not_metadata, piece_not_system, sound, stays_or_moves, well}
-use Rattle.convert_core.proofs.Reserved.{piece_apart}
-use Rattle.convert_core.proofs.Slots.{slot_unit}
-use Rattle.convert_core_laws.specs.reading.Identifiers.{NewIdsFit}
-use Rattle.convert_core_laws.specs.reading.Opened.{IsNewVolume, chunk_at}
-use Rattle.convert_core.specs.extent_pieces.Files.{owner, tails}
-use Rattle.convert_core.specs.extent_pieces.Found.{files_of}
-use Rattle.convert_core.specs.extent_pieces.Laws.{IsKeptPiece, LiesInUnit}
-use Rattle.convert_core.specs.extent_pieces.Pieces.{Owners, copied_pieces, kept_pieces, tail_piece}
-use Rattle.convert_core.specs.extent_pieces.Placed.{at_places, blocks_of_units}
-use Rattle.convert_core.proofs.extent_pieces.Lists.{all_at, any_from}
-use Rattle.convert_core.proofs.extent_pieces.Maximal.{kept_are_maximal}
-use Rattle.reiser_volume.specs.reiser_bitmap.Bits.{has}
-use Rattle.reiser_volume.specs.reiser_bitmap.Units.{IsFreeUnit}
-use Rattle.reiser_volume.proofs.reiser_bitmap.Ranges.{contains_cases, contains_head, contains_range, contains_tail, range_contains}
-use Rattle.reiser_volume.proofs.fs_paths.Lists.{from_flat_map}
-use Rattle.reiser_volume.specs.Volume.{used_of}
-use Rattle.convert_core.specs.space_items.Chunks.{chunk_kind}
-use Rattle.convert_core.specs.space_items.declared.node.TreeNode.{TreeNode}
-use Rattle.convert_trees_laws.proofs.Booting.{chunks_of}
-use Rattle.convert_core.specs.unit_plan.Choice.{holds_data, is_among, is_data}
-use Rattle.convert_core.specs.unit_plan.Chunks.{AreChunks, HoldsUnit, IsChunk, is_data_unit, role_of, usable_end, use_of}
-use Rattle.convert_core.specs.unit_plan.Laws.{IsSoundPlan}
-use Rattle.convert_core.specs.unit_plan.Needed.{need}
-use Rattle.convert_core.specs.unit_plan.Places.{node_places}
-use Rattle.convert_core.specs.unit_plan.declared.chunk.Chunk.{Chunk}
-use Rattle.convert_core.specs.unit_plan.declared.chunk.Role.{Role}
-use Rattle.convert_core.specs.unit_plan.declared.chunk.Role.TheVariants.{System, Metadata, Data}
-use Rattle.convert_core.specs.convert_options.declared.options.Options.{Options}
-use Rattle.convert_core.specs.unit_plan.declared.piece.Piece.{Piece}
-use Rattle.convert_core.proofs.unit_plan.Starts.{among_contains, contains_among}
-use Rattle.convert_core.proofs.unit_plan.Uses.{role_is}
-use Rattle.convert_core_laws.specs.soundness.Laws.{ConvertedPlacementIsSound}
-use Rattle.convert_core_laws.specs.soundness.Recounted.{recount_for}
+use Rattle.convert_core_laws.proofs.Imports.{◌≡◌, ◌≢◌, ◌≤◌, ◌<◌, ℕ, zero, suc, ◌+◌, ◌-◌, ◌*◌, ◌/◌, ◌%◌, inl, inr, Bool, true, false, not, List, [], ◌∷◌, ◌++◌, length, map, take, drop, Some, refl, sym, ap, subst, ◌∙◌, ⊎_elim, arith, Contains, range_with_len, and_from, and_parts, both_ways, cases_Bool, cases_lt, not_from_false, or_left, or_right, Contains-append_cases, list_any-from_Any, Contains-permutation, IsPermutation-sym, take-append_seam, IsReserved, is_reserved, decides_reserved, Image, Ids, IsNodeSize, ChunkAt, ArePlacesApart, IsExtent, LiesIn, Recount, Span, IsMaking, Making, new_ids, HasPieces, VolumeTrees, can_move, piece_not_metadata, piece_not_system, sound, stays_or_moves, well, piece_apart, slot_unit, NewIdsFit, IsNewVolume, chunk_at, owner, tails, files_of, IsKeptPiece, LiesInUnit, Owners, copied_pieces, kept_pieces, tail_piece, at_places, blocks_of_units, all_at, any_from, kept_are_maximal, has, IsFreeUnit, contains_cases, contains_head, contains_range, contains_tail, range_contains, from_flat_map, used_of, chunk_kind, TreeNode, chunks_of, holds_data, is_among, is_data, AreChunks, HoldsUnit, IsChunk, is_data_unit, role_of, usable_end, use_of, IsSoundPlan, need, node_places, PlannedChunk, Role, System, Metadata, Data, Options, Piece, among_contains, contains_among, role_is, ConvertedPlacementIsSound, recount_for}
 use Rattle.convert_core_laws.proofs.soundness.AllUses.{span_of}
 use Rattle.convert_core_laws.proofs.soundness.Apart.{IsAt, a_piece, apart, in_chunk_slots, in_slots, is_at, once, size_some}
 use Rattle.convert_core_laws.proofs.soundness.Recounting.{volume_for}
@@ -111,7 +59,7 @@ module _ (o : Options) (ids : Ids) (now : ℕ) (image other : Image) (m : Making
 
   -- the chunk of a unit that has a role
   record HasChunk (role : Role) (u : ℕ) : Type 0 where
-    chunk : Chunk
+    chunk : PlannedChunk
     among : Contains m.chunks chunk
     role_is_ : chunk.role ≡ role
     holds : HoldsUnit chunk u
@@ -123,7 +71,7 @@ module _ (o : Options) (ids : Ids) (now : ℕ) (image other : Image) (m : Making
   unit_chunk role u is =
       let are : AreChunks m.plan whole m.chunks = chunks_of image m making in
       let at = are.whole u role is in
-      let c : Chunk = at.1 in
+      let c : PlannedChunk = at.1 in
       let among : Contains m.chunks c = (at.0, at.2, at.3) in
       let holds : HoldsUnit c u = at.4 in
       let chunk : IsChunk (role_of m.plan whole) (usable_end whole) c = all_at (IsChunk (role_of m.plan whole) (usable_end whole)) m.chunks c are.each among in
@@ -316,7 +264,7 @@ module _ (o : Options) (ids : Ids) (now : ℕ) (image other : Image) (m : Making
       by (in_slots a h e kind_is) = node_inside m.plan.metadata a span kind Metadata h e kind_is metadata_role (λ u l. all_at (IsFreeUnit used) m.plan.metadata u plan_sound.metadata.free l)
       by (a_piece p h e kind_is) = any_piece p span kind h e kind_is
 
-  pub placement : AreApart k
+  pub placement : ArePlacesApart k
   placement = record { apart = apart o ids now image other m r nodes v; nodes = once o ids now image other m r nodes v; within = within }
 
 pub converted_placement_is_sound : NewIdsFit → ConvertedPlacementIsSound

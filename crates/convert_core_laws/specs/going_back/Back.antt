@@ -10,13 +10,13 @@ use Rattle.reiser_volume.specs.Laws.{IsSameVolume}
 use Rattle.reiser_volume.specs.Volume.{used_of}
 use Rattle.convert_trees_laws.specs.Rows.{HasBytes}
 use Rattle.volume_state.specs.Saved.{image_blocks}
-use Rattle.volume_state.specs.Untouched.{IsUntouched, old_used}
+use Rattle.volume_state.specs.GoingBack.{CanGoBack, old_used}
 use Rattle.convert_core.specs.space_items.Laws.{AreIds}
 use Rattle.convert_core.specs.convert_options.declared.options.Options.{Options}
 
 -- The volume before can be had back from the other disk: its saved image has each used block, and so is the same volume, with the same rows.
 pub record GoesBack (image other : Image) : Type 0 where
-  pub untouched : IsUntouched other
+  pub can : CanGoBack other
   pub used : old_used other ≡ used_of image
   pub blocks : SameUsed (used_of image) image (image_blocks other)
   pub volume : IsSameVolume image (image_blocks other)

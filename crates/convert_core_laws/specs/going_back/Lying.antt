@@ -5,7 +5,7 @@ use Rattle.reiser_volume.specs.vol_block.declared.ids.Ids.{Ids}
 use Rattle.btr_reader.specs.btr_node.NodeSize.{IsNodeSize}
 use Rattle.convert_core.specs.Converted.{IsSomeNew}
 use Rattle.convert_core_laws.specs.reading.Identifiers.{HasFsid}
-use Rattle.btr_reader.specs.Apart.{IsReservedFree}
+use Rattle.btr_reader.specs.Apart.{IsSpareFree}
 use Rattle.reiser_volume.specs.Volume.{superblock}
 use Rattle.convert_trees_laws.specs.Rows.{HasBytes}
 use Rattle.volume_state.specs.Saved.{image_blocks}
@@ -20,7 +20,7 @@ OfConverted P =
 
 -- No part of it lies in a reserved block of the device, but for the superblock.
 abbrev pub ConvertedVolumesLieApart : Type 0
-ConvertedVolumesLieApart = OfConverted (λ image other. IsReservedFree other)
+ConvertedVolumesLieApart = OfConverted (λ image other. IsSpareFree other)
 
 -- The saved image has as many blocks as the volume before.
 abbrev pub SavedImagesAreWhole : Type 0

@@ -1,19 +1,20 @@
 -- The data of files stays where it is.
 use Rattle.std.specs.Prelude.{◌≡◌, ◌≢◌, ◌<◌, ℕ, ◌+◌, ◌-◌, ◌*◌, true, if◌then◌else◌, List, [], ◌∷◌, Option, Some, None}
+use Rattle.btrfs_format.specs.declared.object.TheConstants.{FS_TREE}
 use Rattle.reiser_volume.specs.outside.History.{Image, block_at}
 use Rattle.reiser_volume.specs.vol_block.Volume.{IsReserved}
 use Rattle.convert_core_laws.specs.going_back.Lying.{OfConverted}
 use Rattle.btr_reader.specs.btr_reader_contents.Extents.{covers, extents_of, is_hole}
 use Rattle.btr_reader.specs.btr_keys.FileExtent.{ContentValue, FileExtentValue, Inline, Prealloc, Regular, file_extent_of}
-use Rattle.btr_reader.specs.btr_reader_names.Links.{Leads as LeadsOn, inode}
+use Rattle.btr_reader.specs.btr_reader_names.Links.{LeadsToTarget as LeadsOn, inode}
 use Rattle.btr_reader.specs.Image.{items_at}
 use Rattle.btr_reader.specs.Parts.{own_map, own_super}
 use Rattle.btr_reader.specs.Rows.{top}
 use Rattle.btr_reader.specs.btr_reader_walk.Events.{TreeItem}
 use Rattle.btr_reader.specs.btr_reader_walk.Map.{place}
 use Rattle.btr_reader.specs.btr_reader_walk.declared.map.MapRange.{MapRange}
-use Rattle.btr_reader.specs.btr_reader_walk.declared.tree.Pointer.{Pointer}
-use Rattle.convert_core.specs.convert_steps.Switch.{IsMirror}
+use Rattle.btr_reader.specs.btr_reader_walk.declared.tree.NodePointer.{NodePointer}
+use Rattle.convert_core.specs.convert_steps.Switch.{IsMirrorOf}
 use Rattle.reiser_volume.specs.fs_rows.Rows.{NameList}
 use Rattle.reiser_volume.specs.reiser_bitmap.Bits.{has}
 use Rattle.reiser_volume.specs.reiser_volume_names.Links.{AreLinks}
@@ -22,7 +23,7 @@ use Rattle.reiser_volume.specs.reiser_volume_objects.Names.{IsNamed}
 use Rattle.reiser_volume.specs.reiser_volume_objects.declared.key.ObjectKey.{ObjectKey}
 use Rattle.reiser_volume.specs.reiser_volume_objects.declared.naming.Naming.{Naming}
 use Rattle.reiser_volume.specs.Owners.{Owns}
-use Rattle.reiser_volume.specs.Rows.{Leads}
+use Rattle.reiser_volume.specs.Rows.{LeadsToObject}
 use Rattle.reiser_volume.specs.Volume.{superblock, used_of, volume_items}
 use Rattle.volume_state.specs.Using.{file_pointer}
 
@@ -55,16 +56,16 @@ AreBlocksInPlace image key ranges extents =
 -- One inode of the tree has all paths of the object, and by its extents the object's blocks are in place.
 pub record StaysInPlace (image : Image) (ranges : List MapRange) (items : List TreeItem) (key : ObjectKey) : Type 0 where
   pub ino : ℕ
-  pub paths : (visible links : List Naming) (path : NameList) → AreLinks (volume_items image) visible links → Leads links root path key → LeadsOn items top path (inode ino)
+  pub paths : (visible links : List Naming) (path : NameList) → AreLinks (volume_items image) visible links → LeadsToObject links root path key → LeadsOn items top path (inode ino)
   pub blocks : AreBlocksInPlace image key ranges (extents_of items ino)
 
 -- Each block that the old bitmap marks used holds what it held, but for block 16 and the places of the Btrfs superblock's copies. Each named
 -- object has an inode in the file tree by which its data is in place.
 pub record IsInPlace (image other : Image) : Type 0 where
-  pub used : (b : ℕ) → has (used_of image) b ≡ true → b ≢ 16 → ¬ IsMirror b → block_at other b ≡ block_at image b
-  pub at : Pointer
+  pub used : (b : ℕ) → has (used_of image) b ≡ true → b ≢ 16 → ¬ IsMirrorOf (superblock image).blocks b → block_at other b ≡ block_at image b
+  pub at : NodePointer
   pub has_root : file_pointer other (own_super other) (own_map other) ≡ Some at
-  pub files : (key : ObjectKey) → IsNamed (volume_items image) key → StaysInPlace image (own_map other) (items_at other (own_super other) (own_map other) 5 at) key
+  pub files : (key : ObjectKey) → IsNamed (volume_items image) key → StaysInPlace image (own_map other) (items_at other (own_super other) (own_map other) FS_TREE at) key
 
 -- So it is on every volume that was converted.
 abbrev pub ConvertedDataStays : Type 0

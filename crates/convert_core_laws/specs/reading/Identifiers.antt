@@ -1,5 +1,6 @@
 -- The identifiers of a converted volume.
 use Rattle.std.specs.Prelude.{◌≡◌, ◌≤◌, length}
+use Rattle.btrfs_format.specs.declared.block.TheConstants.{SUPER_BLOCK}
 use Rattle.reiser_volume.specs.outside.History.{Image, block_at}
 use Rattle.convert_core.specs.convert_steps.Making.{IsMaking, Making, new_ids}
 use Rattle.convert_core.specs.space_items.Laws.{AreIds}
@@ -9,7 +10,7 @@ use Rattle.convert_core.specs.convert_options.declared.options.UuidChoice.TheVar
 -- the bytes of the file system's identifier are there: in the superblock of the old volume, if that is taken, or in the given one
 abbrev pub HasFsid : Image → UuidChoice → Type 0
 HasFsid image New = Unit {0}
-HasFsid image Copy = 100 ≤ length (block_at image 16)
+HasFsid image Copy = 100 ≤ length (block_at image SUPER_BLOCK)
 HasFsid image (Given id) = length id ≡ 16
 
 -- Then the identifiers of a converted volume have 16 bytes each, as those have that were made for it.

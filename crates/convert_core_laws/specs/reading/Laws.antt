@@ -1,18 +1,19 @@
 -- What holds of every converted volume as it is opened.
 use Rattle.std.specs.Prelude.{◌≡◌, ◌⊎◌, ℕ, List, map, Some, None, Ok}
+use Rattle.btrfs_format.specs.declared.object.TheConstants.{FS_TREE}
 use Rattle.reiser_volume.specs.outside.History.{Image}
 use Rattle.reiser_volume.specs.refusals.declared.refusal.BtrRefusal.{BtrRefusal}
 use Rattle.reiser_volume.specs.vol_block.declared.ids.Ids.{Ids}
 use Rattle.btr_reader.specs.btr_reader_names.Roots.{has_root}
 use Rattle.btr_reader.specs.btr_reader_names.Rules.{BreaksNames}
-use Rattle.btr_reader.specs.Opening.{IsOpened, boot_chunks, chunk_map, super_on, tree_of}
+use Rattle.btr_reader.specs.Opening.{IsBtrfsOpened, boot_chunks, chunk_map, super_on, tree_of}
 use Rattle.btr_reader.specs.Parts.{IsBtrfsRefusal, IsReadable, Opening, Superblock, Tree, log_tree, own_map, own_super}
 use Rattle.btr_reader.specs.Rows.{BreaksExtents, roots_on}
 use Rattle.btr_reader.specs.btr_reader_walk.Walks.{found}
 use Rattle.convert_core.specs.convert_steps.Making.{Making, new_ids}
 use Rattle.convert_core.specs.convert_steps.declared.trees.VolumeTrees.{VolumeTrees}
 use Rattle.convert_core.specs.space_items.declared.node.TreeNode.{TreeNode}
-use Rattle.convert_core.specs.btr_tree_writer.Trees.{root_pointer}
+use Rattle.convert_core.specs.btr_tree_writer.Trees.{pointer_to_root}
 use Rattle.convert_core.specs.convert_options.declared.options.Options.{Options}
 use Rattle.convert_core_laws.specs.reading.Opened.{AreRangesFor, GivesItsOwn, IsNewVolume, ReadsTrees, boot_part, chunk_at, map_for, super_for}
 
@@ -42,7 +43,7 @@ ChunksMap = OfEach (λ image other m r nodes. MapsChunks other m r nodes)
 
 -- It is opened without a refusal, and each of its trees is read with its items.
 pub record OpensWithTrees (image other : Image) (m : Making) (r : VolumeTrees) (nodes : List TreeNode) : Type 0 where
-  pub opened : IsOpened other (super_for m r nodes) (map_for m.chunks)
+  pub opened : IsBtrfsOpened other (super_for m r nodes) (map_for m.chunks)
   pub trees : ReadsTrees image other (super_for m r nodes) (map_for m.chunks) m r nodes
 
 abbrev pub TreesRead : Type 0
@@ -51,8 +52,8 @@ TreesRead = OfEach OpensWithTrees
 -- what breaks the rules of names in the file tree, or an extent of a named file or symlink that breaks a rule
 abbrev pub BreaksTree : Image → Making → VolumeTrees → BtrRefusal → Type 0
 BreaksTree other m r refusal =
-    BreaksNames (has_root (roots_on other (own_super other) (own_map other))) (found other (own_map other) (tree_of (own_super other) 5 (root_pointer r.files))) r.files.address refusal
-    ⊎ BreaksExtents (own_map other) (found other (own_map other) (tree_of (own_super other) 5 (root_pointer r.files))) refusal
+    BreaksNames (has_root (roots_on other (own_super other) (own_map other))) (found other (own_map other) (tree_of (own_super other) FS_TREE (pointer_to_root r.files))) r.files.address refusal
+    ⊎ BreaksExtents (own_map other) (found other (own_map other) (tree_of (own_super other) FS_TREE (pointer_to_root r.files))) refusal
 
 -- Its superblock, chunks and root tree are readable, and its trees are read with their items by its own superblock and map. So
 -- the file tree is refused for its names or for its extents alone.

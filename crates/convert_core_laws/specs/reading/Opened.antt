@@ -1,5 +1,6 @@
 -- What a converted volume is to whoever opens it.
-use Rattle.std.specs.Prelude.{◌≡◌, ◌≤◌, ◌<◌, ℕ, ◌+◌, ◌-◌, ◌*◌, ◌^◌, true, not, List, [], ◌++◌, map, filter, Contains, Some}
+use Rattle.std.specs.Prelude.{◌≡◌, ◌≤◌, ◌<◌, ℕ, ◌+◌, ◌-◌, ◌*◌, ◌^◌, true, not, List, [], ◌++◌, map, filter, Contains, Some, None}
+use Rattle.btrfs_format.specs.declared.object.TheConstants.{CONV_IMAGE_SUBVOL, CSUM_TREE, DATA_RELOC_TREE, DEV_TREE, EXTENT_TREE, FS_TREE}
 use Rattle.reiser_volume.specs.outside.History.{Image}
 use Rattle.reiser_volume.specs.vol_block.declared.ids.Ids.{Ids}
 use Rattle.btr_reader.specs.btr_node.Leaf.{Item}
@@ -27,8 +28,8 @@ use Rattle.convert_core.specs.space_items.Chunks.{chunk_body, device_items}
 use Rattle.convert_core.specs.space_items.Extents.{extent_items}
 use Rattle.convert_core.specs.space_items.Laws.{AreIds}
 use Rattle.convert_core.specs.space_items.declared.node.TreeNode.{TreeNode}
-use Rattle.convert_core.specs.btr_tree_writer.Trees.{root_pointer}
-use Rattle.convert_core.specs.unit_plan.declared.chunk.Chunk.{Chunk}
+use Rattle.convert_core.specs.btr_tree_writer.Trees.{pointer_to_root}
+use Rattle.convert_core.specs.unit_plan.declared.chunk.PlannedChunk.{PlannedChunk}
 use Rattle.convert_core.specs.convert_options.declared.options.Options.{Options}
 use Rattle.convert_core.specs.unit_plan.declared.piece.Piece.{Piece}
 
@@ -41,32 +42,32 @@ pub record IsNewVolume (o : Options) (ids : Ids) (now : ℕ) (image other : Imag
 -- the fields of its superblock
 abbrev pub super_for : Making → VolumeTrees → List TreeNode → Super
 super_for m r nodes =
-    new_super (new_ids m) m.volume.sup.blocks m.options.nodesize (label_field (label_by m.volume.sup m.options.label)) m.chunks
+    new_super (new_ids m) m.volume.sup.blocks m.options.nodesize m.options.sums (label_field (label_by m.volume.sup m.options.label)) m.chunks
     (record { chunk = r.chunk; root = r.root; used = used_bytes m nodes })
 
 -- a chunk, as it is read
-abbrev pub chunk_at : Ids → Chunk → ChunkAt
-chunk_at ids c = record { logical = 4096 * c.start; chunk = chunk_body ids c }
+abbrev pub chunk_at : Ids → PlannedChunk → ChunkAt
+chunk_at ids c = record { logical = 4096 * c.start; chunk = chunk_body ids c; mirror = None }
 
 -- the chunks that the bootstrap array has, and the others
-abbrev pub boot_part : List Chunk → List Chunk
+abbrev pub boot_part : List PlannedChunk → List PlannedChunk
 boot_part chunks = filter (λ c. is_system_role c.role) chunks
 
-abbrev pub other_part : List Chunk → List Chunk
+abbrev pub other_part : List PlannedChunk → List PlannedChunk
 other_part chunks = filter (λ c. not (is_system_role c.role)) chunks
 
 -- a chunk maps its addresses to themselves
-abbrev pub range_for : Chunk → MapRange
-range_for c = record { logical = 4096 * c.start; length = 4096 * c.length; physical = 4096 * c.start }
+abbrev pub range_for : PlannedChunk → MapRange
+range_for c = record { logical = 4096 * c.start; length = 4096 * c.length; physical = 4096 * c.start; mirror = None }
 
 -- the map of addresses: that of all chunks
-abbrev pub map_for : List Chunk → List MapRange
+abbrev pub map_for : List PlannedChunk → List MapRange
 map_for chunks = map range_for (boot_part chunks ++ other_part chunks)
 
 -- The ranges of some chunks: each range is that of a chunk, and each chunk has one.
-pub record AreRangesFor (chunks : List Chunk) (ranges : List MapRange) : Type 0 where
-  pub each : (r : MapRange) → Contains ranges r → (c : Chunk) × Contains chunks c × (r ≡ range_for c)
-  pub whole : (c : Chunk) → Contains chunks c → Contains ranges (range_for c)
+pub record AreRangesFor (chunks : List PlannedChunk) (ranges : List MapRange) : Type 0 where
+  pub each : (r : MapRange) → Contains ranges r → (c : PlannedChunk) × Contains chunks c × (r ≡ range_for c)
+  pub whole : (c : PlannedChunk) → Contains chunks c → Contains ranges (range_for c)
 
 -- each address of a node and of a piece means itself
 pub record GivesItsOwn (m : Making) (ranges : List MapRange) : Type 0 where
@@ -78,18 +79,18 @@ pub record GivesItsOwn (m : Making) (ranges : List MapRange) : Type 0 where
 pub record ReadsTree (image : Image) (s : Super) (ranges : List MapRange) (number : ℕ) (root : Root) (items : List Item) : Type 0 where
   pub item : TreeItem
   pub has_item : root_item number (roots_on image s ranges) ≡ Some item
-  pub leads : pointer_of item.body ≡ Some (root_pointer root)
-  pub sound : wrong image ranges (tree_of s number (root_pointer root)) ≡ []
-  pub items_are : map bare_item (found image ranges (tree_of s number (root_pointer root))) ≡ items
+  pub leads : pointer_of item.body ≡ Some (pointer_to_root root)
+  pub sound : wrong image ranges (tree_of s number (pointer_to_root root)) ≡ []
+  pub items_are : map bare_item (found image ranges (tree_of s number (pointer_to_root root))) ≡ items
 
 -- so does each tree of a volume that has a root item, and the root tree
 pub record ReadsTrees (image other : Image) (s : Super) (ranges : List MapRange) (m : Making) (r : VolumeTrees) (nodes : List TreeNode) : Type 0 where
   pub roots_sound : wrong other ranges (root_tree s) ≡ []
   pub roots_are : map bare_item (roots_on other s ranges) ≡ root_tree_items m r
-  pub extents : ReadsTree other s ranges 2 r.extents (extent_items m.chunks m.pieces nodes m.options.nodesize)
-  pub device : ReadsTree other s ranges 4 r.device (device_items (new_ids m) m.chunks)
-  pub files : ReadsTree other s ranges 5 r.files (file_tree_items image m)
-  pub sums : ReadsTree other s ranges 7 r.sums (sum_tree_items other m)
-  pub saved : ReadsTree other s ranges 256 r.image (image_tree_items m)
-  pub relocation : ReadsTree other s ranges (2 ^ 64 - 9) r.relocation (relocation_items m.now)
+  pub extents : ReadsTree other s ranges EXTENT_TREE r.extents (extent_items m.chunks m.pieces nodes m.options.nodesize)
+  pub device : ReadsTree other s ranges DEV_TREE r.device (device_items (new_ids m) m.chunks)
+  pub files : ReadsTree other s ranges FS_TREE r.files (file_tree_items image m)
+  pub sums : ReadsTree other s ranges CSUM_TREE r.sums (sum_tree_items other m)
+  pub saved : ReadsTree other s ranges CONV_IMAGE_SUBVOL r.image (image_tree_items m)
+  pub relocation : ReadsTree other s ranges DATA_RELOC_TREE r.relocation (relocation_items m.now)
   pub names_saved : has_root (roots_on other s ranges) 256 ≡ true

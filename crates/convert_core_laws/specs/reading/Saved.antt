@@ -1,5 +1,6 @@
 -- The saved image of a converted volume.
 use Rattle.std.specs.Prelude.{◌≡◌, ◌<◌, ℕ, ◌^◌, true, false, List, [], map, Some, None}
+use Rattle.btrfs_format.specs.declared.object.TheConstants.{FS_TREE}
 use Rattle.reiser_volume.specs.outside.History.{Image, block_at}
 use Rattle.reiser_volume.specs.vol_block.declared.ids.Ids.{Ids}
 use Rattle.btr_reader.specs.btr_reader_names.Roots.{has_root}
@@ -18,7 +19,7 @@ use Rattle.convert_core.specs.convert_steps.declared.trees.VolumeTrees.{VolumeTr
 use Rattle.reiser_volume.specs.reiser_bitmap.Bits.{has}
 use Rattle.reiser_volume.specs.Volume.{used_of}
 use Rattle.convert_core.specs.space_items.declared.node.TreeNode.{TreeNode}
-use Rattle.convert_core.specs.btr_tree_writer.Trees.{root_pointer}
+use Rattle.convert_core.specs.btr_tree_writer.Trees.{pointer_to_root}
 use Rattle.convert_core.specs.convert_options.declared.options.Options.{Options}
 use Rattle.convert_core_laws.specs.reading.Opened.{IsNewVolume, map_for}
 
@@ -30,7 +31,7 @@ pub record IsImageOf (image other : Image) (ranges : List MapRange) (blocks : �
   pub holes : (b : ℕ) → has (used_of image) b ≡ false → image_place ranges f b ≡ None
 
 -- A tree with these items has the image, and nothing is wrong on the way to it from the tree's root on.
-pub record HasImage (image other : Image) (ranges : List MapRange) (blocks : ℕ) (items : List TreeItem) : Type 0 where
+pub record HasSavedImage (image other : Image) (ranges : List MapRange) (blocks : ℕ) (items : List TreeItem) : Type 0 where
   pub file : ImageFile
   pub found_ : image_in items ≡ Some file
   pub names : root_refusals items ≡ []
@@ -42,12 +43,12 @@ abbrev pub SavedImageReads : Type 0
 SavedImageReads =
     (o : Options) (ids : Ids) (now : ℕ) (image other : Image) (m : Making) (r : VolumeTrees) (nodes : List TreeNode) (items : List TreeItem)
     → IsNewVolume o ids now image other m r nodes → now < 2 ^ 63 → map bare_item items ≡ image_tree_items m
-    → HasImage image other (map_for m.chunks) m.volume.sup.blocks items
+    → HasSavedImage image other (map_for m.chunks) m.volume.sup.blocks items
 
 -- the rules of names are kept in the file tree
 abbrev pub KeepsFileNames : Image → VolumeTrees → Type 0
 KeepsFileNames other r =
-    KeepsNames (has_root (roots_on other (own_super other) (own_map other))) (found other (own_map other) (tree_of (own_super other) 5 (root_pointer r.files))) r.files.address
+    KeepsNames (has_root (roots_on other (own_super other) (own_map other))) (found other (own_map other) (tree_of (own_super other) FS_TREE (pointer_to_root r.files))) r.files.address
 
 -- The saved image is readable, and it is that of the old volume.
 pub record ReadsSavedImage (image other : Image) (blocks : ℕ) : Type 0 where

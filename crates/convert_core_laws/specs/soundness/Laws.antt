@@ -3,9 +3,11 @@ use Rattle.std.specs.Prelude.{◌<◌, ℕ, ◌^◌, List}
 use Rattle.reiser_volume.specs.outside.History.{Image}
 use Rattle.reiser_volume.specs.vol_block.declared.ids.Ids.{Ids}
 use Rattle.btr_reader.specs.btr_node.NodeSize.{IsNodeSize}
-use Rattle.btr_check_rules.specs.Groups.{AreGroups, AreStripes, AreTotals}
+use Rattle.btr_check_rules.specs.Groups.{AreBlockGroups, AreStripes, AreTotals}
+use Rattle.btr_check_rules.specs.Files.{HaveExtents}
+use Rattle.btr_check_rules.specs.Inodes.{HaveInodes}
 use Rattle.btr_check_rules.specs.Names.{HaveNames}
-use Rattle.btr_check_rules.specs.Places.{AreApart, AreUnreserved}
+use Rattle.btr_check_rules.specs.Places.{ArePlacesApart, AreUnreserved}
 use Rattle.btr_check_rules.specs.Recount.{Recount}
 use Rattle.btr_check_rules.specs.References.{AreReferences}
 use Rattle.btr_check_rules.specs.Sound.{IsSound}
@@ -23,48 +25,56 @@ use Rattle.convert_core_laws.specs.soundness.Recounted.{recount_for}
 
 -- What holds of the recount of every volume that was converted, with any of its superblock's copies: with nodes of one of the sizes,
 -- at a time below 2^63, with identifiers of 16 bytes, and from blocks of bytes.
-abbrev pub OfConverted : (Image → Recount → Type 0) → Type 0
-OfConverted P =
+abbrev pub OfConvertedRecount : (Image → Recount → Type 0) → Type 0
+OfConvertedRecount P =
     (o : Options) (ids : Ids) (now : ℕ) (image other : Image) (m : Making) (r : VolumeTrees) (nodes : List TreeNode)
     → IsNew o ids now image other m r nodes → IsNodeSize o.nodesize → now < 2 ^ 63 → AreIds ids → HasFsid image o.uuid → HasBytes image
     → P other (recount_for image other m r nodes)
 
 -- Each tree is there, and the bootstrap array holds the system chunks.
 abbrev pub ConvertedTreesAreSound : Type 0
-ConvertedTreesAreSound = OfConverted AreTrees
+ConvertedTreesAreSound = OfConvertedRecount AreTrees
 
 -- Extents lie apart, each in a chunk of its kind.
 abbrev pub ConvertedPlacementIsSound : Type 0
-ConvertedPlacementIsSound = OfConverted (λ other k. AreApart k)
+ConvertedPlacementIsSound = OfConvertedRecount (λ other k. ArePlacesApart k)
 
 -- Block groups are the chunks, and tell what these hold.
 abbrev pub ConvertedBlockGroupsAreSound : Type 0
-ConvertedBlockGroupsAreSound = OfConverted (λ other k. AreGroups k)
+ConvertedBlockGroupsAreSound = OfConvertedRecount (λ other k. AreBlockGroups k)
 
 -- Chunks lie apart, and device extents are their stripes.
 abbrev pub ConvertedChunksAreSound : Type 0
-ConvertedChunksAreSound = OfConverted (λ other k. AreStripes k)
+ConvertedChunksAreSound = OfConvertedRecount (λ other k. AreStripes k)
 
 -- No extent touches a reserved block.
 abbrev pub ConvertedReservedAreSound : Type 0
-ConvertedReservedAreSound = OfConverted (λ other k. AreUnreserved k)
+ConvertedReservedAreSound = OfConvertedRecount (λ other k. AreUnreserved k)
 
 -- The totals are the sums.
 abbrev pub ConvertedTotalsAreSound : Type 0
-ConvertedTotalsAreSound = OfConverted (λ other k. AreTotals k)
+ConvertedTotalsAreSound = OfConvertedRecount (λ other k. AreTotals k)
 
 -- The extent tree tells of each node and of each range of data, with all that refers to it, and of nothing else.
 abbrev pub ConvertedReferencesAreSound : Type 0
-ConvertedReferencesAreSound = OfConverted (λ other k. AreReferences k)
+ConvertedReferencesAreSound = OfConvertedRecount (λ other k. AreReferences k)
 
 -- Exactly the blocks of data whose inode has checksums have one, and each is right.
 abbrev pub ConvertedChecksumsAreSound : Type 0
-ConvertedChecksumsAreSound = OfConverted AreSums
+ConvertedChecksumsAreSound = OfConvertedRecount AreSums
 
 -- In each file tree the directory indexes, the dir items and the references of inodes tell the same names, and inodes their counts.
 abbrev pub ConvertedNamesAreSound : Type 0
-ConvertedNamesAreSound = OfConverted (λ other k. HaveNames k)
+ConvertedNamesAreSound = OfConvertedRecount (λ other k. HaveNames k)
+
+-- In each file tree inodes and entries keep the rules of Linux.
+abbrev pub ConvertedInodesAreSound : Type 0
+ConvertedInodesAreSound = OfConvertedRecount (λ other k. HaveInodes k)
+
+-- So do file extents.
+abbrev pub ConvertedFileExtentsAreSound : Type 0
+ConvertedFileExtentsAreSound = OfConvertedRecount (λ other k. HaveExtents k)
 
 -- It is sound in all nine parts.
 abbrev pub ConvertedVolumesAreSound : Type 0
-ConvertedVolumesAreSound = OfConverted (λ other k. IsSound other)
+ConvertedVolumesAreSound = OfConvertedRecount (λ other k. IsSound other)

@@ -1,12 +1,13 @@
 -- What a recount of a converted volume finds.
 use Rattle.std.specs.Prelude.{ℕ, ◌^◌, ◌-◌, List, [], ◌∷◌, ◌++◌, map}
+use Rattle.btrfs_format.specs.declared.object.TheConstants.{CHUNK_TREE, CONV_IMAGE_SUBVOL, CSUM_TREE, DATA_RELOC_TREE, DEV_TREE, EXTENT_TREE, FS_TREE, ROOT_TREE}
 use Rattle.reiser_volume.specs.outside.History.{Image}
 use Rattle.btr_reader.specs.btr_node.Leaf.{Item}
 use Rattle.btr_reader.specs.Opening.{chunk_map, form_of}
 use Rattle.btr_check_rules.specs.Recount.{Recount, TreeOn}
 use Rattle.btr_reader.specs.btr_super.declared.superblock.Super.{Super}
 use Rattle.convert_core.specs.btr_tree.declared.climb.Root.{Root}
-use Rattle.btr_reader.specs.btr_reader_walk.Events.{nodes_in, tree_events}
+use Rattle.btr_reader.specs.btr_reader_walk.Events.{nodes_in, walk_events}
 use Rattle.convert_core.specs.convert_steps.Making.{Making, new_ids}
 use Rattle.convert_core.specs.convert_steps.Standing.{file_tree_items, image_tree_items, root_tree_items, sum_tree_items}
 use Rattle.convert_core.specs.convert_steps.declared.trees.VolumeTrees.{VolumeTrees}
@@ -15,32 +16,32 @@ use Rattle.convert_core.specs.file_items.Small.{relocation_items}
 use Rattle.convert_core.specs.space_items.Chunks.{chunk_items, device_items}
 use Rattle.convert_core.specs.space_items.Extents.{extent_items}
 use Rattle.convert_core.specs.space_items.declared.node.TreeNode.{TreeNode}
-use Rattle.convert_core.specs.btr_tree_writer.Trees.{root_pointer}
+use Rattle.convert_core.specs.btr_tree_writer.Trees.{pointer_to_root}
 
 -- a tree with these items, and the nodes that a walk from its root meets
 abbrev pub tree_for : Image → Super → ℕ → Root → List Item → TreeOn
 tree_for other s number root items = record {
   number = number;
-  nodes = nodes_in (tree_events other (chunk_map other s) (form_of s) (root_pointer root) number);
+  nodes = nodes_in (walk_events other (chunk_map other s) (form_of s) (pointer_to_root root) number);
   items = items;
 }
 
 -- the trees that have a root item
 abbrev pub trees_for : Image → Image → Making → VolumeTrees → List TreeNode → Super → List TreeOn
 trees_for image other m r nodes s =
-    tree_for other s 2 r.extents (extent_items m.chunks m.pieces nodes m.options.nodesize)
-    ∷ (tree_for other s 4 r.device (device_items (new_ids m) m.chunks)
-    ∷ (tree_for other s 5 r.files (file_tree_items image m)
-    ∷ (tree_for other s 7 r.sums (sum_tree_items other m)
-    ∷ (tree_for other s 256 r.image (image_tree_items m)
-    ∷ (tree_for other s (2 ^ 64 - 9) r.relocation (relocation_items m.now) ∷ [])))))
+    tree_for other s EXTENT_TREE r.extents (extent_items m.chunks m.pieces nodes m.options.nodesize)
+    ∷ (tree_for other s DEV_TREE r.device (device_items (new_ids m) m.chunks)
+    ∷ (tree_for other s FS_TREE r.files (file_tree_items image m)
+    ∷ (tree_for other s CSUM_TREE r.sums (sum_tree_items other m)
+    ∷ (tree_for other s CONV_IMAGE_SUBVOL r.image (image_tree_items m)
+    ∷ (tree_for other s DATA_RELOC_TREE r.relocation (relocation_items m.now) ∷ [])))))
 
 -- The recount of a converted volume: its superblock, the chunks of the plan, and the trees with the items that were written.
 abbrev pub recount_for : Image → Image → Making → VolumeTrees → List TreeNode → Recount
 recount_for image other m r nodes = record {
   super = super_for m r nodes;
   chunks = map (chunk_at (new_ids m)) (boot_part m.chunks ++ other_part m.chunks);
-  chunk_tree = tree_for other (super_for m r nodes) 3 r.chunk (chunk_items (new_ids m) m.volume.sup.blocks m.chunks);
-  root_tree = tree_for other (super_for m r nodes) 1 r.root (root_tree_items m r);
+  chunk_tree = tree_for other (super_for m r nodes) CHUNK_TREE r.chunk (chunk_items (new_ids m) m.volume.sup.blocks m.chunks);
+  root_tree = tree_for other (super_for m r nodes) ROOT_TREE r.root (root_tree_items m r);
   others = trees_for image other m r nodes (super_for m r nodes);
 }

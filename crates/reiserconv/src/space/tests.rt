@@ -61,8 +61,8 @@ fn nodes_of_another_size(rt: HostRuntime) -> Result<(), Fail> {
     };
     let said = told(&rt, &space, "16384", Some(&best))?;
     assert!(rt;
-        said.as_str().ends_with(
-            "Or take nodes of 8192 bytes, which need 3 units: 'reiserconv convert --nodesize 8192 /dev/sda1'. "
+        said.as_str().contains(
+            "Or take nodes of 8192 bytes, which need 3 units, so that 0 MiB are to spare: 'reiserconv convert --nodesize 8192 /dev/sda1'. Linux takes"
         ),
         "{}",
         said.as_str()

@@ -1,17 +1,21 @@
 // Runs of `convert`.
 ghost use Rattle.std.specs.Prelude.{◌≡◌, None, IfOk};
 
-use super::sample::{changed, sample};
+use super::sample::{changed, sample, sample_of};
 use super::{ROOT, ends, is_usage, run_on};
-use outside::Memory;
+use outside::{Access, BlockSource, Disk, Memory};
 use outside_mem::MemDisk;
 use std::alloc::Global;
 use std::process::Abort;
 use std::test::Fail;
+use vol_block::{Block, BlockNo};
 use volume_samples::change;
 
 /// What `convert` prints of the sample: its 52 used blocks are reserved, so each of them is copied.
 const DONE: &str = "converted to btrfs\npieces 52\nblocks 52\ncopied 52\ntails 0\nunits 4\n";
+
+/// What `rollback` prints behind it.
+const BACK: &str = "rolled back to reiserfs\nblocks 52\nrestored 52\n";
 
 /// What `inspect` prints of the sample behind it.
 const CONVERTED: &str =
@@ -110,4 +114,30 @@ fn an_output_that_fails_leaves_the_volume_converted(rt: HostRuntime) -> Result<(
     let ended = run_on(rt.alloc(), "convert x", &mut disk, Some(0))?;
     assert_eq!(rt; ended.status, 5);
     then(&rt, "inspect x", &mut disk, 0, CONVERTED, "")
+}
+
+/// Whether a disk has this block, once it is settled.
+fn holds(disk: &mut MemDisk, n: BlockNo, wanted: &Block) -> Result<bool, Fail> {
+    disk.settle();
+    disk.open("", Access::Read)?;
+    let mut block = Block::zero();
+    if n >= disk.len() {
+        return Ok(false);
+    }
+    disk.read(n, &mut block)?;
+    Ok(block == *wanted)
+}
+
+/// Where the copy at 64 MiB would end with the volume there is none: the last block stays as it is, on the way there and back.
+#[test]
+fn a_last_block_is_kept(rt: HostRuntime) -> Result<(), Fail> {
+    let mut disk = sample_of(rt.alloc(), 16385)?;
+    let held = Block { bytes: [7; 4096] };
+    disk.set_block(16384, &held)?;
+    ends(&rt, "convert x", &mut disk, 0, DONE, "")?;
+    assert!(rt; holds(&mut disk, 16384, &held)?);
+    then(&rt, "list x", &mut disk, 0, ROOT, "")?;
+    then(&rt, "rollback x", &mut disk, 0, BACK, "")?;
+    assert!(rt; holds(&mut disk, 16384, &held)?);
+    Ok(())
 }

@@ -51,6 +51,15 @@ pub fn sample(alloc: Global) -> Result<MemDisk, Memory>
     with_leaf(alloc, 2048, &[(0, 52)], &root_leaf())
 }
 
+/// The same tree on a volume of so many blocks.
+pub fn sample_of(alloc: Global, blocks: u32) -> Result<MemDisk, Memory>
+    requires { 2048 ≤ blocks }
+    ensures size { IfOk result (λ d. length d.history.start ≡ blocks) }
+    ensures closed { IfOk result (λ d. d.opened ≡ None) }
+{
+    with_leaf(alloc, blocks, &[(0, 52)], &root_leaf())
+}
+
 /// The sample with other bytes at a place of one of its blocks.
 pub fn changed(alloc: Global, n: BlockNo, at: usize, bytes: &[u8]) -> Result<MemDisk, Memory>
     requires block { n < 2048 }

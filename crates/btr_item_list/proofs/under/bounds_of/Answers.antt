@@ -1,6 +1,4 @@
-use Rattle.std.specs.Ordering.{nat_cmp}
-use Rattle.fs_paths.proofs.Middle.{in_order, middle_is}
-use Rattle.btr_item_list.specs.Spots.{is_under}
+use Rattle.btr_item_list.proofs.Imports.{nat_cmp, in_order, middle_is, is_under}
 use Rattle.btr_item_list.proofs.Parting.{same_cmp}
 use Rattle.btr_item_list.proofs.under.bounds_of.Goals as goal
 

@@ -1,6 +1,4 @@
-use Rattle.std.proofs.Common.{nat_lt, sym, rules}
-use Rattle.std.proofs.lemmas.List.Sorted.{IsPartitionPoint-from_clause}
-use Rattle.btr_item_list.specs.declared.spot.Spot.{Spot}
+use Rattle.btr_item_list.proofs.Imports.{nat_lt, sym, rules, IsPartitionPoint-from_clause, Spot}
 use Rattle.btr_item_list.proofs.Before.{count_at, parted}
 use Rattle.btr_item_list.proofs.under.count_before.Goals as goal
 

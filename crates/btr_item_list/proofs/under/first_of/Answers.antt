@@ -1,7 +1,4 @@
-use Rattle.std.proofs.Common.{is_lt, rules}
-use Rattle.std.specs.Ordering.{nat_cmp}
-use Rattle.std.proofs.lemmas.List.Sorted.{IsPartitionPoint-from_clause}
-use Rattle.fs_paths.proofs.Middle.{parted_lt}
+use Rattle.btr_item_list.proofs.Imports.{is_lt, rules, nat_cmp, IsPartitionPoint-from_clause, parted_lt}
 use Rattle.btr_item_list.proofs.Parting.{rises}
 use Rattle.btr_item_list.proofs.under.first_of.Goals as goal
 

@@ -1,5 +1,4 @@
-use Rattle.std.proofs.Common.{◌<◌, length, sym, ◌∙◌, arith}
-use Rattle.btr_keys.specs.Repeated.{behind_named}
+use Rattle.btr_keys.proofs.Imports.{◌<◌, length, sym, ◌∙◌, arith, behind_named}
 use Rattle.btr_keys.proofs.Starts.{Shrinks, named_shrinks, some_left, none_left, counted_more, counted_stop, counted_end}
 use Rattle.btr_keys.proofs.named.record_count.Goals as goal
 

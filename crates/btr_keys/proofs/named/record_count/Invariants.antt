@@ -1,6 +1,4 @@
-use Rattle.std.proofs.Common.{◌≡◌, ◌≤◌, ◌+◌, length}
-use Rattle.std.specs.Option.{option_map}
-use Rattle.btr_keys.specs.Repeated.{behind_named, starts}
+use Rattle.btr_keys.proofs.Imports.{◌≡◌, ◌≤◌, ◌+◌, length, option_map, behind_named, starts}
 use Rattle.btr_keys.proofs.named.record_count.Given as goal
 
 abbrev pub invariant-loop-rest : goal.invariant-loop-rest

@@ -1,5 +1,4 @@
-use Rattle.std.proofs.Common.{◌≡◌, ℕ, Some, drop, ap, sym, ◌∙◌, arith}
-use Rattle.btr_keys.specs.Repeated.{behind_named}
+use Rattle.btr_keys.proofs.Imports.{◌≡◌, ℕ, Some, drop, ap, sym, ◌∙◌, arith, behind_named}
 use Rattle.btr_keys.proofs.Starts.{Shrinks, named_shrinks, start_more, start_there, start_whole, start_is_whole}
 use Rattle.btr_keys.proofs.named.record_start.Goals as goal
 

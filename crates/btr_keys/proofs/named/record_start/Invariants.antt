@@ -1,5 +1,4 @@
-use Rattle.std.proofs.Common.{◌≡◌, ◌≤◌, ℕ, List, length, drop, Some}
-use Rattle.btr_keys.specs.Repeated.{behind_named, starts}
+use Rattle.btr_keys.proofs.Imports.{◌≡◌, ◌≤◌, ℕ, List, length, drop, Some, behind_named, starts}
 use Rattle.btr_keys.proofs.named.record_start.Given as goal
 
 abbrev pub invariant-loop : goal.invariant-loop

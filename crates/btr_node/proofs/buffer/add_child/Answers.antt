@@ -1,6 +1,4 @@
-use Rattle.std.proofs.Common.{◌≡◌, ℕ, ◌-◌, ◌++◌, ◌∷◌, [], List, length, take, drop, sym, ap, ◌∙◌, arith, length-drop}
-use Rattle.btr_node.specs.Draft.{contents}
-use Rattle.btr_node.specs.Head.{behind_head}
+use Rattle.btr_node.proofs.Imports.{◌≡◌, ℕ, ◌-◌, ◌++◌, ◌∷◌, [], List, length, take, drop, sym, ap, ◌∙◌, arith, length-drop, HEADER_SIZE, contents, behind_head}
 use Rattle.btr_node.proofs.Refilled.{behind_of, written_behind}
 use Rattle.btr_node.proofs.buffer.add_child.Goals as goal
 
@@ -8,8 +6,8 @@ pub returns-clause-link : goal.returns-clause-link
 returns-clause-link c = λ children counted is.
     let s : List ℕ = c.as_mut_slice-bytes.result.now in
     let old : List ℕ = c.args.buffer.now.items in
-    let behind : take (length s - 101) (drop 101 s) ≡ behind_head old = behind_of s old c.as_mut_slice-bytes.ensures.value in
-    let size : length (take (length s - 101) (drop 101 s)) ≡ length old - 101 = ap length behind ∙ length-drop 101 old in
+    let behind : take (length s - HEADER_SIZE) (drop HEADER_SIZE s) ≡ behind_head old = behind_of s old c.as_mut_slice-bytes.ensures.value in
+    let size : length (take (length s - HEADER_SIZE) (drop HEADER_SIZE s)) ≡ length old - HEADER_SIZE = ap length behind ∙ length-drop HEADER_SIZE old in
     written_behind s old c.put_child.new.behind c.args.buffer.now.len c.as_mut_slice-bytes.ensures.value c.as_mut_slice-bytes.ensures.len
     (omega (arith, c.requires, ap length c.as_mut_slice-bytes.ensures.value)) c.put_child.auto.behind
     ∙ c.put_child.ensures children counted (behind ∙ is ∙ ap (λ n. contents n [] children) (sym size))

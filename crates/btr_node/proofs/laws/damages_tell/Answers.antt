@@ -1,15 +1,10 @@
-use Rattle.std.proofs.Common.{◌≡◌, ◌↔◌, ℕ, List, []}
-use Rattle.btr_node.specs.Inner.{IsInner, has_inner_head, has_inner_layout, has_inner_order}
-use Rattle.btr_node.specs.Leaf.{IsLeaf, has_leaf_head, has_leaf_layout, has_leaf_order}
-use Rattle.btr_node.specs.Rules.{leaf_damages, inner_damages}
-use Rattle.btr_node.specs.Sum.{has_sum}
-use Rattle.btr_node.specs.declared.expect.Expect.{Expect}
+use Rattle.btr_node.proofs.Imports.{◌≡◌, ◌↔◌, ℕ, List, [], IsBtrfsInner, has_inner_head, has_inner_layout, has_inner_order, IsBtrfsLeaf, has_leaf_head, has_leaf_layout, has_leaf_order, leaf_damages, inner_damages, has_sum, Expect}
 use Rattle.btr_node.proofs.Breaks.{breaks_none, none_broken, sum_decides, leaf_head_decides}
 use Rattle.btr_node.proofs.Inners.{inner_head_decides, inner_layout_decides}
 use Rattle.btr_node.proofs.Leaves.{leaf_layout_decides}
 use Rattle.btr_node.proofs.laws.damages_tell.Goals as goal
 
-leaf_tells : (want : Expect) (bytes : List ℕ) → leaf_damages want bytes ≡ [] ↔ IsLeaf want bytes
+leaf_tells : (want : Expect) (bytes : List ℕ) → leaf_damages want bytes ≡ [] ↔ IsBtrfsLeaf want bytes
 unfolding leaf_damages
 leaf_tells want bytes =
     let sum = sum_decides want.sums bytes in
@@ -29,7 +24,7 @@ leaf_tells want bytes =
           (sum.1 leaf.sum) (head.1 (leaf.level, leaf.head)) (layout.1 leaf.layout) leaf.order,
     )
 
-inner_tells : (want : Expect) (bytes : List ℕ) → inner_damages want bytes ≡ [] ↔ IsInner want bytes
+inner_tells : (want : Expect) (bytes : List ℕ) → inner_damages want bytes ≡ [] ↔ IsBtrfsInner want bytes
 unfolding inner_damages
 inner_tells want bytes =
     let sum = sum_decides want.sums bytes in

@@ -1,4 +1,4 @@
-use Rattle.std.proofs.Common.{◌≤◌, ◌+◌, length, arith}
+use Rattle.btr_node.proofs.Imports.{◌≤◌, ◌+◌, length, arith}
 use Rattle.btr_node.proofs.Leaves.{head_within}
 use Rattle.btr_node.proofs.leaf.data_at.Goals as goal
 

@@ -1,10 +1,9 @@
-use Rattle.std.proofs.Common.{length, ap, arith, length-drop}
-use Rattle.btr_node.specs.declared.head.Head.{Head}
+use Rattle.btr_node.proofs.Imports.{length, ap, arith, length-drop, HEADER_SIZE, Head}
 use Rattle.btr_node.proofs.Leaves.{layout_true, layout_false}
 use Rattle.btr_node.proofs.leaf.has_layout.Goals as goal
 
 pub has_areas-requires : goal.has_areas-requires
-has_areas-requires c = omega (arith, length-drop 101 c.args.bytes.now, ap length c.behind_head.ensures)
+has_areas-requires c = omega (arith, length-drop HEADER_SIZE c.args.bytes.now, ap length c.behind_head.ensures)
 
 pub returns-then-count-bytes : goal.returns-then-count-bytes
 returns-then-count-bytes c =

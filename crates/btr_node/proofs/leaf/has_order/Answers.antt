@@ -1,9 +1,4 @@
-use Rattle.std.proofs.Common.{ℕ, List, length, sym, ap, ◌∙◌, arith}
-use Rattle.btr_keys.specs.Key.{key_layout}
-use Rattle.btr_node.specs.Head.{count}
-use Rattle.btr_node.specs.Order.{ascends}
-use Rattle.btr_node.specs.Records.{records_in}
-use Rattle.btr_node.specs.declared.head.Head.{Head}
+use Rattle.btr_node.proofs.Imports.{ℕ, List, length, sym, ap, ◌∙◌, arith, ITEM_SIZE, key_layout, nritems, ascends, records_in, Head}
 use Rattle.btr_node.proofs.Leaves.{heads_there, keys_of-items_in}
 use Rattle.btr_node.proofs.leaf.has_order.Goals as goal
 
@@ -14,6 +9,6 @@ keys_ascend-requires-clause-there c =
 pub returns : goal.returns
 returns c =
     c.keys_ascend.ensures
-    ∙ ap (λ (n : ℕ). ascends (records_in 25 key_layout n c.behind_head.result.now)) (ap (λ (h : Head). h.count) c.of-count.ensures)
-    ∙ ap (λ (s : List ℕ). ascends (records_in 25 key_layout (count c.args.bytes.now) s)) c.behind_head.ensures
+    ∙ ap (λ (n : ℕ). ascends (records_in ITEM_SIZE key_layout n c.behind_head.result.now)) (ap (λ (h : Head). h.count) c.of-count.ensures)
+    ∙ ap (λ (s : List ℕ). ascends (records_in ITEM_SIZE key_layout (nritems c.args.bytes.now) s)) c.behind_head.ensures
     ∙ ap ascends (sym (keys_of-items_in c.args.bytes.now))

@@ -1,7 +1,4 @@
-use Rattle.std.proofs.Common.{◌≡◌, ◌+◌, ◌-◌, drop, sym, ap, ◌∙◌, arith}
-use Rattle.btr_keys.specs.Key.{key_layout}
-use Rattle.btr_node.specs.Order.{ascends}
-use Rattle.btr_node.specs.Records.{records_in}
+use Rattle.btr_node.proofs.Imports.{◌≡◌, ◌+◌, ◌-◌, drop, sym, ap, ◌∙◌, arith, key_layout, ascends, records_in}
 use Rattle.btr_node.proofs.Ascending.{before_test, two_keys, last_ascends}
 use Rattle.btr_node.proofs.Rows.{passed, failed}
 use Rattle.btr_node.proofs.order.keys_ascend.Goals as goal

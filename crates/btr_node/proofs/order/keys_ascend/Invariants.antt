@@ -1,7 +1,4 @@
-use Rattle.std.proofs.Common.{◌≡◌, ◌-◌, drop}
-use Rattle.btr_keys.specs.Key.{key_layout}
-use Rattle.btr_node.specs.Order.{ascends}
-use Rattle.btr_node.specs.Records.{records_in}
+use Rattle.btr_node.proofs.Imports.{◌≡◌, ◌-◌, drop, key_layout, ascends, records_in}
 use Rattle.btr_node.proofs.order.keys_ascend.Given as goal
 
 abbrev pub invariant-loop-i : goal.invariant-loop-i

@@ -1,8 +1,4 @@
-use Rattle.std.proofs.Common.{◌≡◌, ℕ, List, [], ◌∷◌, ◌++◌, ap, ◌∙◌}
-use Rattle.refusals.specs.vol_block.Field.{fields_bytes}
-use Rattle.refusals.specs.vol_block.declared.field.Field.TheVariants.{U64}
-use Rattle.btr_keys.specs.Layout.{spelling}
-use Rattle.btr_node.specs.Inner.{child_layout}
+use Rattle.btr_node.proofs.Imports.{◌≡◌, ℕ, List, [], ◌∷◌, ◌++◌, ap, ◌∙◌, fields_bytes, U64, spelling, child_layout}
 use Rattle.btr_node.proofs.Putting.{put_child_is}
 use Rattle.btr_node.proofs.put.put_child.Goals as goal
 

@@ -1,10 +1,5 @@
-use Rattle.std.proofs.Common.{◌≡◌, ℕ, ◌+◌, ◌-◌, ◌*◌, List, [], ◌∷◌, ◌++◌, length, refl, ap, ◌∙◌}
-use Rattle.refusals.specs.vol_block.Field.{fields_bytes}
-use Rattle.refusals.specs.vol_block.declared.field.Field.TheVariants.{U32}
+use Rattle.btr_node.proofs.Imports.{◌≡◌, ℕ, ◌+◌, ◌-◌, ◌*◌, List, [], ◌∷◌, ◌++◌, length, refl, ap, ◌∙◌, ITEM_SIZE, fields_bytes, U32, spelling, item_layout, BtrItemHead}
 use borrow.Rule.Slice.PartMut.{put_mid}
-use Rattle.btr_keys.specs.Layout.{spelling}
-use Rattle.btr_node.specs.Leaf.{item_layout}
-use Rattle.btr_node.specs.declared.item.ItemHead.{ItemHead}
 use Rattle.btr_node.proofs.Putting.{put_item_is}
 use Rattle.btr_node.proofs.put.put_item.Goals as goal
 
@@ -12,10 +7,10 @@ pub returns : goal.returns
 unfolding item_layout
 returns c = λ items counted placed is.
     let begin : ℕ = c.args.low - length c.args.body.now in
-    let at : ℕ = 25 * c.args.count in
-    let head : ItemHead = record { key = c.args.key; offset = begin; size = length c.args.body.now } in
+    let at : ℕ = ITEM_SIZE * c.args.count in
+    let head : BtrItemHead = record { key = c.args.key; offset = begin; size = length c.args.body.now } in
     let spelled : c.put_fields.new.into ≡ spelling item_layout head =
     c.put_fields.ensures ∙ ap (λ (key : List ℕ). key ++ fields_bytes (U32 begin ∷ U32 (length c.args.body.now) ∷ [])) c.to_bytes.ensures in
-    ap (λ (middle : List ℕ). put_mid at (at + 25 - at) (put_mid begin (c.args.low - begin) c.args.behind.now middle) c.put_fields.new.into) c.copy_from_slice.ensures.after
+    ap (λ (middle : List ℕ). put_mid at (at + ITEM_SIZE - at) (put_mid begin (c.args.low - begin) c.args.behind.now middle) c.put_fields.new.into) c.copy_from_slice.ensures.after
     ∙ put_item_is _ c.args.count c.args.low begin c.args.behind.now c.args.body.now c.put_fields.new.into c.args.key head items
     c.requires.heads counted placed refl is refl spelled

@@ -1,9 +1,4 @@
-use Rattle.std.proofs.Common.{◌≤◌, ◌<◌, ◌++◌, ◌∷◌, [], ℕ, List, length, refl, sym, ◌∙◌, ap, subst, arith}
-use Rattle.std.specs.Option.{option_map}
-use Rattle.std.proofs.lemmas.Bool.Decides.{nat_tests}
-use Rattle.btr_reader.specs.declared.chunk.ChunkAt.{ChunkAt}
-use Rattle.btr_reader.specs.Chunks.{entry_size, chunks_within, array_chunks}
-use Rattle.btr_reader.specs.Opening.{IsBadArray}
+use Rattle.btr_reader.proofs.Imports.{◌≤◌, ◌<◌, ◌++◌, ◌∷◌, [], ℕ, List, length, refl, sym, ◌∙◌, ap, subst, arith, option_map, nat_tests, ChunkAt, entry_size, chunks_within, array_chunks, IsBadArray}
 use Rattle.btr_reader.proofs.Array.{chunk_more, no_chunk, no_more}
 use Rattle.btr_reader.proofs.bootstrap.array_chunks.Goals as goal
 

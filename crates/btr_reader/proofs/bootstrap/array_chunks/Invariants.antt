@@ -1,6 +1,4 @@
-use Rattle.std.proofs.Common.{◌≡◌, ◌≤◌, ℕ, ◌++◌, length}
-use Rattle.std.specs.Option.{option_map}
-use Rattle.btr_reader.specs.Chunks.{chunks_within, array_chunks}
+use Rattle.btr_reader.proofs.Imports.{◌≡◌, ◌≤◌, ℕ, ◌++◌, length, option_map, chunks_within, array_chunks}
 use Rattle.btr_reader.proofs.bootstrap.array_chunks.Given as goal
 
 abbrev pub invariant-loop-rest : goal.invariant-loop-rest

@@ -1,5 +1,4 @@
-use Rattle.std.proofs.Common.{[], ◌∷◌, ◌++◌, ◌∙◌, ap}
-use Rattle.btr_reader_walk.specs.declared.map.MapRange.{MapRange}
+use Rattle.btr_reader.proofs.Imports.{[], ◌∷◌, ◌++◌, ◌∙◌, ap, MapRange}
 use Rattle.btr_reader.proofs.MapBlocks.{added_inside}
 use Rattle.btr_reader.proofs.chunk.add_chunk.Goals as goal
 

@@ -1,7 +1,4 @@
-use Rattle.std.proofs.Common.{[], sym, subst}
-use Rattle.std.proofs.lemmas.Result.{err_from_is_err_and}
-use Rattle.btr_reader.specs.Chunks.{chunks_refusals}
-use Rattle.btr_reader.specs.Opening.{IsAmong}
+use Rattle.btr_reader.proofs.Imports.{[], sym, subst, err_from_is_err_and, chunks_refusals, IsAmong}
 use Rattle.btr_reader.proofs.Adding.{next_refused}
 use Rattle.btr_reader.proofs.chunk.add_chunks.Goals as goal
 

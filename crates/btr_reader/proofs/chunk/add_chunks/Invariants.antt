@@ -1,6 +1,4 @@
-use Rattle.std.proofs.Common.{◌≡◌, [], take, drop, map}
-use Rattle.btr_reader_walk.specs.Walks.{LieOn}
-use Rattle.btr_reader.specs.Chunks.{range_of, chunks_refusals}
+use Rattle.btr_reader.proofs.Imports.{◌≡◌, [], take, drop, map, LieOn, range_of, chunks_refusals}
 use Rattle.btr_reader.proofs.chunk.add_chunks.Given as goal
 
 abbrev pub invariant-loop-c : goal.invariant-loop-c

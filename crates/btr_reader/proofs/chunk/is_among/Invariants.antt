@@ -1,6 +1,4 @@
-use Rattle.std.proofs.Common.{◌≡◌, drop}
-use Rattle.std.specs.List.{list_any}
-use Rattle.btr_reader.specs.Chunks.{same_chunk}
+use Rattle.btr_reader.proofs.Imports.{◌≡◌, drop, list_any, same_chunk}
 use Rattle.btr_reader.proofs.chunk.is_among.Given as goal
 
 abbrev pub invariant-loop-other : goal.invariant-loop-other

@@ -1,16 +1,11 @@
-use Rattle.std.proofs.Common.{◌≡◌, false, Option, IfErr, sym, ◌∙◌, subst}
-use Rattle.std.specs.List.{list_any}
-use Rattle.btr_reader.specs.declared.chunk.ChunkAt.{ChunkAt}
-use Rattle.btr_reader.specs.Chunks.{same_chunk, chunk_item_refusals}
-use Rattle.btr_reader.specs.Opening.{IsAmong}
+use Rattle.btr_reader.proofs.Imports.{◌≡◌, false, Option, IfErr, sym, ◌∙◌, subst, list_any, ChunkAt, same_chunk, chunk_item_refusals, IsAmong}
 use Rattle.btr_reader.proofs.Adding.{chunk_is_new}
 use Rattle.btr_reader.proofs.chunk_tree.add_item.Goals as goal
 
 pub returns-clause-err : goal.returns-clause-err
 returns-clause-err c =
     let key = c.args.key.now in
-    let own : ChunkAt = record { logical = key.offset; chunk = c.in-Some.chunk } in
-    let fresh : list_any (same_chunk own) c.args.boot.now ≡ false = sym c.is_among.ensures ∙ c.if-is_among.false in
+    let fresh : list_any (same_chunk c.in-Some.c) c.args.boot.now ≡ false = sym c.is_among.ensures ∙ c.if-is_among.false in
     subst (λ (o : Option (Option ChunkAt)). IfErr c.add_chunk.result (IsAmong (chunk_item_refusals c.args.device c.args.ranges.now.items key.offset o)))
-    (sym (chunk_is_new c.args.boot.now key c.args.body.now c.in-Some.chunk (sym c.is_chunk_key.ensures ∙ c.if-not-is_chunk_key.false) (sym c.read.ensures ∙ c.in-Some.is) fresh))
+    (sym (chunk_is_new c.args.boot.now key c.args.body.now c.in-Some.c (sym c.is_chunk_key.ensures ∙ c.if-not-is_chunk_key.false) (sym c.read.ensures ∙ c.in-Some.is) fresh))
     c.add_chunk.ensures.err

@@ -1,7 +1,4 @@
-use Rattle.std.proofs.Common.{◌≡◌, [], List, false, IsTrue}
-use Rattle.btr_reader_walk.specs.Events.{TreeItem}
-use Rattle.btr_reader_walk.specs.Walks.{Walks, LieOn, fuel}
-use Rattle.btr_reader.specs.Chunks.{with_items, items_refusals}
+use Rattle.btr_reader.proofs.Imports.{◌≡◌, [], List, false, IsTrue, TreeItem, Walks, LieOn, fuel, with_items, items_refusals}
 use Rattle.btr_reader.proofs.chunk_tree.read_chunks.Given as goal
 
 abbrev pub invariant-loop-walker : goal.invariant-loop-walker

@@ -1,16 +1,4 @@
-use Rattle.std.proofs.Common.{◌≡◌, List, [], ◌∷◌, ◌++◌, refl, sym, ◌∙◌, ap, subst}
-use Rattle.std.proofs.lemmas.Result.{err_from_is_err_and}
-use Rattle.btr_reader_walk.specs.outside.History.{Image}
-use Rattle.btr_reader_walk.specs.declared.map.MapRange.{MapRange}
-use Rattle.btr_reader_walk.specs.declared.tree.Tree.{Tree}
-use Rattle.btr_reader_walk.specs.Events.{TreeItem}
-use Rattle.btr_reader_walk.specs.Walks.{Blames, found, wrong}
-use Rattle.btr_reader_walk.proofs.Events.{none_both}
-use Rattle.btr_reader_walk.proofs.Walking.{blames_among, given_first}
-use Rattle.btr_reader.specs.Image.{first_key, entry_named, is_called, is_root_directory, twice_refusals, index_refusals, root_refusals, entry_refusals}
-use Rattle.btr_reader_names.specs.Links.{own_naming, namings}
-use Rattle.btr_reader_names.proofs.Seeing.{none_seen}
-use Rattle.btr_reader.specs.Opening.{IsAmong}
+use Rattle.btr_reader.proofs.Imports.{◌≡◌, List, [], ◌∷◌, ◌++◌, refl, sym, ◌∙◌, ap, subst, err_from_is_err_and, Image, MapRange, Tree, TreeItem, Blames, found, wrong, none_both, blames_among, given_first, first_key, entry_named, is_called, is_root_directory, twice_refusals, index_refusals, root_refusals, entry_refusals, own_naming, dir_indexes, none_seen, IsAmong}
 use Rattle.btr_reader.proofs.Among.{among_left, among_right}
 use Rattle.btr_reader.proofs.EntryItems.{entry_push, index_right}
 use Rattle.btr_reader.proofs.RootNames.{none_twice, root_refused}
@@ -96,7 +84,7 @@ returns-clause-ok g c = λ tells image is.
     let all : told.0 ≡ found here ranges c.args.tree = end.1.all ∙ ap (λ (t : Tree). found here ranges t) before.tree in
     subst (λ (m : Image). entry_refusals m ranges c.args.tree ≡ []) is
     (none_both (wrong here ranges c.args.tree) _ (subst (λ (tree : Tree). wrong here ranges tree ≡ []) before.tree end.1.sound)
-    (subst (λ (items : List TreeItem). root_refusals items ≡ []) all (none_both (index_refusals told.0) (twice_refusals (namings told.0)) told.3 (none_twice (namings told.0) told.4.once))))
+    (subst (λ (items : List TreeItem). root_refusals items ≡ []) all (none_both (index_refusals told.0) (twice_refusals (dir_indexes told.0)) told.3 (none_twice (dir_indexes told.0) told.4.once))))
 
 pub returns-clause-entry : goal.returns-clause-entry
 returns-clause-entry g c = λ tells image is.
@@ -108,5 +96,5 @@ returns-clause-entry g c = λ tells image is.
     let end = rw c.if-branch.false at (c.in_ok-advance.ensures.comes tells here same told.0 told.1) in
     let all : told.0 ≡ found here ranges c.args.tree = end.1.all ∙ ap (λ (t : Tree). found here ranges t) before.tree in
     told.2
-    ∙ (ap (λ (items : List TreeItem). entry_named (is_called c.args.name.now) (namings items)) all
-    ∙ ap (λ (m : Image). entry_named (is_called c.args.name.now) (namings (found m ranges c.args.tree))) is)
+    ∙ (ap (λ (items : List TreeItem). entry_named (is_called c.args.name.now) (dir_indexes items)) all
+    ∙ ap (λ (m : Image). entry_named (is_called c.args.name.now) (dir_indexes (found m ranges c.args.tree))) is)

@@ -1,9 +1,4 @@
-use Rattle.std.proofs.Common.{◌≡◌, List, [], false, IsTrue}
-use Rattle.btr_reader_walk.specs.Events.{TreeItem}
-use Rattle.btr_reader_walk.specs.Walks.{Walks, fuel}
-use Rattle.btr_reader.specs.Image.{entry_named, is_called, is_root_directory, index_refusals}
-use Rattle.btr_reader_names.specs.Links.{namings}
-use Rattle.btr_reader_names.specs.Passes.{HasSeen}
+use Rattle.btr_reader.proofs.Imports.{◌≡◌, List, [], false, IsTrue, TreeItem, Walks, fuel, entry_named, is_called, is_root_directory, index_refusals, dir_indexes, HasSeen}
 use Rattle.btr_reader.proofs.entries.find_entry.Given as goal
 
 abbrev pub invariant-loop-walker : goal.invariant-loop-walker
@@ -12,7 +7,7 @@ invariant-loop-walker g l = record {
   same : g.S.BlockSource.faults l.src ≡ g.S.BlockSource.faults l.fn.src;
   tree : l.walker.tree ≡ l.fn.tree;
   fresh : l.walker.spent ≡ false;
-  walks : IsTrue g.S.BlockSource.tells → (given : List TreeItem) × Walks l.walker (g.S.BlockSource.blocks l.fn.src) l.ranges given × (l.first ≡ entry_named (is_called l.name) (namings given)) × (index_refusals given ≡ []) × HasSeen is_root_directory l.seen (namings given);
+  walks : IsTrue g.S.BlockSource.tells → (given : List TreeItem) × Walks l.walker (g.S.BlockSource.blocks l.fn.src) l.ranges given × (l.first ≡ entry_named (is_called l.name) (dir_indexes given)) × (index_refusals given ≡ []) × HasSeen is_root_directory l.seen (dir_indexes given);
 }
 
 abbrev pub decreases-loop-walker : goal.decreases-loop-walker

@@ -1,5 +1,5 @@
 use Rattle.btr_reader.proofs.RootNames.{match_on, twice_refused}
-use Rattle.btr_reader.specs.Image.{is_root_directory}
+use Rattle.btr_reader.proofs.Imports.{is_root_directory}
 use Rattle.btr_reader.proofs.entries.see_entry.Goals as goal
 
 pub returns-clause-seen : goal.returns-clause-seen

@@ -1,15 +1,4 @@
-use Rattle.std.proofs.Common.{◌≡◌, ℕ, ◌<◌, ◌^◌, List, [], ◌∷◌, ◌++◌, sym, ◌∙◌, ap, subst, arith, refl}
-use Rattle.std.proofs.lemmas.Result.{err_from_is_err_and}
-use Rattle.btr_reader_walk.specs.outside.History.{Image}
-use Rattle.btr_reader_walk.specs.refusals.declared.refusal.BtrRefusal.{BtrRefusal}
-use Rattle.btr_reader_walk.specs.declared.map.MapRange.{MapRange}
-use Rattle.btr_reader_walk.specs.declared.tree.Tree.{Tree}
-use Rattle.btr_reader_walk.specs.Events.{TreeItem}
-use Rattle.btr_reader_walk.specs.Walks.{Blames, found, wrong}
-use Rattle.btr_reader_walk.proofs.Walking.{blames_among, given_first}
-use Rattle.btr_reader_contents.specs.Extents.{extents_of, extents_refusals}
-use Rattle.btr_reader.specs.Opening.{IsAmong}
-use Rattle.btr_reader.specs.Pieces.{Gathers}
+use Rattle.btr_reader.proofs.Imports.{◌≡◌, ℕ, ◌<◌, ◌^◌, List, [], ◌∷◌, ◌++◌, sym, ◌∙◌, ap, subst, arith, refl, err_from_is_err_and, Image, BtrRefusal, MapRange, Tree, TreeItem, Blames, found, wrong, blames_among, given_first, extents_of, extents_refusals, IsAmong, GathersExtents}
 use Rattle.btr_reader.proofs.Among.{among_left, among_right}
 use Rattle.btr_reader.proofs.OneExtent.{extents_first}
 use Rattle.btr_reader.proofs.gather.gather_extents.Goals as goal
@@ -94,5 +83,5 @@ returns-clause-gathered g c = λ tells image is.
     let same = g.met.S.BlockSource.kept_blocks c.args.src.now c.loop-walker.src tells before.kept in
     let end = rw c.if-branch.false at (c.in_ok-advance.ensures.comes tells here same told.0 told.1) in
     let all : told.0 ≡ found here ranges c.args.tree = end.1.all ∙ ap (λ (t : Tree). found here ranges t) before.tree in
-    subst (λ (m : Image). Gathers ranges (extents_of (found m ranges c.args.tree) c.args.inode) c.loop-walker.g) is
-    (subst (λ (items : List TreeItem). Gathers ranges (extents_of items c.args.inode) c.loop-walker.g) all told.2)
+    subst (λ (m : Image). GathersExtents ranges (extents_of (found m ranges c.args.tree) c.args.inode) c.loop-walker.g) is
+    (subst (λ (items : List TreeItem). GathersExtents ranges (extents_of items c.args.inode) c.loop-walker.g) all told.2)

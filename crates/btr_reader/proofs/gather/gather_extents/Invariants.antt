@@ -1,8 +1,4 @@
-use Rattle.std.proofs.Common.{◌≡◌, ◌<◌, ◌^◌, List, false, IsTrue}
-use Rattle.btr_reader_walk.specs.Events.{TreeItem}
-use Rattle.btr_reader_walk.specs.Walks.{Walks, fuel}
-use Rattle.btr_reader_contents.specs.Extents.{extents_of}
-use Rattle.btr_reader.specs.Pieces.{Gathers, IsInOrder}
+use Rattle.btr_reader.proofs.Imports.{◌≡◌, ◌<◌, ◌^◌, List, false, IsTrue, TreeItem, Walks, fuel, extents_of, GathersExtents, AreGatheredInOrder}
 use Rattle.btr_reader.proofs.gather.gather_extents.Given as goal
 
 abbrev pub invariant-loop-walker : goal.invariant-loop-walker
@@ -12,8 +8,8 @@ invariant-loop-walker g l = record {
   tree : l.walker.tree ≡ l.fn.tree;
   fresh : l.walker.spent ≡ false;
   few : l.g.reach.covered < 2 ^ 59;
-  order : IsInOrder l.g;
-  walks : IsTrue g.S.BlockSource.tells → (given : List TreeItem) × Walks l.walker (g.S.BlockSource.blocks l.fn.src) l.ranges given × Gathers l.ranges (extents_of given l.inode) l.g;
+  order : AreGatheredInOrder l.g;
+  walks : IsTrue g.S.BlockSource.tells → (given : List TreeItem) × Walks l.walker (g.S.BlockSource.blocks l.fn.src) l.ranges given × GathersExtents l.ranges (extents_of given l.inode) l.g;
 }
 
 abbrev pub decreases-loop-walker : goal.decreases-loop-walker

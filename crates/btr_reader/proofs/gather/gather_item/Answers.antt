@@ -1,12 +1,4 @@
-use Rattle.std.proofs.Common.{◌≡◌, true, [], ◌∷◌, ◌++◌, Some, None, sym, subst, ◌∙◌, ap, arith}
-use Rattle.std.specs.Option.{option_map}
-use Rattle.std.proofs.lemmas.Result.{err_from_is_err_and}
-use Rattle.btr_reader_walk.specs.refusals.declared.refusal.BtrRefusal.TheVariants.{BadBtrfs}
-use Rattle.btr_reader_walk.specs.refusals.declared.rule.BtrRule.TheVariants.{Body}
-use Rattle.btr_reader_walk.specs.btr_keys.FileExtent.{file_extent_value, file_extent_of}
-use Rattle.btr_reader_walk.specs.btr_keys.declared.key.Key.{Key}
-use Rattle.btr_reader_contents.specs.Extents.{extents_of, extents_refusals, is_extent_key, is_extent_of}
-use Rattle.btr_reader.specs.Opening.{IsAmong, NamesNoLogTree}
+use Rattle.btr_reader.proofs.Imports.{◌≡◌, true, [], ◌∷◌, ◌++◌, Some, None, sym, subst, ◌∙◌, ap, arith, option_map, err_from_is_err_and, BadBtrfs, Body, file_extent_value, file_extent_of, Key, extents_of, extents_refusals, is_extent_key, is_extent_of, IsAmong, NamesNoLogTree}
 use Rattle.btr_reader.proofs.NoLogs.{of_extent}
 use Rattle.btr_reader.proofs.OneExtent.{item_refused, gathers_one}
 use Rattle.btr_reader.proofs.gather.gather_item.Goals as goal

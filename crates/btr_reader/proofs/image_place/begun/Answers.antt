@@ -1,8 +1,6 @@
-use Rattle.std.proofs.Common.{leb, rules}
-use Rattle.std.proofs.lemmas.List.Sorted.{IsPartitionPoint-from_clause}
-use Rattle.btr_reader.specs.declared.piece.Piece.{Piece}
+use Rattle.btr_reader.proofs.Imports.{leb, rules, IsPartitionPoint-from_clause, MappedExtent}
 use Rattle.btr_reader.proofs.Searching.{begun_first}
 use Rattle.btr_reader.proofs.image_place.begun.Goals as goal
 
 pub returns-clause-parts : goal.returns-clause-parts
-returns-clause-parts c = IsPartitionPoint-from_clause (λ (p : Piece). leb p.first c.args.b) _ _ c.partition_point.ensures.partitioned (begun_first c.args.pieces.now c.args.b c.requires) (λ a r q k. search rules)
+returns-clause-parts c = IsPartitionPoint-from_clause (λ (p : MappedExtent). leb p.first c.args.b) _ _ c.partition_point.ensures.partitioned (begun_first c.args.pieces.now c.args.b c.requires) (λ a r q k. search rules)

@@ -1,4 +1,4 @@
-use Rattle.std.proofs.Common.{◌+◌, ◌≡◌, ◌-◌, sym, ◌∙◌, arith}
+use Rattle.btr_reader.proofs.Imports.{◌+◌, ◌≡◌, ◌-◌, sym, ◌∙◌, arith}
 use Rattle.btr_reader.proofs.Searching.{none_begun, last_begun}
 use Rattle.btr_reader.proofs.image_place.pieces_place.Goals as goal
 

@@ -1,11 +1,8 @@
-use Rattle.std.proofs.Common.{◌≡◌, length, sym, subst, ◌∙◌, ap, arith}
-use Rattle.btr_reader_walk.specs.outside.History.{block_at}
-use Rattle.btr_super.specs.Rules.{super_of}
-use Rattle.btr_reader.specs.Opening.{IsSuperAnswer, super_on}
+use Rattle.btr_reader.proofs.Imports.{◌≡◌, length, sym, subst, ◌∙◌, ap, arith, SUPER_BLOCK, block_at, super_of, IsSuperAnswer, super_on}
 use Rattle.btr_reader.proofs.Supers.{no_super}
 use Rattle.btr_reader.proofs.open.read_super.Goals as goal
 
-pub returns-then-device-le-SUPER_PLACE-clause-err : goal.returns-then-device-le-SUPER_PLACE-clause-err
-returns-then-device-le-SUPER_PLACE-clause-err g c = λ tells image is.
+pub returns-then-device-le-SUPER_BLOCK-clause-err : goal.returns-then-device-le-SUPER_BLOCK-clause-err
+returns-then-device-le-SUPER_BLOCK-clause-err g c = λ tells image is.
     let size : c.args.device ≡ length image = c.requires ∙ (g.met.S.BlockSource.size_is c.args.src.now tells ∙ ap length is) in
-    subst (IsSuperAnswer (super_on image)) (sym c.refused.ensures) (ap (super_of (block_at image 16) 16) (sym size) ∙ no_super (block_at image 16) c.args.device (omega arith))
+    subst (IsSuperAnswer (super_on image)) (sym c.refused.ensures) (ap (super_of (block_at image SUPER_BLOCK) SUPER_BLOCK) (sym size) ∙ no_super (block_at image SUPER_BLOCK) c.args.device (omega arith))

@@ -1,4 +1,4 @@
-use Rattle.std.proofs.Common.{◌∙◌, sym}
+use Rattle.btr_reader.proofs.Imports.{◌∙◌, sym}
 use Rattle.btr_reader.proofs.RowContents.{content_kept}
 use Rattle.btr_reader.proofs.placed.content.Goals as goal
 

@@ -1,6 +1,4 @@
-use Rattle.std.proofs.Common.{◌≡◌, ◌==◌, ◌∙◌, false, sym, ap, arith}
-use Rattle.std.proofs.lemmas.Bool.Decides.{nat_tests}
-use Rattle.fs_rows.specs.Rows.{row_of}
+use Rattle.btr_reader.proofs.Imports.{◌≡◌, ◌==◌, ◌∙◌, false, sym, ap, arith, nat_tests, row_of}
 use Rattle.btr_reader.proofs.RowMade.{tree_is, inode_there, kind_there, not_longer, target_wanted, least_is, row_made}
 use Rattle.btr_reader.proofs.placed.row_at.Goals as goal
 

@@ -1,7 +1,4 @@
-use Rattle.std.proofs.Common.{sym, subst}
-use Rattle.std.proofs.lemmas.Result.{err_from_is_err_and}
-use Rattle.btr_reader_walk.specs.Walks.{wrong}
-use Rattle.btr_reader.specs.Opening.{IsAmong}
+use Rattle.btr_reader.proofs.Imports.{sym, subst, err_from_is_err_and, wrong, IsAmong}
 use Rattle.btr_reader.proofs.roots.read_roots.Goals as goal
 
 pub returns-in_err-note_items-clause-err : goal.returns-in_err-note_items-clause-err

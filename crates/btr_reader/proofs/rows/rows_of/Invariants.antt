@@ -1,12 +1,4 @@
-use Rattle.std.proofs.Common.{◌≡◌, ℕ, Bool, nat_eq, List, map, take}
-use Rattle.btr_reader_walk.specs.outside.History.{Image}
-use Rattle.btr_reader_walk.specs.declared.map.MapRange.{MapRange}
-use Rattle.btr_reader_walk.specs.Events.{TreeItem}
-use Rattle.fs_rows.specs.Rows.{row_of}
-use Rattle.indexmap.specs.IndexMap.{get}
-use Rattle.indexmap.specs.IndexSet.{contains}
-use Rattle.fs_paths.specs.Links.{same_node}
-use Rattle.btr_reader.specs.Made.{IsReadTree, made_row}
+use Rattle.btr_reader.proofs.Imports.{◌≡◌, ℕ, Bool, nat_eq, List, map, take, Image, MapRange, TreeItem, row_of, get, contains, same_node, IsReadTree, made_row}
 use Rattle.btr_reader.proofs.rows.rows_of.Given as goal
 
 abbrev pub invariant-loop-i : goal.invariant-loop-i

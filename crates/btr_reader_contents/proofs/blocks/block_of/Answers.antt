@@ -1,5 +1,4 @@
-use Rattle.std.proofs.Common.{sym, ◌∙◌, arith}
-use Rattle.btr_reader_walk.proofs.Mapping.{place_within}
+use Rattle.btr_reader_contents.proofs.Imports.{sym, ◌∙◌, arith, place_within}
 use Rattle.btr_reader_contents.proofs.blocks.block_of.Goals as goal
 
 pub overflow_cast-result : goal.overflow_cast-result

@@ -1,5 +1,4 @@
-use Rattle.std.proofs.Common.{sym, ◌∙◌}
-use Rattle.btr_reader_walk.specs.Map.{place}
+use Rattle.btr_reader_contents.proofs.Imports.{sym, ◌∙◌, place}
 use Rattle.btr_reader_contents.proofs.Places.{not_placed}
 use Rattle.btr_reader_contents.proofs.blocks.read_place.Goals as goal
 

@@ -1,5 +1,4 @@
-use Rattle.std.proofs.Common.{◌≡◌, ◌+◌, ◌-◌, ◌*◌}
-use Rattle.btr_reader_contents.specs.Extents.{unmapped_in}
+use Rattle.btr_reader_contents.proofs.Imports.{◌≡◌, ◌+◌, ◌-◌, ◌*◌, unmapped_in}
 use Rattle.btr_reader_contents.proofs.extents.check_mapped.Given as goal
 
 abbrev pub invariant-loop-i : goal.invariant-loop-i

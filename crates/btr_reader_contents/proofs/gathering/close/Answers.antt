@@ -1,6 +1,4 @@
-use Rattle.std.proofs.Common.{◌≡◌, ℕ, nat_eq, Some, OnOk, if◌then◌else◌, subst}
-use Rattle.indexmap.specs.IndexMap.{get}
-use Rattle.fs_rows.specs.declared.content.Content.{Content}
+use Rattle.btr_reader_contents.proofs.Imports.{◌≡◌, ℕ, nat_eq, Some, OnOk, if◌then◌else◌, subst, get, Content}
 use Rattle.btr_reader_contents.proofs.gathering.close.Goals as goal
 
 pub returns : goal.returns

@@ -1,6 +1,4 @@
-use Rattle.std.proofs.Common.{◌==◌, ◌≡◌, false, nat_eq, arith}
-use Rattle.std.proofs.lemmas.Bool.Decides.{nat_tests}
-use Rattle.indexmap.specs.IndexMap.{get}
+use Rattle.btr_reader_contents.proofs.Imports.{◌==◌, ◌≡◌, false, nat_eq, arith, nat_tests, get}
 use Rattle.btr_reader_contents.proofs.Gathered.{next_hand}
 use Rattle.btr_reader_contents.proofs.gathering.go_on.Goals as goal
 

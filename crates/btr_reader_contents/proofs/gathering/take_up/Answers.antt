@@ -1,7 +1,4 @@
-use Rattle.std.proofs.Common.{Option, nat_eq, subst}
-use Rattle.indexmap.specs.IndexMap.{get}
-use Rattle.btr_reader_contents.specs.declared.hand.Hand.{Hand}
-use Rattle.btr_reader_contents.specs.Gathering.{HasGathered}
+use Rattle.btr_reader_contents.proofs.Imports.{Option, nat_eq, subst, get, Hand, HasGathered}
 use Rattle.btr_reader_contents.proofs.Gathered.{first_hand}
 use Rattle.btr_reader_contents.proofs.gathering.take_up.Goals as goal
 

@@ -1,18 +1,4 @@
-use Rattle.std.proofs.Common.{◌≡◌, ℕ, List, [], ◌∷◌, ◌++◌, Option, sym, ◌∙◌, ap, subst, refl}
-use Rattle.std.proofs.lemmas.Result.{err_from_is_err_and}
-use Rattle.btr_reader_walk.specs.outside.History.{Image}
-use Rattle.indexmap.specs.IndexSet.{contains}
-use Rattle.fs_paths.specs.Links.{same_node}
-use Rattle.btr_reader_walk.specs.declared.map.MapRange.{MapRange}
-use Rattle.btr_reader_walk.specs.declared.tree.Tree.{Tree}
-use Rattle.btr_reader_walk.specs.Events.{TreeItem}
-use Rattle.btr_reader_walk.specs.Walks.{Blames, found, wrong}
-use Rattle.btr_reader_walk.proofs.Walking.{given_first}
-use Rattle.btr_reader_names.specs.Table.{HasNoted}
-use Rattle.btr_reader_contents.specs.declared.wanted.Wanted.{Wanted}
-use Rattle.btr_reader_contents.specs.Checked.{AreSound, HasChecked}
-use Rattle.btr_reader_contents.specs.Contents.{wanted_at, RefusesContents}
-use Rattle.btr_reader_contents.specs.Gathering.{last_inode}
+use Rattle.btr_reader_contents.proofs.Imports.{◌≡◌, ℕ, List, [], ◌∷◌, ◌++◌, Option, sym, ◌∙◌, ap, subst, refl, err_from_is_err_and, Image, contains, same_node, MapRange, Tree, TreeItem, Blames, found, wrong, given_first, HasNotedNames, Wanted, AreSound, HasChecked, wanted_at, RefusesContents, last_inode}
 use Rattle.btr_reader_contents.proofs.SoundExtents.{all_sound, none_checked, up_to}
 use Rattle.btr_reader_contents.proofs.Gathered.{refuses_all, refuses_tree}
 use Rattle.btr_reader_contents.proofs.Orders.{next_inode, now_last}
@@ -36,7 +22,7 @@ pub returns-in_err-advance-clause-refused : goal.returns-in_err-advance-clause-r
 returns-in_err-advance-clause-refused g c = λ tells image is noted.
     let here : Image = g.S.BlockSource.blocks c.args.src.now in
     let ranges : List MapRange = c.args.ranges.now in
-    let told = c.loop-walker.invariant.walks tells (subst (λ (m : Image). HasNoted c.args.names.now (found m ranges c.args.tree)) (sym is) noted) in
+    let told = c.loop-walker.invariant.walks tells (subst (λ (m : Image). HasNotedNames c.args.names.now (found m ranges c.args.tree)) (sym is) noted) in
     let same = g.met.S.BlockSource.kept_blocks c.args.src.now c.loop-walker.src tells c.loop-walker.invariant.kept in
     let blames = c.in_err-advance.ensures.comes tells here same told.0 told.1 in
     let err = err_from_is_err_and c.from_residual-in_err-advance.result c.from_residual-in_err-advance.ensures.1 in
@@ -75,7 +61,7 @@ returns-in_err-checked-clause-refused g c = λ tells image is noted.
     let before = c.loop-walker.invariant in
     let here : Image = g.S.BlockSource.blocks c.args.src.now in
     let ranges : List MapRange = c.args.ranges.now in
-    let whole = subst (λ (m : Image). HasNoted c.args.names.now (found m ranges c.args.tree)) (sym is) noted in
+    let whole = subst (λ (m : Image). HasNotedNames c.args.names.now (found m ranges c.args.tree)) (sym is) noted in
     let told = before.walks tells whole in
     let same = g.met.S.BlockSource.kept_blocks c.args.src.now c.loop-walker.src tells before.kept in
     let came = rw c.if-branch.true at (c.in_ok-advance.ensures.comes tells here same told.0 told.1) in
@@ -97,7 +83,7 @@ returns-clause-sound g c = λ tells image is noted.
     let before = c.loop-walker.invariant in
     let here : Image = g.S.BlockSource.blocks c.args.src.now in
     let ranges : List MapRange = c.args.ranges.now in
-    let told = before.walks tells (subst (λ (m : Image). HasNoted c.args.names.now (found m ranges c.args.tree)) (sym is) noted) in
+    let told = before.walks tells (subst (λ (m : Image). HasNotedNames c.args.names.now (found m ranges c.args.tree)) (sym is) noted) in
     let same = g.met.S.BlockSource.kept_blocks c.args.src.now c.loop-walker.src tells before.kept in
     let end = rw c.if-branch.false at (c.in_ok-advance.ensures.comes tells here same told.0 told.1) in
     let all : told.0 ≡ found here ranges c.args.tree = end.1.all ∙ ap (λ (t : Tree). found here ranges t) before.tree in

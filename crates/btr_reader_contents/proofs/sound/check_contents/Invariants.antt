@@ -1,12 +1,4 @@
-use Rattle.std.proofs.Common.{◌≡◌, List, false, IsTrue}
-use Rattle.indexmap.specs.IndexSet.{contains}
-use Rattle.fs_paths.specs.Links.{same_node}
-use Rattle.btr_reader_walk.specs.Events.{TreeItem}
-use Rattle.btr_reader_walk.specs.Walks.{Walks, fuel, found}
-use Rattle.btr_reader_names.specs.Table.{HasNoted}
-use Rattle.btr_reader_contents.specs.Checked.{HasChecked}
-use Rattle.btr_reader_contents.specs.Contents.{wanted_at}
-use Rattle.btr_reader_contents.specs.Gathering.{last_inode}
+use Rattle.btr_reader_contents.proofs.Imports.{◌≡◌, List, false, IsTrue, contains, same_node, TreeItem, Walks, fuel, found, HasNotedNames, HasChecked, wanted_at, last_inode}
 use Rattle.btr_reader_contents.proofs.sound.check_contents.Given as goal
 
 abbrev pub invariant-loop-walker : goal.invariant-loop-walker
@@ -16,7 +8,7 @@ invariant-loop-walker g l = record {
   tree : l.walker.tree ≡ l.fn.tree;
   fresh : l.walker.spent ≡ false;
   walks :
-      IsTrue g.S.BlockSource.tells → HasNoted l.names (found (g.S.BlockSource.blocks l.fn.src) l.ranges l.fn.tree)
+      IsTrue g.S.BlockSource.tells → HasNotedNames l.names (found (g.S.BlockSource.blocks l.fn.src) l.ranges l.fn.tree)
       → (given : List TreeItem) × Walks l.walker (g.S.BlockSource.blocks l.fn.src) l.ranges given
       × HasChecked (wanted_at (contains same_node l.named) (found (g.S.BlockSource.blocks l.fn.src) l.ranges l.fn.tree)) l.ranges given (last_inode given) l.checked.ino l.checked.reach;
 }

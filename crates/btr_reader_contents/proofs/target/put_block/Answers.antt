@@ -1,5 +1,4 @@
-use Rattle.std.proofs.Common.{ℕ, List, sym, subst}
-use Rattle.fs_rows.specs.Pieces.{ReplacesBlock}
+use Rattle.btr_reader_contents.proofs.Imports.{ℕ, List, sym, subst, ReplacesBlock}
 use Rattle.btr_reader_contents.proofs.target.put_block.Goals as goal
 
 pub returns-clause-bytes : goal.returns-clause-bytes

@@ -1,11 +1,5 @@
-use Rattle.std.proofs.Common.{◌≡◌, ◌-◌, ◌+◌, ◌*◌, ◌/◌, ◌∙◌, ◌<◌, ℕ, min, refl, sym, ap, subst, arith}
-use Rattle.std.specs.Int.{div_ceil}
-use Rattle.btr_reader_walk.specs.Map.{place}
-use Rattle.btr_reader_walk.specs.Walks.{LieOn}
-use Rattle.fs_rows.specs.Pieces.{ReplacesBlock}
+use Rattle.btr_reader_contents.proofs.Imports.{◌≡◌, ◌-◌, ◌+◌, ◌*◌, ◌/◌, ◌∙◌, ◌<◌, ℕ, min, refl, sym, ap, subst, arith, div_ceil, place, LieOn, ReplacesBlock, joined_at, joined_start, block_or_zeros}
 use Rattle.fs_rows.proofs.Holding.{held_same}
-use Rattle.fs_rows.proofs.Joined.{joined_at, joined_start}
-use Rattle.btr_reader_contents.specs.Blocks.{block_or_zeros}
 use Rattle.btr_reader_contents.proofs.Steps.{block_replaces, blocks_end}
 use Rattle.btr_reader_contents.proofs.target.put_blocks.Goals as goal
 

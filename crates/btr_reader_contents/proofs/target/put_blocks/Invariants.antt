@@ -1,11 +1,4 @@
-use Rattle.std.proofs.Common.{◌≡◌, ◌≤◌, ◌+◌, ◌-◌, ◌*◌, ◌/◌, ℕ, min, true, false, IsTrue}
-use Rattle.btr_reader_walk.specs.outside.History.{Image}
-use Rattle.btr_reader_walk.specs.btr_keys.FileExtent.{Regular}
-use Rattle.fs_rows.specs.Held.{HoldsBytes}
-use Rattle.fs_rows.proofs.Joined.{joined_at}
-use Rattle.btr_reader_contents.specs.Blocks.{AreInBlocks}
-use Rattle.btr_reader_contents.specs.Extents.{content_byte, is_hole, range_is_aligned}
-use Rattle.btr_reader_contents.specs.Parts.{Appends}
+use Rattle.btr_reader_contents.proofs.Imports.{◌≡◌, ◌≤◌, ◌+◌, ◌-◌, ◌*◌, ◌/◌, ℕ, min, true, false, IsTrue, Image, Regular, HoldsBytes, joined_at, AreInBlocks, content_byte, is_hole, range_is_aligned, Appends}
 use Rattle.btr_reader_contents.proofs.target.put_blocks.Given as goal
 
 abbrev pub invariant-loop-j : goal.invariant-loop-j

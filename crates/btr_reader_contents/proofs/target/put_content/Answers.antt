@@ -1,8 +1,5 @@
-use Rattle.std.proofs.Common.{◌-◌, min, subst}
-use Rattle.btr_reader_walk.specs.btr_keys.FileExtent.{content_value}
+use Rattle.btr_reader_contents.proofs.Imports.{◌-◌, min, subst, content_value, extent_length, content_byte, Appends}
 use Rattle.btr_reader_walk.specs.btr_keys.declared.file_extent.ExtentContent.{ExtentContent}
-use Rattle.btr_reader_contents.specs.Extents.{extent_length, content_byte}
-use Rattle.btr_reader_contents.specs.Parts.{Appends}
 use Rattle.btr_reader_contents.proofs.ExtentContents.{first_part}
 use Rattle.btr_reader_contents.proofs.target.put_content.Goals as goal
 

@@ -1,9 +1,4 @@
-use Rattle.std.proofs.Common.{nat_eq, sym, subst}
-use Rattle.std.proofs.lemmas.Result.{err_from_is_err_and}
-use Rattle.indexmap.specs.IndexSet.{contains}
-use Rattle.fs_paths.specs.Links.{same_node}
-use Rattle.btr_reader_names.specs.declared.table.Names.{Names}
-use Rattle.btr_reader_names.specs.Refuses.{RefusesNames, IsNoFault}
+use Rattle.btr_reader_names.proofs.Imports.{nat_eq, sym, subst, err_from_is_err_and, contains, same_node, NameTable, RefusesNames, IsNoFault}
 use Rattle.btr_reader_names.proofs.Checking.{one_refused, refused_twice, refused_again, all_kept, twice_no_fault, again_no_fault}
 use Rattle.btr_reader_names.proofs.Leading.{tree_links}
 use Rattle.btr_reader_names.proofs.check.check_all.Goals as goal
@@ -28,7 +23,7 @@ returns-in_err-check_directories-clause-all c = λ items noted named.
 
 pub returns-clause-all : goal.returns-clause-all
 returns-clause-all c = λ items noted named.
-    let t : Names = c.args.names.now in
+    let t : NameTable = c.args.names.now in
     let kept = all_kept t items noted (contains nat_eq c.args.roots.now) c.args.root c.args.named.now.keys named c.in_ok-check_each.ensures.good c.in_ok-check_once.ensures.once c.in_ok-check_directories.ensures.apart in
     (kept, tree_links t items noted (contains nat_eq c.args.roots.now) c.args.root (contains same_node c.args.named.now) named kept c.in_ok-check_once.ensures.once c.in_ok-check_directories.ensures.apart)
 

@@ -1,8 +1,4 @@
-use Rattle.std.proofs.Common.{nat_eq, sym, subst}
-use Rattle.std.proofs.lemmas.Result.{err_from_is_err_and}
-use Rattle.indexmap.specs.IndexSet.{contains}
-use Rattle.fs_paths.specs.Links.{same_node}
-use Rattle.btr_reader_names.specs.Passes.{BlamesOne, by_root, by_inode, by_form, by_entry}
+use Rattle.btr_reader_names.proofs.Imports.{nat_eq, sym, subst, err_from_is_err_and, contains, same_node, BlamesOne, by_root, by_inode, by_form, by_entry}
 use Rattle.btr_reader_names.proofs.check.check_each.Goals as goal
 
 pub returns-in_err-check_root-clause-blamed : goal.returns-in_err-check_root-clause-blamed

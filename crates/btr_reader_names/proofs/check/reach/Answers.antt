@@ -1,13 +1,7 @@
-use Rattle.std.proofs.Common.{List, subst}
-use Rattle.indexmap.specs.IndexSet.{contains}
-use Rattle.fs_paths.specs.declared.link.Link.{Link}
-use Rattle.fs_paths.specs.declared.node.NodeId.{NodeId}
-use Rattle.fs_paths.specs.Links.{same_node}
-use Rattle.fs_paths.specs.Reached.{AreReached}
-use Rattle.btr_reader_names.specs.Steps.{inode_node}
+use Rattle.btr_reader_names.proofs.Imports.{List, subst, FIRST_FREE_OBJECTID, contains, NodeLink, NodeId, same_node, AreReached, inode_node}
 use Rattle.btr_reader_names.proofs.Reaching.{named_are}
 use Rattle.btr_reader_names.proofs.check.reach.Goals as goal
 
 pub returns : goal.returns
 returns c = λ items noted.
-    named_are c.args.names.now items noted (contains same_node c.in_ok-named.named) (subst (λ (l : List Link). AreReached l (inode_node 256) (contains same_node c.in_ok-named.named)) c.in_ok-steps.ensures (subst (λ (n : NodeId). AreReached c.in_ok-steps.steps.items n (contains same_node c.in_ok-named.named)) c.inode_node.ensures c.in_ok-named.ensures))
+    named_are c.args.names.now items noted (contains same_node c.in_ok-named.named) (subst (λ (l : List NodeLink). AreReached l (inode_node FIRST_FREE_OBJECTID) (contains same_node c.in_ok-named.named)) c.in_ok-steps.ensures (subst (λ (n : NodeId). AreReached c.in_ok-steps.steps.items n (contains same_node c.in_ok-named.named)) c.inode_node.ensures c.in_ok-named.ensures))

@@ -1,4 +1,4 @@
-use Rattle.std.proofs.Common.{◌∙◌, sym}
+use Rattle.btr_reader_names.proofs.Imports.{◌∙◌, sym}
 use Rattle.btr_reader_names.proofs.inode_rules.check_form.Goals as goal
 
 pub returns-then-is_open-clause-blamed : goal.returns-then-is_open-clause-blamed

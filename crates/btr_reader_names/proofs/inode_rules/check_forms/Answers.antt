@@ -1,12 +1,4 @@
-use Rattle.std.proofs.Common.{◌≡◌, ◌<◌, ◌≤◌, ◌∙◌, false, List, length, get_or, sym, ap, subst, arith}
-use Rattle.std.proofs.lemmas.List.{get_or_default}
-use Rattle.std.proofs.lemmas.Result.{err_from_is_err_and}
-use Rattle.btr_reader_walk.specs.refusals.declared.refusal.BtrRefusal.{BtrRefusal}
-use Rattle.btr_reader_names.specs.declared.naming.OffForm.{OffForm}
-use Rattle.indexmap.specs.IndexSet.{contains}
-use Rattle.fs_paths.specs.Links.{same_node}
-use Rattle.btr_reader_names.specs.Passes.{BlamesForm}
-use Rattle.btr_reader_names.specs.Steps.{is_open}
+use Rattle.btr_reader_names.proofs.Imports.{◌≡◌, ◌<◌, ◌≤◌, ◌∙◌, false, List, length, get_or, sym, ap, subst, arith, get_or_default, err_from_is_err_and, BtrRefusal, OffForm, contains, same_node, BlamesForm, is_open}
 use Rattle.btr_reader_names.proofs.Members.{each_more, each_among, indexed}
 use Rattle.btr_reader_names.proofs.inode_rules.check_forms.Goals as goal
 

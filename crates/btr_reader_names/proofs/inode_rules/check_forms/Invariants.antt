@@ -1,8 +1,4 @@
-use Rattle.std.proofs.Common.{ℕ, ◌<◌, get_or, ◌≡◌, false}
-use Rattle.btr_reader_names.specs.declared.naming.OffForm.{OffForm}
-use Rattle.indexmap.specs.IndexSet.{contains}
-use Rattle.fs_paths.specs.Links.{same_node}
-use Rattle.btr_reader_names.specs.Steps.{is_open}
+use Rattle.btr_reader_names.proofs.Imports.{ℕ, ◌<◌, get_or, ◌≡◌, false, OffForm, contains, same_node, is_open}
 use Rattle.btr_reader_names.proofs.inode_rules.check_forms.Given as goal
 
 abbrev pub invariant-loop-off : goal.invariant-loop-off

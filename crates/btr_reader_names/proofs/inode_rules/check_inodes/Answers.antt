@@ -1,8 +1,4 @@
-use Rattle.std.proofs.Common.{◌<◌, ◌≤◌, List, length, get_or, Contains, sym, subst}
-use Rattle.std.proofs.lemmas.List.{get_or_default}
-use Rattle.std.proofs.lemmas.Result.{err_from_is_err_and}
-use Rattle.fs_paths.specs.declared.node.NodeId.{NodeId}
-use Rattle.btr_reader_names.specs.Passes.{IsGoodNode, BlamesNode}
+use Rattle.btr_reader_names.proofs.Imports.{◌<◌, ◌≤◌, List, length, get_or, Contains, sym, subst, get_or_default, err_from_is_err_and, NodeId, IsGoodNode, BlamesNode}
 use Rattle.btr_reader_names.proofs.Members.{each_more, each_among, indexed}
 use Rattle.btr_reader_names.proofs.inode_rules.check_inodes.Goals as goal
 

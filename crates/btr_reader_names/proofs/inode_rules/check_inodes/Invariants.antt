@@ -1,6 +1,4 @@
-use Rattle.std.proofs.Common.{ℕ, ◌<◌, get_or}
-use Rattle.fs_paths.specs.declared.node.NodeId.{NodeId}
-use Rattle.btr_reader_names.specs.Passes.{IsGoodNode}
+use Rattle.btr_reader_names.proofs.Imports.{ℕ, ◌<◌, get_or, NodeId, IsGoodNode}
 use Rattle.btr_reader_names.proofs.inode_rules.check_inodes.Given as goal
 
 abbrev pub invariant-loop-node : goal.invariant-loop-node

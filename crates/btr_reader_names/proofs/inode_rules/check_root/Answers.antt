@@ -1,5 +1,4 @@
-use Rattle.std.proofs.Common.{◌∙◌, sym}
-use Rattle.btr_reader_names.specs.Passes.{root_off, root_other}
+use Rattle.btr_reader_names.proofs.Imports.{◌∙◌, sym, root_off, root_other}
 use Rattle.btr_reader_names.proofs.inode_rules.check_root.Goals as goal
 
 pub returns-in-None-kind_found-clause-blamed : goal.returns-in-None-kind_found-clause-blamed

@@ -1,7 +1,4 @@
-use Rattle.std.proofs.Common.{take}
-use Rattle.indexmap.specs.IndexSet.{contains}
-use Rattle.fs_paths.specs.Links.{same_node}
-use Rattle.btr_reader_names.specs.Passes.{HasDirectories}
+use Rattle.btr_reader_names.proofs.Imports.{take, contains, same_node, HasDirectories}
 use Rattle.btr_reader_names.proofs.seen.check_directories.Given as goal
 
 abbrev pub invariant-loop-naming : goal.invariant-loop-naming

@@ -1,8 +1,4 @@
-use Rattle.std.proofs.Common.{take}
-use Rattle.indexmap.specs.IndexSet.{contains}
-use Rattle.fs_paths.specs.Links.{same_node}
-use Rattle.btr_reader_names.specs.Passes.{HasSeen}
-use Rattle.btr_reader_names.specs.Steps.{is_open}
+use Rattle.btr_reader_names.proofs.Imports.{take, contains, same_node, HasSeen, is_open}
 use Rattle.btr_reader_names.proofs.seen.check_once.Given as goal
 
 abbrev pub invariant-loop-naming : goal.invariant-loop-naming

@@ -1,7 +1,4 @@
-use Rattle.std.proofs.Common.{◌++◌, ◌∷◌, [], sym, subst}
-use Rattle.btr_reader_walk.specs.refusals.declared.answer.BtrAnswer.TheVariants.{Refused}
-use Rattle.btr_reader_walk.specs.refusals.declared.refusal.BtrRefusal.{BtrRefusal}
-use Rattle.btr_reader_names.specs.Passes.{BlamesTwice}
+use Rattle.btr_reader_names.proofs.Imports.{◌++◌, ◌∷◌, [], sym, subst, Refused, BtrRefusal, BlamesTwice}
 use Rattle.btr_reader_names.proofs.Seeing.{seen_more, seen_twice, was_absent, was_there}
 use Rattle.btr_reader_names.proofs.seen.see_name.Goals as goal
 

@@ -1,7 +1,4 @@
-use Rattle.std.proofs.Common.{◌∙◌, sym}
-use Rattle.indexmap.specs.IndexSet.{contains}
-use Rattle.fs_paths.specs.Links.{same_node}
-use Rattle.btr_reader_names.specs.Steps.{is_open}
+use Rattle.btr_reader_names.proofs.Imports.{◌∙◌, sym, contains, same_node, is_open}
 use Rattle.btr_reader_names.proofs.Seeing.{closed_more}
 use Rattle.btr_reader_names.proofs.seen.see_open.Goals as goal
 

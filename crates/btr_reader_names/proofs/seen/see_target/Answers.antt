@@ -1,9 +1,4 @@
-use Rattle.std.proofs.Common.{◌++◌, ◌∷◌, [], ◌∙◌, sym, subst}
-use Rattle.btr_reader_walk.specs.refusals.declared.answer.BtrAnswer.TheVariants.{Refused}
-use Rattle.btr_reader_walk.specs.refusals.declared.refusal.BtrRefusal.{BtrRefusal}
-use Rattle.btr_reader_names.specs.Passes.{BlamesAgain}
-use Rattle.indexmap.specs.IndexSet.{contains}
-use Rattle.fs_paths.specs.Links.{same_node}
+use Rattle.btr_reader_names.proofs.Imports.{◌++◌, ◌∷◌, [], ◌∙◌, sym, subst, Refused, BtrRefusal, BlamesAgain, contains, same_node}
 use Rattle.btr_reader_names.proofs.Seeing.{other_more, directory_more, directory_again, was_absent, was_there}
 use Rattle.btr_reader_names.proofs.seen.see_target.Goals as goal
 

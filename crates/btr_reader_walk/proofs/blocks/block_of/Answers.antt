@@ -1,4 +1,4 @@
-use Rattle.std.proofs.Common.{sym, ◌∙◌, arith}
+use Rattle.btr_reader_walk.proofs.Imports.{sym, ◌∙◌, arith}
 use Rattle.btr_reader_walk.proofs.Mapping.{place_within}
 use Rattle.btr_reader_walk.proofs.blocks.block_of.Goals as goal
 

@@ -1,6 +1,4 @@
-use Rattle.std.proofs.Common.{◌≡◌, ℕ, ◌/◌, ◌*◌, ◌+◌, ◌++◌, List, length, sym, ◌∙◌, ap, arith}
-use Rattle.btr_node.specs.outside.History.{Image, block_at}
-use Rattle.btr_reader_walk.specs.Map.{place, block_of_place, blocks_at}
+use Rattle.btr_reader_walk.proofs.Imports.{◌≡◌, ℕ, ◌/◌, ◌*◌, ◌+◌, ◌++◌, List, length, sym, ◌∙◌, ap, arith, Image, block_at, place, block_of_place, blocks_at}
 use Rattle.btr_reader_walk.proofs.Mapping.{mapped_at, blocks_more, all_taken}
 use Rattle.btr_reader_walk.proofs.blocks.read_blocks.Goals as goal
 

@@ -1,5 +1,4 @@
-use Rattle.std.proofs.Common.{◌≡◌, ◌*◌, length, take, IsTrue}
-use Rattle.btr_reader_walk.specs.Map.{blocks_at}
+use Rattle.btr_reader_walk.proofs.Imports.{◌≡◌, ◌*◌, length, take, IsTrue, blocks_at}
 use Rattle.btr_reader_walk.proofs.blocks.read_blocks.Given as goal
 
 abbrev pub invariant-loop-i : goal.invariant-loop-i

@@ -1,5 +1,4 @@
-use Rattle.std.proofs.Common.{◌≡◌, length, arith}
-use Rattle.btr_reader_walk.specs.Map.{node_at}
+use Rattle.btr_reader_walk.proofs.Imports.{◌≡◌, length, arith, node_at}
 use Rattle.btr_reader_walk.proofs.Mapping.{blocks_mapped}
 use Rattle.btr_reader_walk.proofs.blocks.read_node.Goals as goal
 

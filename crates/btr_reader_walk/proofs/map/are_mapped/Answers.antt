@@ -1,5 +1,4 @@
-use Rattle.std.proofs.Common.{◌≡◌, ◌+◌, ◌-◌, ◌*◌, Bool, true, ◌&&◌, sym, ◌∙◌, ap, is_some}
-use Rattle.btr_reader_walk.specs.Map.{place, are_mapped}
+use Rattle.btr_reader_walk.proofs.Imports.{◌≡◌, ◌+◌, ◌-◌, ◌*◌, Bool, true, ◌&&◌, sym, ◌∙◌, ap, is_some, place, are_mapped}
 use Rattle.btr_reader_walk.proofs.Mapping.{mapped_more, none_some}
 use Rattle.btr_reader_walk.proofs.map.are_mapped.Goals as goal
 

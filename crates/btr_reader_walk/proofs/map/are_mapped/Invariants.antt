@@ -1,5 +1,4 @@
-use Rattle.std.proofs.Common.{◌≡◌, ◌-◌, ◌+◌, ◌*◌}
-use Rattle.btr_reader_walk.specs.Map.{are_mapped}
+use Rattle.btr_reader_walk.proofs.Imports.{◌≡◌, ◌-◌, ◌+◌, ◌*◌, are_mapped}
 use Rattle.btr_reader_walk.proofs.map.are_mapped.Given as goal
 
 abbrev pub invariant-loop-i : goal.invariant-loop-i

@@ -1,6 +1,4 @@
-use Rattle.std.proofs.Common.{◌≡◌, ◌/◌, ◌%◌, true, false, ◌&&◌, eqb, sym, ◌∙◌, ap, arith}
-use Rattle.std.proofs.lemmas.Bool.Decides.{nat_tests}
-use Rattle.btr_reader_walk.specs.Map.{is_mapped, are_mapped}
+use Rattle.btr_reader_walk.proofs.Imports.{◌≡◌, ◌/◌, ◌%◌, true, false, ◌&&◌, eqb, sym, ◌∙◌, ap, arith, nat_tests, is_mapped, are_mapped}
 use Rattle.btr_reader_walk.proofs.map.is_mapped.Goals as goal
 
 pub returns-then-address-eq0 : goal.returns-then-address-eq0

@@ -1,5 +1,4 @@
-use Rattle.std.proofs.Common.{◌≡◌, drop}
-use Rattle.btr_reader_walk.specs.Map.{place}
+use Rattle.btr_reader_walk.proofs.Imports.{◌≡◌, drop, place}
 use Rattle.btr_reader_walk.proofs.map.place.Given as goal
 
 abbrev pub invariant-loop-range : goal.invariant-loop-range

@@ -1,7 +1,4 @@
-use Rattle.std.proofs.Common.{◌≤◌, List, length, ap, refl, arith}
-use Rattle.btr_node.specs.Inner.{children_in}
-use Rattle.btr_node.specs.declared.child.Child.{Child}
-use Rattle.btr_reader_walk.specs.Stack.{fan_out}
+use Rattle.btr_reader_walk.proofs.Imports.{◌≤◌, List, length, ap, refl, arith, children_in, Child, fan_out}
 use Rattle.btr_reader_walk.proofs.Contents.{few_children}
 use Rattle.btr_reader_walk.proofs.node.open_inner.Goals as goal
 

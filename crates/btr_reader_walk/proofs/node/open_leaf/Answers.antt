@@ -1,5 +1,4 @@
-use Rattle.std.proofs.Common.{◌≡◌, ◌<◌, true, ◌⊎◌, List, length, sym, ◌∙◌, ap, arith, inl, inr}
-use Rattle.btr_node.specs.Leaf.{Item, items_in}
+use Rattle.btr_reader_walk.proofs.Imports.{◌≡◌, ◌<◌, true, ◌⊎◌, List, length, sym, ◌∙◌, ap, arith, inl, inr, Item, items_in}
 use Rattle.btr_reader_walk.proofs.Contents.{leaf_bad, leaf_empty, leaf_right}
 use Rattle.btr_reader_walk.proofs.node.open_leaf.Goals as goal
 use Rattle.btr_reader_walk.proofs.node.open_leaf.Goals.{else-count-eq0-via-then-count-eq0+else-not-bare, else-count-eq0-via-else-count-eq0}

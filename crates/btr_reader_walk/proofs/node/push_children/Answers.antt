@@ -1,4 +1,4 @@
-use Rattle.std.proofs.Common.{arith, ◌∙◌}
+use Rattle.btr_reader_walk.proofs.Imports.{arith, ◌∙◌}
 use Rattle.btr_reader_walk.proofs.Contents.{pushed_more}
 use Rattle.btr_reader_walk.proofs.node.push_children.Goals as goal
 

@@ -1,5 +1,4 @@
-use Rattle.std.proofs.Common.{◌≡◌, ◌≤◌, ◌+◌, ◌++◌, drop, length, map, reverse, vec_capacity}
-use Rattle.btr_reader_walk.specs.Node.{child_pointer}
+use Rattle.btr_reader_walk.proofs.Imports.{◌≡◌, ◌≤◌, ◌+◌, ◌++◌, drop, length, map, reverse, vec_capacity, child_pointer}
 use Rattle.btr_reader_walk.proofs.node.push_children.Given as goal
 
 abbrev pub invariant-loop-left : goal.invariant-loop-left

@@ -1,9 +1,4 @@
-use Rattle.std.proofs.Common.{◌≡◌, [], ◌∷◌, ◌++◌, sym, ◌∙◌, ap, subst, refl}
-use Rattle.std.proofs.lemmas.Result.{err_from_is_err_and}
-use Rattle.btr_node.specs.outside.History.{Image}
-use Rattle.btr_reader_walk.specs.declared.tree.Tree.{Tree}
-use Rattle.btr_reader_walk.specs.Events.{TreeItem}
-use Rattle.btr_reader_walk.specs.Walks.{Blames, IsAmong, found, wrong}
+use Rattle.btr_reader_walk.proofs.Imports.{◌≡◌, [], ◌∷◌, ◌++◌, sym, ◌∙◌, ap, subst, refl, err_from_is_err_and, Image, Tree, TreeItem, Blames, IsAmong, found, wrong}
 use Rattle.btr_reader_walk.proofs.Walking.{blames_among}
 use Rattle.btr_reader_walk.proofs.note.note_items.Goals as goal
 

@@ -1,6 +1,4 @@
-use Rattle.std.proofs.Common.{◌≡◌, List, false, IsTrue}
-use Rattle.btr_reader_walk.specs.Events.{TreeItem}
-use Rattle.btr_reader_walk.specs.Walks.{Walks, fuel}
+use Rattle.btr_reader_walk.proofs.Imports.{◌≡◌, List, false, IsTrue, TreeItem, Walks, fuel}
 use Rattle.btr_reader_walk.proofs.note.note_items.Given as goal
 
 abbrev pub invariant-loop-walker : goal.invariant-loop-walker

@@ -1,6 +1,4 @@
-use Rattle.std.proofs.Common.{◌<◌, length, sym, ◌∙◌, arith}
-use Rattle.btr_keys.proofs.Starts.{some_left, none_left, counted_more, counted_stop, counted_end}
-use Rattle.btr_space_items.specs.InlineRef.{behind_inline}
+use Rattle.btr_space_items.proofs.Imports.{◌<◌, length, sym, ◌∙◌, arith, some_left, none_left, counted_more, counted_stop, counted_end, behind_inline}
 use Rattle.btr_space_items.proofs.Inline.{inline_shrinks}
 use Rattle.btr_space_items.proofs.inline_ref.ref_count.Goals as goal
 

@@ -1,7 +1,4 @@
-use Rattle.std.proofs.Common.{◌≡◌, ◌≤◌, ◌+◌, length}
-use Rattle.std.specs.Option.{option_map}
-use Rattle.btr_keys.specs.Repeated.{starts}
-use Rattle.btr_space_items.specs.InlineRef.{behind_inline}
+use Rattle.btr_space_items.proofs.Imports.{◌≡◌, ◌≤◌, ◌+◌, length, option_map, starts, behind_inline}
 use Rattle.btr_space_items.proofs.inline_ref.ref_count.Given as goal
 
 abbrev pub invariant-loop-rest : goal.invariant-loop-rest

@@ -1,6 +1,4 @@
-use Rattle.std.proofs.Common.{◌≡◌, ℕ, Some, drop, ap, sym, ◌∙◌, arith}
-use Rattle.btr_keys.proofs.Starts.{start_more, start_there, start_whole, start_is_whole}
-use Rattle.btr_space_items.specs.InlineRef.{behind_inline}
+use Rattle.btr_space_items.proofs.Imports.{◌≡◌, ℕ, Some, drop, ap, sym, ◌∙◌, arith, start_more, start_there, start_whole, start_is_whole, behind_inline}
 use Rattle.btr_space_items.proofs.Inline.{inline_shrinks}
 use Rattle.btr_space_items.proofs.inline_ref.ref_start.Goals as goal
 

@@ -1,6 +1,4 @@
-use Rattle.std.proofs.Common.{◌≡◌, ◌≤◌, ℕ, List, length, drop, Some}
-use Rattle.btr_keys.specs.Repeated.{starts}
-use Rattle.btr_space_items.specs.InlineRef.{behind_inline}
+use Rattle.btr_space_items.proofs.Imports.{◌≡◌, ◌≤◌, ℕ, List, length, drop, Some, starts, behind_inline}
 use Rattle.btr_space_items.proofs.inline_ref.ref_start.Given as goal
 
 abbrev pub invariant-loop : goal.invariant-loop

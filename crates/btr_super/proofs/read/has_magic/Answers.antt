@@ -1,6 +1,4 @@
-use Rattle.std.proofs.Common.{◌∙◌, List, ℕ, nat_eq, ap, codes}
-use Rattle.std.proofs.lemmas.List.{take_rest}
-use Rattle.std.specs.List.{starts_with}
+use Rattle.btr_super.proofs.Imports.{◌∙◌, List, ℕ, nat_eq, ap, codes, take_rest, starts_with}
 use Rattle.btr_super.proofs.read.has_magic.Goals as goal
 
 pub returns : goal.returns

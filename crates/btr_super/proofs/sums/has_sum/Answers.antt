@@ -1,7 +1,4 @@
-use Rattle.std.proofs.Common.{◌∙◌, List, ℕ, nat_eq, ap}
-use Rattle.std.proofs.lemmas.List.{take_rest}
-use Rattle.std.specs.List.{starts_with}
-use Rattle.csum_kinds.specs.Kind.{kind_sum}
+use Rattle.btr_super.proofs.Imports.{◌∙◌, List, ℕ, nat_eq, ap, take_rest, starts_with, kind_sum}
 use Rattle.btr_super.proofs.sums.has_sum.Goals as goal
 
 pub returns : goal.returns

@@ -1,13 +1,4 @@
-use Rattle.std.proofs.Common.{◌≡◌, ℕ, ◌+◌, ◌<◌, Err, length, take, refl, ◌∙◌, ap, subst, arith}
-use Rattle.std.specs.Int.{div_ceil}
-use Rattle.btr_node.specs.outside.History.{reads}
-use Rattle.btr_node.proofs.outside.Crash.{writes_none}
-use Rattle.btr_node.specs.Inner.{first_keys}
-use Rattle.btr_node.specs.Order.{ascends}
-use Rattle.btr_tree.specs.Building.{Goes, taken}
-use Rattle.btr_tree.specs.Packing.{fan_out}
-use Rattle.btr_tree.specs.Roots.{IsRaised}
-use Rattle.btr_tree.specs.Writing.{IsInSlots}
+use Rattle.btr_tree.proofs.Imports.{◌≡◌, ℕ, ◌+◌, ◌<◌, Err, length, take, refl, ◌∙◌, ap, subst, arith, div_ceil, reads, writes_none, first_keys, ascends, Goes, taken, fan_out, IsRaised, IsInSlots}
 use Rattle.btr_tree.proofs.Answering.{same_back}
 use Rattle.btr_tree.proofs.Climbing.{wide_fan}
 use Rattle.btr_tree.proofs.ClimbingFronts.{climb_begins, climb_some, climb_order, climb_goes_on, climb_short, climb_ends}

@@ -1,5 +1,4 @@
-use Rattle.std.proofs.Common.{ℕ, ◌+◌, sym, subst, arith}
-use Rattle.std.specs.Int.{div_ceil}
+use Rattle.btr_tree.proofs.Imports.{ℕ, ◌+◌, sym, subst, arith, div_ceil}
 use Rattle.btr_tree.proofs.Sizes.{IsUnderWay, way_begins, way_goes_on, way_ends, way_within, all_few}
 use Rattle.btr_tree.proofs.levels.count_nodes.Goals as goal
 

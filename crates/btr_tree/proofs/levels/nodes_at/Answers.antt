@@ -1,4 +1,4 @@
-use Rattle.std.proofs.Common.{◌≡◌, ℕ, ◌+◌, sym, subst, arith}
+use Rattle.btr_tree.proofs.Imports.{◌≡◌, ℕ, ◌+◌, sym, subst, arith}
 use Rattle.btr_tree.proofs.Sizes.{IsLevel, level_begins, level_goes_on, level_ends, level_past}
 use Rattle.btr_tree.proofs.levels.nodes_at.Goals as goal
 

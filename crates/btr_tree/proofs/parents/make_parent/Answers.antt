@@ -1,9 +1,4 @@
-use Rattle.std.proofs.Common.{◌++◌, ◌∷◌, [], length, get_or, sym, ◌∙◌, ap, arith}
-use Rattle.std.proofs.lemmas.Option.{slice_get_within}
-use Rattle.btr_node.specs.Inner.{first_keys}
-use Rattle.btr_node.specs.Order.{ascends}
-use Rattle.btr_node.specs.declared.child.Child.{Child}
-use Rattle.btr_tree.specs.Building.{Made, taken}
+use Rattle.btr_tree.proofs.Imports.{◌++◌, ◌∷◌, [], length, get_or, sym, ◌∙◌, ap, arith, slice_get_within, first_keys, ascends, Child, Made, taken}
 use Rattle.btr_tree.proofs.Raising.{front_ascends}
 use Rattle.btr_tree.proofs.parents.make_parent.Goals as goal
 

@@ -1,5 +1,4 @@
-use Rattle.std.proofs.Common.{◌≡◌, take}
-use Rattle.btr_tree.specs.Building.{filled}
+use Rattle.btr_tree.proofs.Imports.{◌≡◌, take, filled}
 use Rattle.btr_tree.proofs.parents.make_parent.Given as goal
 
 abbrev pub invariant-loop-child : goal.invariant-loop-child

@@ -1,10 +1,5 @@
-use Rattle.std.proofs.Common.{◌≡◌, ℕ, ◌+◌, ◌-◌, ◌≤◌, List, Err, length, take, drop, min, ◌∙◌, ap, refl, arith, length-take, length-drop}
-use Rattle.btr_node.specs.outside.History.{reads}
-use Rattle.btr_node.proofs.outside.Crash.{writes_none}
-use Rattle.btr_node.specs.declared.child.Child.{Child}
-use Rattle.btr_tree.specs.Building.{taken}
-use Rattle.btr_tree.specs.Packing.{fan_out}
-use Rattle.btr_tree.specs.Writing.{IsInSlots}
+use Rattle.btr_tree.proofs.Imports.{◌≡◌, ℕ, ◌+◌, ◌-◌, ◌≤◌, List, Err, length, take, drop, min, ◌∙◌, ap, refl, arith, reads, writes_none, Child, taken, fan_out, IsInSlots}
+use Rattle.std.proofs.Common.{length-take, length-drop}
 use Rattle.btr_tree.proofs.Answering.{answer_back}
 use Rattle.btr_tree.proofs.Fronts.{later_none, later_then, taken_then, taken_more}
 use Rattle.btr_tree.proofs.Raising.{part_ascends}

@@ -1,7 +1,4 @@
-use Rattle.std.proofs.Common.{◌≡◌, ◌-◌, length, take, IsTrue}
-use Rattle.btr_node.specs.outside.History.{reads, WritesOnly}
-use Rattle.btr_tree.specs.Building.{Goes, IsLater, taken}
-use Rattle.btr_tree.specs.Writing.{IsInSlots}
+use Rattle.btr_tree.proofs.Imports.{◌≡◌, ◌-◌, length, take, IsTrue, reads, WritesOnly, Goes, IsLater, taken, IsInSlots}
 use Rattle.btr_tree.proofs.RaisingLoop.{IsRaising}
 use Rattle.btr_tree.proofs.parents.raise.Given as goal
 

@@ -1,4 +1,4 @@
-use Rattle.std.proofs.Common.{◌≡◌, ℕ, ◌+◌, ◌-◌, ◌*◌, take, drop, ◌∙◌, ap, arith}
+use Rattle.btr_tree.proofs.Imports.{◌≡◌, ℕ, ◌+◌, ◌-◌, ◌*◌, take, drop, ◌∙◌, ap, arith}
 use Rattle.btr_tree.proofs.write.block_of.Goals as goal
 
 pub returns : goal.returns

@@ -1,7 +1,4 @@
-use Rattle.std.proofs.Common.{◌≡◌, ◌<◌, ◌+◌, ◌/◌, length, sym, ◌∙◌, ap, subst, arith}
-use Rattle.btr_node.specs.outside.History.{reads}
-use Rattle.btr_node.proofs.outside.Crash.{write_only, writes_then}
-use Rattle.btr_tree.specs.Writing.{IsInNode, HoldBytes}
+use Rattle.btr_tree.proofs.Imports.{◌≡◌, ◌<◌, ◌+◌, ◌/◌, length, sym, ◌∙◌, ap, subst, arith, reads, write_only, writes_then, IsInNode, HoldBytes}
 use Rattle.btr_tree.proofs.OnDisk.{hold_more}
 use Rattle.btr_tree.proofs.write.write_node.Goals as goal
 

@@ -1,6 +1,4 @@
-use Rattle.std.proofs.Common.{◌≡◌, ◌/◌, length, IsTrue}
-use Rattle.btr_node.specs.outside.History.{reads, WritesOnly}
-use Rattle.btr_tree.specs.Writing.{IsInNode, HoldBytes}
+use Rattle.btr_tree.proofs.Imports.{◌≡◌, ◌/◌, length, IsTrue, reads, WritesOnly, IsInNode, HoldBytes}
 use Rattle.btr_tree.proofs.write.write_node.Given as goal
 
 abbrev pub invariant-loop-j : goal.invariant-loop-j

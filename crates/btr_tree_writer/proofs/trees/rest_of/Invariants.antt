@@ -1,4 +1,4 @@
-use Rattle.std.proofs.Common.{◌≡◌, take, drop}
+use Rattle.btr_tree_writer.proofs.Imports.{◌≡◌, take, drop}
 use Rattle.btr_tree_writer.proofs.trees.rest_of.Given as goal
 
 abbrev pub invariant-loop-slot : goal.invariant-loop-slot

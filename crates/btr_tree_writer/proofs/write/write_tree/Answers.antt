@@ -1,16 +1,5 @@
-use Rattle.std.proofs.Common.{◌≡◌, ◌*◌, ◌++◌, ◌∷◌, [], List, Err, length, refl, sym, ◌∙◌, ap, subst}
-use Rattle.std.specs.Prelude.{IsTrue}
-use Rattle.btr_tree.specs.outside.History.{History, Image, reads, WritesOnly}
-use Rattle.btr_tree.proofs.outside.Crash.{writes_none, writes_then}
+use Rattle.btr_tree_writer.proofs.Imports.{◌≡◌, ℕ, ◌*◌, ◌++◌, ◌∷◌, [], List, Err, length, refl, sym, ◌∙◌, ap, subst, IsTrue, History, Image, reads, WritesOnly, writes_none, writes_then, Item, Counted, capacity, lengths_of, IsWholeTree, IsInSlots, identity, AreWritable, TreeStands, pointer_to_root, read_form, StandsOn, WriteAnswer}
 use Rattle.btr_tree.specs.outside.declared.disk.Access.TheVariants.{Write}
-use Rattle.btr_tree.specs.btr_node.Leaf.{Item}
-use Rattle.btr_tree.specs.Counting.{Counted}
-use Rattle.btr_tree.specs.Packing.{capacity}
-use Rattle.btr_tree.specs.Roots.{lengths_of}
-use Rattle.btr_tree.specs.Writing.{IsInSlots}
-use Rattle.btr_tree_writer.specs.Trees.{AreWritable, TreeStands, form_of}
-use Rattle.btr_tree_writer.specs.Writer.{StandsOn}
-use Rattle.btr_tree_writer.specs.declared.answer.WriteAnswer.{WriteAnswer}
 use Rattle.btr_tree_writer.proofs.Steps.{source_cause, source_fails, answer_fails, same_where, only_of, range_of, falls, next_of, pushed_of, last_of, answer_cause, ok_cause}
 use Rattle.btr_tree_writer.proofs.write.write_tree.Goals as goal
 
@@ -24,6 +13,7 @@ loop-writer-init g c = record {
   live = c.requires.live;
   reach = refl;
   needs = λ b needed. needed;
+  chunk_tree = c.in_ok-writer.ensures.chunk_tree;
   items = [];
   writes = c.in_ok-writer.ensures.writes;
   stands = λ tells. c.in_ok-writer.ensures.stands _;
@@ -66,7 +56,7 @@ push-requires-clause-open g c = g.met.D.Disk.kept_opened c.loop-writer.disk c.ad
 
 pub push-requires-clause-in_range : goal.push-requires-clause-in_range
 push-requires-clause-in_range g c =
-    range_of _ (form_of c.args.form) _ c.args.slots _ (g.D.BlockSource.size c.args.disk.now) c.loop-writer.invariant.writes.form_is c.loop-writer.invariant.writes.slots_are
+    range_of _ (read_form c.args.form) _ c.args.slots _ (g.D.BlockSource.size c.args.disk.now) c.loop-writer.invariant.writes.form_is c.loop-writer.invariant.writes.slots_are
     (g.met.D.BlockSource.kept_size c.loop-writer.disk c.advance.new.src c.advance.ensures.kept ∙ c.loop-writer.invariant.size) c.requires.in_range
 
 pub loop-writer-smaller : goal.loop-writer-smaller
@@ -80,7 +70,7 @@ loop-writer-preserved g c =
     let kept = c.advance.ensures.kept in
     let held : IsTrue g.D.BlockSource.tells → g.D.Disk.history c.advance.new.src ≡ g.D.Disk.history c.loop-writer.disk = λ tells. g.met.D.Disk.kept_history c.loop-writer.disk c.advance.new.src tells kept in
     let item : Item = (c.key.result, c.body.result.now) in
-    let pushed_only : IsTrue g.D.BlockSource.tells → WritesOnly (λ b _. IsInSlots c.args.form.nodesize c.args.slots b) (g.D.Disk.history c.advance.new.src) (g.D.Disk.history c.push.new.disk) = λ tells. only_of _ (form_of c.args.form) _ c.args.slots _ _ before.writes.form_is before.writes.slots_are (c.in_ok-push.ensures.only tells) in
+    let pushed_only : IsTrue g.D.BlockSource.tells → WritesOnly (λ b _. IsInSlots c.args.form.nodesize c.args.slots b) (g.D.Disk.history c.advance.new.src) (g.D.Disk.history c.push.new.disk) = λ tells. only_of _ (read_form c.args.form) _ c.args.slots _ _ before.writes.form_is before.writes.slots_are (c.in_ok-push.ensures.only tells) in
     let opened = g.met.D.Disk.kept_opened c.loop-writer.disk c.advance.new.src kept ∙ before.open_ in
     record {
       open_ = c.in_ok-push.ensures.open ∙ opened;
@@ -93,6 +83,7 @@ loop-writer-preserved g c =
       live = c.in_ok-advance.ensures.live;
       reach = c.advance.ensures.reach ∙ before.reach;
       needs = λ b needed. before.needs b (c.advance.ensures.needs b needed);
+      chunk_tree = c.in_ok-push.ensures.chunk_tree ∙ before.chunk_tree;
       items = before.items ++ item ∷ [];
       writes = c.in_ok-push.ensures.writes _ _ _ _ before.writes;
       stands = λ tells. c.in_ok-push.ensures.stands before.items tells (subst (λ (h : History). StandsOn c.loop-writer.writer (reads h) before.items) (sym (held tells)) (before.stands tells));
@@ -142,7 +133,7 @@ returns-in_err-push-clause-only g c = λ tells.
     writes_then (λ b _. IsInSlots c.args.form.nodesize c.args.slots b) _ _ _
     (subst (λ (h : History). WritesOnly (λ b _. IsInSlots c.args.form.nodesize c.args.slots b) (g.D.Disk.history c.args.disk.now) h)
     (sym (g.met.D.Disk.kept_history c.loop-writer.disk c.advance.new.src tells c.advance.ensures.kept)) (before.only tells))
-    (only_of _ (form_of c.args.form) _ c.args.slots _ _ before.writes.form_is before.writes.slots_are (c.push.ensures.only tells))
+    (only_of _ (read_form c.args.form) _ c.args.slots _ _ before.writes.form_is before.writes.slots_are (c.push.ensures.only tells))
 
 pub returns-in_err-push-clause-cause : goal.returns-in_err-push-clause-cause
 returns-in_err-push-clause-cause g c =
@@ -160,7 +151,7 @@ finish-requires-clause-open g c = g.met.D.Disk.kept_opened c.loop-writer.disk c.
 
 pub finish-requires-clause-in_range : goal.finish-requires-clause-in_range
 finish-requires-clause-in_range g c =
-    range_of _ (form_of c.args.form) _ c.args.slots _ (g.D.BlockSource.size c.args.disk.now) c.loop-writer.invariant.writes.form_is c.loop-writer.invariant.writes.slots_are
+    range_of _ (read_form c.args.form) _ c.args.slots _ (g.D.BlockSource.size c.args.disk.now) c.loop-writer.invariant.writes.form_is c.loop-writer.invariant.writes.slots_are
     (g.met.D.BlockSource.kept_size c.loop-writer.disk c.advance.new.src c.advance.ensures.kept ∙ c.loop-writer.invariant.size) c.requires.in_range
 
 pub returns-in_err-root-clause-tree : goal.returns-in_err-root-clause-tree
@@ -189,7 +180,7 @@ returns-in_err-root-clause-only g c = λ tells.
     writes_then (λ b _. IsInSlots c.args.form.nodesize c.args.slots b) _ _ _
     (subst (λ (h : History). WritesOnly (λ b _. IsInSlots c.args.form.nodesize c.args.slots b) (g.D.Disk.history c.args.disk.now) h)
     (sym (g.met.D.Disk.kept_history c.loop-writer.disk c.advance.new.src tells c.advance.ensures.kept)) (before.only tells))
-    (only_of _ (form_of c.args.form) _ c.args.slots _ _ before.writes.form_is before.writes.slots_are (c.finish.ensures.only tells))
+    (only_of _ (read_form c.args.form) _ c.args.slots _ _ before.writes.form_is before.writes.slots_are (c.finish.ensures.only tells))
 
 pub returns-in_err-root-clause-cause : goal.returns-in_err-root-clause-cause
 returns-in_err-root-clause-cause g c =
@@ -205,7 +196,7 @@ returns-clause-tree g c = λ tells image is fits apart all are writable.
     let tree = c.in_ok-root.ensures.tree _ _ _ _ tells before.writes stands in
     let counted = c.in_ok-root.ensures.counted _ _ _ _ before.writes in
     let now : Image = reads (g.D.Disk.history c.finish.new.disk) in (
-      subst (λ (is : List Item). TreeStands now (form_of c.args.form) c.args.owner c.args.slots is c.in_ok-root.root) last tree,
+      subst (λ (is : List Item). TreeStands now (read_form c.args.form) c.args.owner c.args.slots is c.in_ok-root.root) last tree,
       subst (λ (is : List Item). Counted c.in_ok-root.counter (lengths_of is)) last counted.counted,
     )
 
@@ -236,7 +227,13 @@ returns-clause-only g c = λ tells.
     writes_then (λ b _. IsInSlots c.args.form.nodesize c.args.slots b) _ _ _
     (subst (λ (h : History). WritesOnly (λ b _. IsInSlots c.args.form.nodesize c.args.slots b) (g.D.Disk.history c.args.disk.now) h)
     (sym (g.met.D.Disk.kept_history c.loop-writer.disk c.advance.new.src tells c.advance.ensures.kept)) (before.only tells))
-    (only_of _ (form_of c.args.form) _ c.args.slots _ _ before.writes.form_is before.writes.slots_are (c.finish.ensures.only tells))
+    (only_of _ (read_form c.args.form) _ c.args.slots _ _ before.writes.form_is before.writes.slots_are (c.finish.ensures.only tells))
 
 pub returns-clause-cause : goal.returns-clause-cause
 returns-clause-cause g c = ok_cause _ _ _ (c.in_ok-root.ensures.cause.kept (λ e. absurd cc) ∙ (c.in_ok-advance.ensures.cause.kept (λ e. absurd cc) ∙ c.loop-writer.invariant.same))
+
+pub returns-clause-whole : goal.returns-clause-whole
+returns-clause-whole g c = λ tells.
+    let before = c.loop-writer.invariant in
+    subst (λ (chunk_tree : List ℕ). IsWholeTree (reads (g.D.Disk.history c.finish.new.disk)) identity (read_form c.args.form) c.args.owner chunk_tree (pointer_to_root c.in_ok-root.root)) before.chunk_tree
+    (c.in_ok-root.ensures.whole _ _ _ _ tells before.writes)

@@ -1,12 +1,4 @@
-use Rattle.std.proofs.Common.{◌≡◌, ◌*◌, ◌-◌, ◌++◌, ℕ, List, length}
-use Rattle.std.specs.Prelude.{IsTrue}
-use Rattle.btr_tree.specs.outside.History.{Image, reads, WritesOnly}
-use Rattle.btr_tree.specs.btr_node.Leaf.{Item}
-use Rattle.btr_tree.specs.Packing.{capacity}
-use Rattle.btr_tree.specs.Writing.{IsInSlots}
-use Rattle.btr_tree_writer.specs.Source.{LieApart}
-use Rattle.btr_tree_writer.specs.Trees.{form_of}
-use Rattle.btr_tree_writer.specs.Writer.{Writes, StandsOn}
+use Rattle.btr_tree_writer.proofs.Imports.{◌≡◌, ◌*◌, ◌-◌, ◌++◌, ℕ, List, length, IsTrue, Image, reads, WritesOnly, Item, capacity, IsInSlots, LieApart, read_form, WritesTree, StandsOn}
 use Rattle.btr_tree_writer.proofs.write.write_tree.Given as goal
 
 abbrev pub invariant-loop-writer : goal.invariant-loop-writer
@@ -19,8 +11,9 @@ invariant-loop-writer g l = record {
   live : g.I.ItemSource.is_live l.items;
   reach : g.I.ItemSource.reach l.items ≡ g.I.ItemSource.reach l.initial.items;
   needs : (b : ℕ) → g.I.ItemSource.needs l.items b → g.I.ItemSource.needs l.initial.items b;
+  chunk_tree : l.writer.builder.made.chunk_tree ≡ l.fn.form.ids.chunk_tree;
   items : List Item;
-  writes : Writes l.writer (form_of l.fn.form) l.owner l.fn.slots items;
+  writes : WritesTree l.writer (read_form l.fn.form) l.owner l.fn.slots items;
   stands : IsTrue g.D.BlockSource.tells → StandsOn l.writer (reads (g.D.Disk.history l.disk)) items;
   ahead : IsTrue g.D.BlockSource.tells → (image : Image) → g.D.BlockSource.blocks l.initial.disk ≡ image → g.I.ItemSource.fits l.initial.items image → LieApart (g.I.ItemSource.needs l.initial.items) l.fn.form.nodesize l.fn.slots
       → g.I.ItemSource.fits l.items (g.D.BlockSource.blocks l.disk) × (items ++ g.I.ItemSource.ahead l.items (g.D.BlockSource.blocks l.disk) ≡ g.I.ItemSource.ahead l.initial.items image);

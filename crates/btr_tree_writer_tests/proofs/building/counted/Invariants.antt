@@ -1,4 +1,4 @@
-use Rattle.std.proofs.Common.{◌≡◌, ◌*◌, ◌≤◌}
+use Rattle.btr_tree_writer_tests.proofs.Imports.{◌≡◌, ◌*◌, ◌≤◌}
 use Rattle.btr_tree_writer_tests.proofs.building.counted.Given as goal
 
 abbrev pub invariant-loop : goal.invariant-loop

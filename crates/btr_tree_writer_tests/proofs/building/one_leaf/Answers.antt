@@ -1,5 +1,4 @@
-use Rattle.std.proofs.Common.{◌≡◌, true, Result, Ok, Err, [], is_ok}
-use Rattle.std.specs.Prelude.{OnOk}
+use Rattle.btr_tree_writer_tests.proofs.Imports.{◌≡◌, true, Result, Ok, Err, [], is_ok, OnOk}
 use Rattle.btr_tree_writer_tests.proofs.building.one_leaf.Goals as goal
 
 from_ok : {T E P : Type 0} (r : Result T E) → true ≡ is_ok r → OnOk r P → P

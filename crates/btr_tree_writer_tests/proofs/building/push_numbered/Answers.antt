@@ -1,11 +1,8 @@
-use Rattle.std.proofs.Common.{◌≡◌, ◌+◌, ◌*◌, ◌≤◌, ℕ, List, ◌++◌, ◌∷◌, [], All, ◌∙◌, ap, sym, subst, refl, arith, map}
-use Rattle.std.specs.List.{range_with_len}
+use Rattle.btr_tree_writer_tests.proofs.Imports.{◌≡◌, ◌+◌, ◌*◌, ◌≤◌, ℕ, List, ◌++◌, ◌∷◌, [], All, ◌∙◌, ap, sym, subst, refl, arith, map, range_with_len, Holds, next_order, numbered_item, one_more, not_true, same_twice}
 use Rattle.btr_keys.specs.declared.key.Key.{Key}
 use Rattle.btr_reader_walk.specs.btr_node.Leaf.{Item, keys_of}
 use Rattle.btr_reader_walk.specs.btr_node.Order.{Ascends}
 use Rattle.btr_reader_walk.specs.declared.tree.Form.{Form}
-use Rattle.btr_tree.specs.Builder.{Holds}
-use Rattle.btr_tree.proofs.Numbered.{next_order, numbered_item, one_more, not_true, same_twice}
 use Rattle.btr_tree_writer_tests.proofs.building.push_numbered.Goals as goal
 
 pub loop-number-init : goal.loop-number-init
@@ -15,7 +12,7 @@ loop-number-init g c = record {
   going = c.requires.going;
   stands = c.requires.stands;
   holds = c.requires.empty;
-  same = record { form = refl; owner = refl; generation = refl; slots = refl };
+  same = record { form = refl; owner = refl; generation = refl; slots = refl; chunk_tree = refl };
   open_ = refl;
   size = refl;
 }

@@ -1,8 +1,5 @@
-use Rattle.std.proofs.Common.{◌≡◌, ◌≤◌, false, map, IsTrue}
-use Rattle.std.specs.List.{range_with_len}
+use Rattle.btr_tree_writer_tests.proofs.Imports.{◌≡◌, ◌≤◌, false, map, IsTrue, range_with_len, Holds, IsSameBuilding, Stands, numbered_item}
 use Rattle.outside.specs.History.{reads}
-use Rattle.btr_tree.specs.Builder.{Holds, IsSameTree, Stands}
-use Rattle.btr_tree.proofs.Numbered.{numbered_item}
 use Rattle.btr_tree_writer_tests.proofs.building.push_numbered.Given as goal
 
 abbrev pub invariant-loop-number : goal.invariant-loop-number
@@ -12,7 +9,7 @@ invariant-loop-number g l = record {
   going : l.tree.done ≡ false;
   stands : IsTrue g.D.BlockSource.tells → Stands l.tree (reads (g.D.Disk.history l.disk));
   holds : Holds l.tree (map (numbered_item l.body) (range_with_len 0 l.number));
-  same : IsSameTree l.fn.tree l.tree;
+  same : IsSameBuilding l.fn.tree l.tree;
   open_ : g.D.Disk.opened l.disk ≡ g.D.Disk.opened l.fn.disk;
   size : g.D.BlockSource.size l.disk ≡ g.D.BlockSource.size l.fn.disk;
 }

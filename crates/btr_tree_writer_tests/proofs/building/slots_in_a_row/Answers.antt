@@ -1,8 +1,4 @@
-use Rattle.std.proofs.Common.{◌≡◌, ◌+◌, ◌*◌, ◌++◌, ◌∷◌, [], ◌∙◌, ◌≤◌, All, List, ℕ, map, ap, sym, subst, arith}
-use Rattle.std.specs.List.{range_with_len}
-use Rattle.std.proofs.lemmas.List.FromFn.{map-range_with_len_more}
-use Rattle.btr_tree.specs.Building.{AreSlots}
-use Rattle.btr_tree.proofs.Numbered.{slot_in_a_row, slots_in_a_row, slots_within}
+use Rattle.btr_tree_writer_tests.proofs.Imports.{◌≡◌, ◌+◌, ◌*◌, ◌++◌, ◌∷◌, [], ◌∙◌, ◌≤◌, All, List, ℕ, map, ap, sym, subst, arith, range_with_len, map-range_with_len_more, AreSlots, slot_in_a_row, slots_in_a_row, slots_within}
 use Rattle.btr_tree_writer_tests.proofs.building.slots_in_a_row.Goals as goal
 
 pub loop-k-preserved : goal.loop-k-preserved

@@ -1,5 +1,4 @@
-use Rattle.std.proofs.Common.{◌≡◌, ◌≤◌, ◌+◌, ◌*◌, map}
-use Rattle.std.specs.List.{range_with_len}
+use Rattle.btr_tree_writer_tests.proofs.Imports.{◌≡◌, ◌≤◌, ◌+◌, ◌*◌, map, range_with_len}
 use Rattle.btr_tree_writer_tests.proofs.building.slots_in_a_row.Given as goal
 
 abbrev pub invariant-loop-k : goal.invariant-loop-k

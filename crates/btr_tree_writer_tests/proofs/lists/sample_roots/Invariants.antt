@@ -1,4 +1,4 @@
-use Rattle.std.proofs.Common.{◌≡◌, map, take}
+use Rattle.btr_tree_writer_tests.proofs.Imports.{◌≡◌, map, take}
 use Rattle.space_items.specs.declared.node.TreeRoot.{TreeRoot}
 use Rattle.btr_tree_writer_tests.proofs.lists.sample_roots.Given as goal
 

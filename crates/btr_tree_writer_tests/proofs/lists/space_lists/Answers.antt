@@ -1,5 +1,4 @@
-use Rattle.std.proofs.Common.{ℕ, sym, subst}
-use Rattle.unit_plan.specs.Chunks.{FitsVolume}
+use Rattle.btr_tree_writer_tests.proofs.Imports.{ℕ, sym, subst, FitsVolume}
 use Rattle.btr_tree_writer_tests.proofs.lists.space_lists.Goals as goal
 
 pub chunks-requires-clause-units : goal.chunks-requires-clause-units

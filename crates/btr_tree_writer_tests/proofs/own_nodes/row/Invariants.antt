@@ -1,5 +1,5 @@
-use Rattle.std.proofs.Common.{◌≡◌, ◌+◌, ◌*◌, ◌<◌, length}
-use Rattle.std.specs.Prelude.{All, AllPairs}
+use Rattle.btr_tree_writer_tests.proofs.Imports.{◌≡◌, ◌+◌, ◌*◌, ◌<◌, length, AllPairs}
+use Rattle.std.specs.Prelude.{All}
 use Rattle.btr_tree_writer_tests.proofs.own_nodes.row.Given as goal
 
 abbrev pub invariant-loop-i : goal.invariant-loop-i

@@ -1,4 +1,4 @@
-use Rattle.std.proofs.Common.{◌≡◌, None, length}
+use Rattle.btr_tree_writer_tests.proofs.Imports.{◌≡◌, None, length}
 use Rattle.btr_tree_writer_tests.proofs.streams.sample_disk.Given as goal
 
 abbrev pub invariant-loop-b : goal.invariant-loop-b

@@ -1,5 +1,4 @@
-use Rattle.std.proofs.Common.{◌≡◌, map, take}
-use Rattle.space_items.specs.declared.node.TreeNode.{TreeNode}
+use Rattle.btr_tree_writer_tests.proofs.Imports.{◌≡◌, map, take, TreeNode}
 use Rattle.btr_tree_writer_tests.proofs.streams.sample_nodes.Given as goal
 
 abbrev pub invariant-loop-address : goal.invariant-loop-address

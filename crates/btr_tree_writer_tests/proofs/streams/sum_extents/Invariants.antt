@@ -1,4 +1,4 @@
-use Rattle.space_items.specs.Stream.{FitsExtents}
+use Rattle.btr_tree_writer_tests.proofs.Imports.{FitsExtents}
 use Rattle.btr_tree_writer_tests.proofs.streams.sum_extents.Given as goal
 
 abbrev pub invariant-loop : goal.invariant-loop

@@ -1,6 +1,5 @@
-use Rattle.std.proofs.Common.{◌≡◌, ◌≤◌, false}
+use Rattle.btr_tree_writer_tests.proofs.Imports.{◌≡◌, ◌≤◌, false, FitsSums}
 use Rattle.outside_mem.specs.Laws.{readable_len}
-use Rattle.space_items.specs.Stream.{FitsSums}
 use Rattle.btr_tree_writer_tests.proofs.streams.sum_sums.Given as goal
 
 abbrev pub invariant-loop : goal.invariant-loop

@@ -1,4 +1,4 @@
-use Rattle.std.proofs.Common.{◌≡◌, false}
+use Rattle.btr_tree_writer_tests.proofs.Imports.{◌≡◌, false}
 use Rattle.btr_tree_writer_tests.proofs.writing.has_items.Given as goal
 
 abbrev pub invariant-loop-i : goal.invariant-loop-i

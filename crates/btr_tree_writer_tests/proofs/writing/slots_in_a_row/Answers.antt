@@ -1,8 +1,5 @@
-use Rattle.std.proofs.Common.{◌≡◌, ◌+◌, ◌*◌, ◌<◌, ◌++◌, ◌∷◌, [], ◌∙◌, ◌≤◌, All, List, ℕ, length, map, ap, sym, subst, arith}
-use Rattle.std.specs.List.{AllPairs, range_with_len}
-use Rattle.std.proofs.lemmas.List.FromFn.{get_or-map-range_with_len, length-map-range_with_len, map-range_with_len_more}
-use Rattle.btr_tree.specs.Building.{AreSlots}
-use Rattle.btr_tree.proofs.Numbered.{slot_in_a_row, slots_in_a_row, slots_within}
+use Rattle.btr_tree_writer_tests.proofs.Imports.{◌≡◌, ◌+◌, ◌*◌, ◌<◌, ◌++◌, ◌∷◌, [], ◌∙◌, ◌≤◌, All, List, ℕ, length, map, ap, sym, subst, arith, range_with_len, get_or-map-range_with_len, length-map-range_with_len, map-range_with_len_more, AreSlots, slot_in_a_row, slots_in_a_row, slots_within}
+use Rattle.std.specs.List.{AllPairs}
 use Rattle.btr_tree_writer_tests.proofs.writing.slots_in_a_row.Goals as goal
 
 slots_rise : (n : ℕ) → AllPairs (λ a b. a < b) (map slot_in_a_row (range_with_len 0 n))

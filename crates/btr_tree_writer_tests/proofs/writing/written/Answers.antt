@@ -1,4 +1,4 @@
-use Rattle.std.proofs.Common.{arith}
+use Rattle.btr_tree_writer_tests.proofs.Imports.{arith}
 use Rattle.btr_tree_writer_tests.proofs.writing.written.Goals as goal
 
 pub write_tree-requires-clause-in_range : goal.write_tree-requires-clause-in_range

@@ -1,6 +1,5 @@
-use Rattle.std.proofs.Common.{arith}
+use Rattle.castagnoli.proofs.Imports.{arith, data_ref_hash}
 use Rattle.std.specs.Int.{w64, to_le_bytes}
-use Rattle.castagnoli.specs.Castagnoli.{data_ref_hash}
 use Rattle.castagnoli.proofs.Linear.{hash_is, hash_below}
 use Rattle.castagnoli.proofs.hashes.data_ref_hash.Goals as goal
 

@@ -1,4 +1,4 @@
-use Rattle.std.proofs.Common.{◌≡◌, ℕ, ◌/◌, bit_xor, refl, sym, ◌∙◌}
+use Rattle.castagnoli.proofs.Imports.{◌≡◌, ℕ, ◌/◌, bit_xor, refl, sym, ◌∙◌}
 use Rattle.castagnoli.proofs.Linear.{word_is}
 use Rattle.castagnoli.proofs.register.after_word.Goals as goal
 

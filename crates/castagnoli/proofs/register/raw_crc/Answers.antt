@@ -1,4 +1,4 @@
-use Rattle.std.proofs.Common.{◌≡◌, ◌+◌, ◌≤◌, length, ◌∙◌, arith}
+use Rattle.castagnoli.proofs.Imports.{◌≡◌, ◌+◌, ◌≤◌, length, ◌∙◌, arith}
 use Rattle.castagnoli.proofs.Linear.{word_comes}
 use Rattle.castagnoli.proofs.register.raw_crc.Goals as goal
 

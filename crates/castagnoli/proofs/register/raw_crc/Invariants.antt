@@ -1,5 +1,4 @@
-use Rattle.std.proofs.Common.{◌≡◌, ℕ, ◌+◌, ◌-◌, ◌≤◌, length, take}
-use Rattle.castagnoli.specs.Castagnoli.{raw_crc}
+use Rattle.castagnoli.proofs.Imports.{◌≡◌, ℕ, ◌+◌, ◌-◌, ◌≤◌, length, take, raw_crc}
 use Rattle.castagnoli.proofs.register.raw_crc.Given as goal
 
 abbrev pub invariant-words : goal.invariant-words

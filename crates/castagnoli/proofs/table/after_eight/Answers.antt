@@ -1,5 +1,4 @@
-use Rattle.std.proofs.Common.{refl, arith}
-use Rattle.castagnoli.specs.Castagnoli.{shifted}
+use Rattle.castagnoli.proofs.Imports.{refl, arith, shifted}
 use Rattle.castagnoli.specs.declared.table.TheConstants.{TABLE}
 use Rattle.castagnoli.proofs.Linear.{entry_of}
 use Rattle.castagnoli.proofs.table.after_eight.Goals as goal

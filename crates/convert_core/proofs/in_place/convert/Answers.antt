@@ -1,87 +1,23 @@
-use Rattle.std.proofs.Common.{◌≡◌, ◌≢◌, ◌∙◌, inl, refl, sym, ap, subst}
-use Rattle.std.proofs.lemmas.Bool.{both_ways}
-use Rattle.std.proofs.lemmas.Result.{err_from_is_err_and}
-use Rattle.reiser_volume.specs.vol_block.declared.format.Format.TheVariants.{Btrfs}
-use Rattle.reiser_volume.specs.outside.Format.{format_in}
-use Rattle.reiser_volume.specs.outside.History.{History, reads}
-use Rattle.reiser_volume.proofs.outside.Crash.{reads_only}
-use Rattle.reiser_volume.proofs.outside.Phases.{left_unwritten}
-use Rattle.convert_steps.specs.Switch.{IsPart}
-use Rattle.convert_core.specs.Answers.{RefusesConvert}
-use Rattle.convert_core.proofs.Crashing.{MayWrite, behind_for, converted, early_crash, keeps_behind, may_keep, switch_crash}
-use Rattle.convert_core.proofs.Ending.{refuses}
+use Rattle.convert_core.proofs.Imports.{◌≢◌, ◌≡◌, ◌∙◌, ap, subst, IfErr, History, reads, synced_then, uncalled, DiffersInFree, IsEither}
+use Rattle.convert_steps.specs.command_answers.declared.answer.Answer.TheVariants as answer
 use Rattle.convert_core.proofs.in_place.convert.Goals as goal
 
-pub returns-in_err-found-clause-crash : goal.returns-in_err-found-clause-crash
-returns-in_err-found-clause-crash g c = λ tells settled image left.
-    inl (left_unwritten _ _ settled (g.met.D.Disk.kept_history _ _ tells c.find_format.ensures.kept) image left)
-
-pub returns-then-is_btrfs-clause-crash : goal.returns-then-is_btrfs-clause-crash
-returns-then-is_btrfs-clause-crash g c = λ tells settled image left.
-    inl (left_unwritten _ _ settled (g.met.D.Disk.kept_history _ _ tells c.find_format.ensures.kept) image left)
-
-pub returns-then-is_btrfs-clause-converted : goal.returns-then-is_btrfs-clause-converted
-returns-then-is_btrfs-clause-converted g c = λ tells image is.
-    let blocks = g.met.D.Disk.open_blocks c.args.disk.now _ tells c.requires.«open» in
-    sym (c.in_ok-found.ensures.found tells image (blocks ∙ is)).format ∙ c.is_btrfs.ensures.0 c.if-is_btrfs.true
-
-pub returns-in_err-written-clause-crash : goal.returns-in_err-written-clause-crash
-returns-in_err-written-clause-crash g c = λ tells settled.
-    let same : g.D.Disk.history c.find_format.new.src ≡ g.D.Disk.history c.args.disk.now = g.met.D.Disk.kept_history _ _ tells c.find_format.ensures.kept in
-    let blocks = g.met.D.Disk.open_blocks c.args.disk.now _ tells c.requires.«open» in
-    let may = subst (λ (h : History). MayWrite c.args.options.now h (g.D.Disk.history c.write_volume.new.disk)) same (c.write_volume.ensures.only tells _ refl) in
-    let reiser : format_in (reads (g.D.Disk.history c.args.disk.now)) ≢ Btrfs = λ format. both_ways _ c.if-is_btrfs.false (c.is_btrfs.ensures.1 ((c.in_ok-found.ensures.found tells _ blocks).format ∙ format)) in
-    early_crash c.args.options.now c.args.ids.now c.args.now _ _ settled reiser may
-
-pub returns-in_err-written-clause-converted : goal.returns-in_err-written-clause-converted
-returns-in_err-written-clause-converted g c = λ tells image is.
-    let same : g.D.Disk.history c.find_format.new.src ≡ g.D.Disk.history c.args.disk.now = g.met.D.Disk.kept_history _ _ tells c.find_format.ensures.kept in
-    let blocks = g.met.D.Disk.open_blocks c.args.disk.now _ tells c.requires.«open» in
-    let reiser : format_in image ≢ Btrfs = λ format. both_ways _ c.if-is_btrfs.false (c.is_btrfs.ensures.1 ((c.in_ok-found.ensures.found tells image (blocks ∙ is)).format ∙ format)) in
-    let err = err_from_is_err_and c.from_residual-in_err-written.result c.from_residual-in_err-written.ensures.1 in
-    rw err.1
-    (subst (RefusesConvert c.args.options.now image) (sym err.2) (refuses c.args.options.now image _ reiser (c.in_err-written.ensures.written tells image (ap reads same ∙ is))))
+pub returns-in_err-sync-clause-crash : goal.returns-in_err-sync-clause-crash
+returns-in_err-sync-clause-crash g c = λ tells. uncalled _ _ _ (c.in_err-sync.ensures.effect tells)
 
 pub returns-clause-crash : goal.returns-clause-crash
-returns-clause-crash g c = λ tells settled.
-    let same : g.D.Disk.history c.find_format.new.src ≡ g.D.Disk.history c.args.disk.now = g.met.D.Disk.kept_history _ _ tells c.find_format.ensures.kept in
-    let blocks = g.met.D.Disk.open_blocks c.args.disk.now _ tells c.requires.«open» in
-    let may = subst (λ (h : History). MayWrite c.args.options.now h (g.D.Disk.history c.write_volume.new.disk)) same (c.write_volume.ensures.only tells _ refl) in
-    let reiser : format_in (reads (g.D.Disk.history c.args.disk.now)) ≢ Btrfs = λ format. both_ways _ c.if-is_btrfs.false (c.is_btrfs.ensures.1 ((c.in_ok-found.ensures.found tells _ blocks).format ∙ format)) in
-    switch_crash c.args.options.now c.args.ids.now c.args.now _ _ settled reiser may _ _ c.requires.size (c.in_ok-written.ensures.written tells _ (ap reads same)) (c.in_ok-written.ensures.settled tells) c.in_ok-written.ensures.room.0
-    (c.switch_to.ensures.only tells)
-    (c.switch_to.ensures.crash tells (c.in_ok-written.ensures.settled tells))
-
-pub returns-in_err-switch_to-clause-crash : goal.returns-in_err-switch_to-clause-crash
-returns-in_err-switch_to-clause-crash g c = λ tells settled.
-    let same : g.D.Disk.history c.find_format.new.src ≡ g.D.Disk.history c.args.disk.now = g.met.D.Disk.kept_history _ _ tells c.find_format.ensures.kept in
-    let blocks = g.met.D.Disk.open_blocks c.args.disk.now _ tells c.requires.«open» in
-    let may = subst (λ (h : History). MayWrite c.args.options.now h (g.D.Disk.history c.write_volume.new.disk)) same (c.write_volume.ensures.only tells _ refl) in
-    let reiser : format_in (reads (g.D.Disk.history c.args.disk.now)) ≢ Btrfs = λ format. both_ways _ c.if-is_btrfs.false (c.is_btrfs.ensures.1 ((c.in_ok-found.ensures.found tells _ blocks).format ∙ format)) in
-    switch_crash c.args.options.now c.args.ids.now c.args.now _ _ settled reiser may _ _ c.requires.size (c.in_ok-written.ensures.written tells _ (ap reads same)) (c.in_ok-written.ensures.settled tells) c.in_ok-written.ensures.room.0
-    (c.switch_to.ensures.only tells)
-    (c.switch_to.ensures.crash tells (c.in_ok-written.ensures.settled tells))
+returns-clause-crash g c = λ tells.
+    synced_then (IsEither c.args.options.now c.args.ids.now c.args.now) _ _ _ (c.in_ok-sync.ensures.effect tells) (c.convert_settled.ensures.grows tells) (c.convert_settled.ensures.crash tells)
 
 pub returns-clause-converted : goal.returns-clause-converted
-returns-clause-converted g c = λ tells image is.
-    let same : g.D.Disk.history c.find_format.new.src ≡ g.D.Disk.history c.args.disk.now = g.met.D.Disk.kept_history _ _ tells c.find_format.ensures.kept in
-    let may = subst (λ (h : History). MayWrite c.args.options.now h (g.D.Disk.history c.write_volume.new.disk)) same (c.write_volume.ensures.only tells _ refl) in
-    let behind =
-    keeps_behind c.args.options.now c.args.ids.now c.args.now _ _ may _ (c.in_ok-written.ensures.written tells _ (ap reads same)) c.in_ok-written.ensures.room.0 _
-    (reads_only (IsPart _ _) _ _ (c.switch_to.ensures.only tells)) in
-    let down = c.in_ok-written.ensures.written tells image (ap reads same ∙ is) in
-    (converted c.args.options.now c.args.ids.now c.args.now image _ _ down c.requires.size _ (c.in_ok-switch_to.ensures.written tells) (behind_for image _ _ is behind) (c.in_ok-switch_to.ensures.copies tells), down.summary)
+returns-clause-converted g c = λ tells image is. c.convert_settled.ensures.converted tells image (ap reads (c.in_ok-sync.ensures.effect tells) ∙ is)
 
-pub returns-in_err-found-clause-memory : goal.returns-in_err-found-clause-memory
-returns-in_err-found-clause-memory g c = λ tells.
-    let err = err_from_is_err_and c.from_residual.result c.from_residual.ensures.1 in
-    rw err.1
-    (λ memory. may_keep c.args.options.now _ _ (inl (g.met.D.Disk.kept_history _ _ tells c.find_format.ensures.kept)))
+pub returns-clause-refused : goal.returns-clause-refused
+returns-clause-refused g c = λ tells.
+    subst (λ (h : History). IfErr c.convert_settled.result (λ e. e ≢ answer.Fault → e ≢ answer.Memory → g.D.Disk.history c.convert_settled.new.disk ≡ h)) (c.in_ok-sync.ensures.effect tells)
+    (c.convert_settled.ensures.refused tells)
 
-pub returns-in_err-written-clause-memory : goal.returns-in_err-written-clause-memory
-returns-in_err-written-clause-memory g c = λ tells.
-    let same : g.D.Disk.history c.find_format.new.src ≡ g.D.Disk.history c.args.disk.now = g.met.D.Disk.kept_history _ _ tells c.find_format.ensures.kept in
-    let may = subst (λ (h : History). MayWrite c.args.options.now h (g.D.Disk.history c.write_volume.new.disk)) same (c.write_volume.ensures.only tells _ refl) in
-    let err = err_from_is_err_and c.from_residual-in_err-written.result c.from_residual-in_err-written.ensures.1 in
-    rw err.1
-    (λ memory. may_keep c.args.options.now _ _ may)
+pub returns-clause-memory : goal.returns-clause-memory
+returns-clause-memory g c = λ tells.
+    subst (λ (h : History). IfErr c.convert_settled.result (λ e. e ≡ answer.Memory → DiffersInFree (reads h) (reads (g.D.Disk.history c.convert_settled.new.disk)))) (c.in_ok-sync.ensures.effect tells)
+    (c.convert_settled.ensures.memory tells)

@@ -1,10 +1,4 @@
-use Rattle.std.proofs.Common.{◌∙◌, ℕ, refl, sym, ap, subst}
-use Rattle.reiser_volume.specs.reiser_super.declared.superblock.Super.{Super}
-use Rattle.convert_steps.specs.space_items.Chunks.{chunk_item}
-use Rattle.convert_trees_laws.proofs.Booting.{boot_fits_by}
-use Rattle.unit_plan.specs.Chunks.{AreChunks, FitsVolume}
-use Rattle.unit_plan.specs.declared.chunk.Chunk.{Chunk}
-use Rattle.convert_steps.specs.Superblock.{is_system_role, record_bytes}
+use Rattle.convert_core.proofs.Imports.{◌∙◌, ℕ, refl, sym, ap, subst, Super, chunk_item, boot_fits_by, AreChunks, FitsVolume, PlannedChunk, is_system_role, record_bytes}
 use Rattle.convert_steps.proofs.Booting.{length_record}
 use Rattle.convert_core.proofs.Nodes.{units_fit}
 use Rattle.convert_core.proofs.volume.superblock_of.Goals as goal
@@ -18,5 +12,5 @@ superblock-requires-clause-boot c = λ chunks are.
     let p = c.args.prepared.now in
     let whole = c.requires.whole.1 in
     let are_by = subst (λ (n : ℕ). AreChunks p.plan n chunks) (ap (λ (s : Super). s.blocks) c.sup.ensures ∙ sym whole.bitmap) are in
-    boot_fits_by is_system_role refl refl (λ (k : Chunk). record_bytes (chunk_item p.ids k)) (λ k. length_record p.ids k c.know_ids.ensures.device) p.volume.bitmap p.need p.plan chunks c.requires.plan.enough
+    boot_fits_by is_system_role refl refl (λ (k : PlannedChunk). record_bytes (chunk_item p.ids k)) (λ k. length_record p.ids k c.know_ids.ensures.device) p.volume.bitmap p.need p.plan chunks c.requires.plan.enough
     c.requires.plan.plan are_by whole.system

@@ -1,7 +1,5 @@
-use Rattle.std.proofs.Common.{◌≡◌, ◌⊎◌, sym, subst}
-use Rattle.convert_steps.specs.command_answers.declared.answer.Answer.{Answer}
+use Rattle.convert_core.proofs.Imports.{◌≡◌, ◌⊎◌, sym, subst, Answer, IsPrepareAnswer}
 use Rattle.convert_steps.specs.command_answers.declared.answer.Answer.TheVariants as answer
-use Rattle.convert_steps.specs.Prepared.{IsPrepareAnswer}
 use Rattle.convert_core.proofs.Answering.{failure_of_writer, prepares_by_writer}
 use Rattle.convert_core.proofs.Nodes.{places_end, units_fit, units_sound}
 use Rattle.convert_core.proofs.volume.write_nodes.Goals as goal

@@ -1,13 +1,5 @@
-use Rattle.std.proofs.Common.{◌∙◌, inl, refl, ap}
-use Rattle.reiser_volume.specs.outside.History.{reads}
-use Rattle.reiser_volume.proofs.outside.Crash.{sync_only, writes_then}
-use Rattle.reiser_volume.proofs.outside.Phases.{sync_reads}
-use Rattle.reiser_volume.specs.reiser_super.declared.superblock.Super.{Super}
-use Rattle.unit_plan.specs.declared.counts.Counts.{Counts}
-use Rattle.convert_core.specs.Converted.{IsFree}
-use Rattle.convert_core.specs.Surveyed.{summary_by}
+use Rattle.convert_core.proofs.Imports.{◌∙◌, inl, refl, ap, reads, sync_only, writes_then, sync_reads, Super, Counts, IsFree, summary_by, handed_on, volume_cause}
 use Rattle.convert_steps.proofs.Preparing.{volume_answers}
-use Rattle.convert_steps.proofs.command_answers.Handed.{handed_on, volume_cause}
 use Rattle.convert_steps.proofs.space_items.ChunksExist.{chunks_exist}
 use Rattle.convert_core.proofs.Answering.{fault_of_volume}
 use Rattle.convert_core.proofs.Moving.{can_move}

@@ -1,8 +1,4 @@
-use Rattle.std.proofs.Common.{◌≡◌, ◌∙◌, length, inl, inr, sym, ap, subst, true≢false, rules}
-use Rattle.std.proofs.lemmas.Result.{MatchResult-weaker}
-use Rattle.reiser_volume.specs.outside.History.{History, Image, WritesOnly, reads}
-use Rattle.convert_steps.proofs.command_answers.Handed.{handed_on}
-use Rattle.convert_core.specs.Converted.{IsFree}
+use Rattle.convert_core.proofs.Imports.{◌≡◌, ◌∙◌, length, inl, inr, sym, ap, subst, true≢false, rules, MatchResult-weaker, History, Image, WritesOnly, reads, handed_on, IsFree}
 use Rattle.convert_core.proofs.Ending.{failed_so, fails, keeps_cause}
 use Rattle.convert_core.proofs.Putting.{convertible}
 use Rattle.convert_core.proofs.volume.write_volume.Goals as goal

@@ -1,7 +1,4 @@
-use Rattle.std.proofs.Common.{◌≤◌, ◌+◌, ◌∙◌, Bool, List, length, sym, ap, subst, arith}
-use Rattle.std.specs.Prelude.{All}
-use Rattle.reiser_volume.specs.reiser_super.declared.superblock.Super.{Super}
-use Rattle.unit_plan.specs.declared.piece.Piece.{Piece}
+use Rattle.convert_core.proofs.Imports.{◌≤◌, ◌+◌, ◌∙◌, Bool, List, length, sym, ap, subst, arith, All, Super, Piece}
 use Rattle.convert_core.proofs.Wholeness.{are_pieces, places_inside, told_whole}
 use Rattle.convert_core.proofs.whole.is_whole.Goals as goal
 

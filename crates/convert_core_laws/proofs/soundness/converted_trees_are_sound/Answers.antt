@@ -1,4 +1,4 @@
-use Rattle.convert_core_laws.proofs.soundness.Trees.{converted_trees_are_sound}
+use Rattle.convert_core_laws.proofs.soundness.TreeRules.{converted_trees_are_sound}
 use Rattle.convert_core_laws.proofs.soundness.converted_trees_are_sound.Goals as goal
 
 pub returns : goal.returns

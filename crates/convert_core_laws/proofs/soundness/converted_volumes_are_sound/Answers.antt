@@ -1,4 +1,4 @@
-use Rattle.convert_core_laws.specs.soundness.Recounted.{recount_for}
+use Rattle.convert_core_laws.proofs.Imports.{recount_for}
 use Rattle.convert_core_laws.proofs.soundness.converted_volumes_are_sound.Goals as goal
 
 pub returns : goal.returns
@@ -7,6 +7,8 @@ returns c = λ o ids now image other m r nodes is size low are has bytes. (
   record {
     trees = c.converted_trees_are_sound.ensures o ids now image other m r nodes is size low are has bytes;
     names = c.converted_names_are_sound.ensures o ids now image other m r nodes is size low are has bytes;
+    inodes = c.converted_inodes_are_sound.ensures o ids now image other m r nodes is size low are has bytes;
+    extents = c.converted_file_extents_are_sound.ensures o ids now image other m r nodes is size low are has bytes;
     references = c.converted_references_are_sound.ensures o ids now image other m r nodes is size low are has bytes;
     placement = c.converted_placement_is_sound.ensures o ids now image other m r nodes is size low are has bytes;
     checksums = c.converted_checksums_are_sound.ensures o ids now image other m r nodes is size low are has bytes;

@@ -1,7 +1,4 @@
-use Rattle.std.proofs.Common.{◌≡◌, length, map, string_bytes}
-use Rattle.btr_node.specs.NodeSize.{IsNodeSize}
-use Rattle.convert_options.specs.Asked.{has_verbose, without_verbose}
-use Rattle.convert_options.specs.Settings.{plain}
+use Rattle.convert_options.proofs.Imports.{◌≡◌, length, map, string_bytes, IsNodeSize, has_verbose, without_verbose, plain}
 use Rattle.convert_options.proofs.Asking.{left, told}
 use Rattle.convert_options.proofs.OneByOne.{rest_of}
 use Rattle.convert_options.proofs.asked.read_beside.Given as goal

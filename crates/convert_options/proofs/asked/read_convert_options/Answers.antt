@@ -1,4 +1,4 @@
-use Rattle.std.proofs.Common.{◌∙◌, map, string_bytes}
+use Rattle.convert_options.proofs.Imports.{◌∙◌, map, string_bytes}
 use Rattle.convert_options.proofs.Asking.{asked_convert}
 use Rattle.convert_options.proofs.asked.read_convert_options.Goals as goal
 

@@ -1,5 +1,4 @@
-use Rattle.std.proofs.Common.{◌≡◌, ◌∙◌, sym, map, string_bytes, refl, inl, inr, None}
-use Rattle.convert_options.specs.Settings.{options}
+use Rattle.convert_options.proofs.Imports.{◌≡◌, ◌∙◌, sym, map, string_bytes, refl, inl, inr, None, options}
 use Rattle.convert_options.proofs.OneByOne.{after, by_word, rest_all, rest_none, rest_step, rest_twice, sized}
 use Rattle.convert_options.proofs.read.read_options.Goals as goal
 

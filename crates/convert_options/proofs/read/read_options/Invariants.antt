@@ -1,6 +1,4 @@
-use Rattle.std.proofs.Common.{◌≡◌, length, map, string_bytes}
-use Rattle.btr_node.specs.NodeSize.{IsNodeSize}
-use Rattle.convert_options.specs.Settings.{options}
+use Rattle.convert_options.proofs.Imports.{◌≡◌, length, map, string_bytes, IsNodeSize, options}
 use Rattle.convert_options.proofs.OneByOne.{rest_of}
 use Rattle.convert_options.proofs.read.read_options.Given as goal
 

@@ -1,5 +1,4 @@
-use Rattle.std.proofs.Common.{◌≡◌, ℕ, nat_eq, cond, List, length, refl, ◌∙◌, Option, Some, None}
-use Rattle.std.specs.Prelude.{option_and_then}
+use Rattle.convert_options.proofs.Imports.{◌≡◌, ℕ, nat_eq, cond, List, length, refl, ◌∙◌, Option, Some, None, option_and_then}
 use Rattle.std.proofs.lemmas.Bool.{false≢true}
 use Rattle.uuid.specs.Text.{parsed, parsed_hyphenated}
 use Rattle.convert_options.proofs.values.given_uuid.Goals as goal

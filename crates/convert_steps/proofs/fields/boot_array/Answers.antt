@@ -1,7 +1,5 @@
-use Rattle.std.proofs.Common.{arith, refl, ◌≡◌, ◌≤◌, ◌+◌, ◌-◌, ◌++◌, ℕ, List, length, replicate, sym, ◌∙◌, ap, subst, get_or}
-use Rattle.std.proofs.lemmas.Option.{slice_get_within, get_or_from_slice_get}
+use Rattle.convert_steps.proofs.Imports.{arith, refl, ◌≡◌, ◌≤◌, ◌+◌, ◌-◌, ◌++◌, ℕ, List, length, replicate, sym, ◌∙◌, ap, subst, get_or, slice_get_within, get_or_from_slice_get, PlannedChunk}
 use borrow.Rule.Slice.PartMut.{put_mid}
-use Rattle.unit_plan.specs.declared.chunk.Chunk.{Chunk}
 use Rattle.convert_steps.proofs.Booting.{boot_longer, boot_put, boot_room, boot_same, boot_all}
 use Rattle.convert_steps.proofs.fields.boot_array.Goals as goal
 use Rattle.convert_steps.proofs.fields.boot_array.Goals.{then-is_system, else-is_system}
@@ -21,7 +19,7 @@ pub write_record-requires-clause-small : goal.write_record-requires-clause-small
 write_record-requires-clause-small c =
     let at : get_or c.args.chunks.now c.loop-i.i c.get-chunk.result ≡ c.get-chunk.result =
     get_or_from_slice_get c.args.chunks.now c.loop-i.i c.get-chunk.result c.get-chunk.result c.get-chunk.ensures in
-    subst (λ (d : Chunk). d.start + d.length ≤ 536870912) at
+    subst (λ (d : PlannedChunk). d.start + d.length ≤ 536870912) at
     (c.requires.small c.loop-i.i c.get-chunk.result (slice_get_within c.args.chunks.now c.loop-i.i c.get-chunk.result c.get-chunk.ensures))
 
 pub loop-i-preserved : goal.loop-i-preserved

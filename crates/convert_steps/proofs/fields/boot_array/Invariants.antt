@@ -1,5 +1,4 @@
-use Rattle.std.proofs.Common.{◌≡◌, ◌-◌, ◌++◌, length, take, replicate}
-use Rattle.convert_steps.specs.Superblock.{boot_bytes}
+use Rattle.convert_steps.proofs.Imports.{◌≡◌, ◌-◌, ◌++◌, length, take, replicate, boot_bytes}
 use Rattle.convert_steps.proofs.fields.boot_array.Given as goal
 
 abbrev pub invariant-loop-i : goal.invariant-loop-i

@@ -1,5 +1,4 @@
-use Rattle.std.proofs.Common.{length, ◌∙◌, ap, List, ℕ}
-use Rattle.btr_tree_writer.specs.btr_space_items.Chunk.{chunk_bytes}
+use Rattle.convert_steps.proofs.Imports.{length, ◌∙◌, ap, List, ℕ, chunk_bytes}
 use Rattle.convert_steps.proofs.Booting.{length_key, record_made}
 use Rattle.convert_steps.proofs.fields.write_record.Goals as goal
 

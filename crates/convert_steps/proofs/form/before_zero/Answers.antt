@@ -1,4 +1,4 @@
-use Rattle.std.proofs.Common.{arith, refl}
+use Rattle.convert_steps.proofs.Imports.{arith, refl}
 use Rattle.convert_steps.proofs.Labels.{goes_on, stops, ends}
 use Rattle.convert_steps.proofs.form.before_zero.Goals as goal
 use Rattle.convert_steps.proofs.form.before_zero.Goals.{then-loop-end-test+else-label-end-ne0, else-loop-end-test}

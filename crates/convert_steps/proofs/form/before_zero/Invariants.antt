@@ -1,4 +1,4 @@
-use Rattle.std.proofs.Common.{◌-◌, ◌≤◌}
+use Rattle.convert_steps.proofs.Imports.{◌-◌, ◌≤◌}
 use Rattle.convert_steps.proofs.Labels.{Goes}
 use Rattle.convert_steps.proofs.form.before_zero.Given as goal
 

@@ -1,5 +1,4 @@
-use Rattle.std.proofs.Common.{◌≡◌, ◌<◌, ◌∙◌, ap, arith}
-use Rattle.command_answers.specs.outside.History.{Image, block_at, reads}
+use Rattle.convert_steps.proofs.Imports.{◌≡◌, ◌<◌, ◌∙◌, ap, arith, Image, block_at, reads}
 use Rattle.convert_steps.proofs.Moving.{copied}
 use Rattle.convert_steps.proofs.pieces.copy_block.Goals as goal
 

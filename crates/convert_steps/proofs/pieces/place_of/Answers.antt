@@ -1,8 +1,4 @@
-use Rattle.std.proofs.Common.{◌≡◌, ◌-◌, ℕ, refl, ap, ◌∙◌, arith}
-use Rattle.std.specs.Prelude.{slice_get}
-use Rattle.indexmap.specs.IndexMap.{keys}
-use Rattle.reiser_volume.specs.reiser_volume_names.Names.{inode_of}
-use Rattle.reiser_volume.specs.Numbers.{by_inode}
+use Rattle.convert_steps.proofs.Imports.{◌≡◌, ◌-◌, ℕ, refl, ap, ◌∙◌, arith, slice_get, keys, ino_of_key, by_inode}
 use Rattle.convert_steps.proofs.Placed.{named_number}
 use Rattle.convert_steps.proofs.pieces.place_of.Goals as goal
 
@@ -16,7 +12,7 @@ pub returns-clause-named : goal.returns-clause-named
 returns-clause-named c = λ image accepted opened key among is.
     let number = named_number c.args.volume.now image key accepted opened among in
     let same : c.in_ok-n.n ≡ c.args.inode - 256 = c.in_ok-n.ensures.1 in
-    let n_is : c.in_ok-n.n ≡ inode_of (keys c.args.volume.now.named) key - 256 = same ∙ ap (λ (m : ℕ). m - 256) is in (
+    let n_is : c.in_ok-n.n ≡ ino_of_key (keys c.args.volume.now.named) key - 256 = same ∙ ap (λ (m : ℕ). m - 256) is in (
       c.place.result,
       refl,
       c.place.ensures.place (keys c.args.volume.now.named) (c.new.ensures.numbered image opened) (omega (arith, n_is, number.few))

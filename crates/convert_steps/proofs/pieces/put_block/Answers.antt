@@ -1,5 +1,4 @@
-use Rattle.std.proofs.Common.{◌≡◌, refl}
-use Rattle.command_answers.proofs.outside.Crash.{write_only}
+use Rattle.convert_steps.proofs.Imports.{◌≡◌, refl, write_only}
 use Rattle.convert_steps.proofs.pieces.put_block.Goals as goal
 
 pub returns-in_err-write-clause-only : goal.returns-in_err-write-clause-only

@@ -1,17 +1,11 @@
-use Rattle.std.proofs.Common.{◌≡◌, length, refl, sym, ap, subst, ◌∙◌, arith}
-use Rattle.std.proofs.lemmas.Result.{err_from_is_err_and}
-use Rattle.reiser_volume.specs.reiser_volume_contents.Answers.{IsFault}
-use Rattle.command_answers.specs.outside.History.{reads}
-use Rattle.command_answers.proofs.outside.Phases.{reads_outside}
-use Rattle.command_answers.proofs.outside.Crash.{writes_then}
-use Rattle.convert_steps.specs.Moved.{IsMovedTo, IsPlace}
+use Rattle.convert_steps.proofs.Imports.{◌≡◌, length, refl, sym, ap, subst, ◌∙◌, arith, err_from_is_err_and, IsFault, reads, reads_outside, writes_then, IsMovedTo, IsMovedPlace}
 use Rattle.convert_steps.proofs.Moving.{place_only}
 use Rattle.convert_steps.proofs.Turning.{can_write, held_all, held_more, kept_by, opened_at, same_at}
 use Rattle.convert_steps.proofs.pieces.write_moved.Goals as goal
 
 pub returns-in_err-write_piece-clause-only : goal.returns-in_err-write_piece-clause-only
 returns-in_err-write_piece-clause-only g c = λ tells.
-    writes_then (λ b _. IsPlace (g.P.PieceList.pieces c.args.pieces.now) b) _ _ _ (c.loop-i.invariant.only tells)
+    writes_then (λ b _. IsMovedPlace (g.P.PieceList.pieces c.args.pieces.now) b) _ _ _ (c.loop-i.invariant.only tells)
     (place_only (g.P.PieceList.pieces c.args.pieces.now) c.loop-i.i c.get.result.now _ _ c.get.ensures (c.write_piece.ensures.only tells))
 
 pub returns-in_err-write_piece-clause-written : goal.returns-in_err-write_piece-clause-written
@@ -32,7 +26,7 @@ loop-i-preserved g c = record {
   borrow = c.write_piece.ensures.borrow ∙ c.loop-i.invariant.borrow;
   same = c.in_ok-write_piece.ensures.cause.kept (λ e. absurd cc) ∙ c.loop-i.invariant.same;
   only = λ tells.
-      writes_then (λ b _. IsPlace (g.P.PieceList.pieces c.args.pieces.now) b) _ _ _ (c.loop-i.invariant.only tells)
+      writes_then (λ b _. IsMovedPlace (g.P.PieceList.pieces c.args.pieces.now) b) _ _ _ (c.loop-i.invariant.only tells)
       (place_only (g.P.PieceList.pieces c.args.pieces.now) c.loop-i.i c.get.result.now _ _ c.get.ensures (c.write_piece.ensures.only tells));
   held = λ tells image is can.
       let kept = kept_by (g.P.PieceList.pieces c.args.pieces.now) image _ _ is (c.loop-i.invariant.only tells) in

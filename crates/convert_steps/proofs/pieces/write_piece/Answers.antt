@@ -1,7 +1,4 @@
-use Rattle.std.proofs.Common.{◌≡◌, length, set, ap, subst, arith}
-use Rattle.std.specs.Result.{MatchResult}
-use Rattle.reiser_volume.specs.reiser_volume_contents.Answers.{IsFault}
-use Rattle.command_answers.specs.outside.History.{Image, block_at, reads}
+use Rattle.convert_steps.proofs.Imports.{◌≡◌, length, set, ap, subst, arith, MatchResult, IsFault, Image, block_at, reads}
 use Rattle.convert_steps.proofs.Holding.{copy_holds, tail_holds}
 use Rattle.convert_steps.proofs.Moving.{piece_only, tail_moves, copy_moves}
 use Rattle.convert_steps.proofs.pieces.write_piece.Goals as goal

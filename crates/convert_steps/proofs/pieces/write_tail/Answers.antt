@@ -1,8 +1,4 @@
-use Rattle.std.proofs.Common.{◌≡◌, ◌<◌, sym, ap, subst, ◌∙◌, arith}
-use Rattle.std.proofs.lemmas.Result.{err_from_is_err_and}
-use Rattle.reiser_volume.specs.reiser_volume_contents.Answers.{IsFault}
-use Rattle.command_answers.specs.outside.History.{reads}
-use Rattle.indexmap.specs.IndexMap.{keys}
+use Rattle.convert_steps.proofs.Imports.{◌≡◌, ◌<◌, sym, ap, subst, ◌∙◌, arith, err_from_is_err_and, IsFault, reads, keys}
 use Rattle.convert_steps.proofs.Moving.{at_place, made_block}
 use Rattle.convert_steps.proofs.pieces.write_tail.Goals as goal
 

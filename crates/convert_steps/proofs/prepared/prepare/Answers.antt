@@ -1,11 +1,6 @@
-use Rattle.std.proofs.Common.{Bool, List, refl, sym, ap, subst, ◌∙◌}
+use Rattle.convert_steps.proofs.Imports.{Bool, List, refl, sym, ap, subst, ◌∙◌, ids_by, label_by, label_field, HasEnoughSpace, IsPlan, need, Counts, IsPrepareAnswer, RefusesConversion}
 use Rattle.command_answers.proofs.Handed.{handed_on, volume_cause}
-use Rattle.convert_steps.specs.Making.{ids_by, label_by, label_field}
 use Rattle.reiser_super.specs.declared.superblock.Super.{Super}
-use Rattle.unit_plan.specs.Choice.{HasEnoughSpace, IsPlan}
-use Rattle.unit_plan.specs.Needed.{need}
-use Rattle.unit_plan.specs.declared.counts.Counts.{Counts}
-use Rattle.convert_steps.specs.Prepared.{IsPrepareAnswer, RefusesConversion}
 use Rattle.convert_steps.proofs.Preparing.{by_find, by_open, fits, has_plan, plan_answers, plan_cause, plan_refuses, volume_answers}
 use Rattle.convert_steps.proofs.prepared.prepare.Goals as goal
 

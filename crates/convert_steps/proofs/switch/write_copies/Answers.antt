@@ -1,25 +1,22 @@
-use Rattle.std.proofs.Common.{sym, subst}
-use Rattle.command_answers.proofs.outside.Crash.{sync_only, writes_then}
-use Rattle.command_answers.proofs.outside.Phases.{on_ok, sync_reads}
-use Rattle.convert_steps.specs.Switch.{IsCopy, HasCopies}
+use Rattle.convert_steps.proofs.Imports.{sym, subst, FIRST_MIRROR, SECOND_MIRROR, sync_only, writes_then, on_ok, sync_reads, IsCopy, HasCopies}
 use Rattle.convert_steps.proofs.Phases.{copy_part, both_stand}
 use Rattle.convert_steps.proofs.switch.write_copies.Goals as goal
 
 pub returns-in_err-write_copy-clause-only : goal.returns-in_err-write_copy-clause-only
-returns-in_err-write_copy-clause-only g c = λ tells. copy_part c.args.superblock.now.bytes c.args.blocks 16384 _ _ (c.write_copy.ensures.only tells)
+returns-in_err-write_copy-clause-only g c = λ tells. copy_part c.args.superblock.now.bytes c.args.blocks FIRST_MIRROR _ _ (c.write_copy.ensures.only tells)
 
 pub returns-in_err-write_copy-2-clause-only : goal.returns-in_err-write_copy-2-clause-only
 returns-in_err-write_copy-2-clause-only g c = λ tells.
     writes_then (IsCopy c.args.superblock.now.bytes c.args.blocks) _ _ _
-    (copy_part c.args.superblock.now.bytes c.args.blocks 16384 _ _ (c.write_copy.ensures.only tells))
-    (copy_part c.args.superblock.now.bytes c.args.blocks 67108864 _ _ (c.write_copy-2.ensures.only tells))
+    (copy_part c.args.superblock.now.bytes c.args.blocks FIRST_MIRROR _ _ (c.write_copy.ensures.only tells))
+    (copy_part c.args.superblock.now.bytes c.args.blocks SECOND_MIRROR _ _ (c.write_copy-2.ensures.only tells))
 
 pub returns-clause-only : goal.returns-clause-only
 returns-clause-only g c = λ tells.
     writes_then (IsCopy c.args.superblock.now.bytes c.args.blocks) _ _ _
     (writes_then (IsCopy c.args.superblock.now.bytes c.args.blocks) _ _ _
-    (copy_part c.args.superblock.now.bytes c.args.blocks 16384 _ _ (c.write_copy.ensures.only tells))
-    (copy_part c.args.superblock.now.bytes c.args.blocks 67108864 _ _ (c.write_copy-2.ensures.only tells)))
+    (copy_part c.args.superblock.now.bytes c.args.blocks FIRST_MIRROR _ _ (c.write_copy.ensures.only tells))
+    (copy_part c.args.superblock.now.bytes c.args.blocks SECOND_MIRROR _ _ (c.write_copy-2.ensures.only tells)))
     (sync_only (IsCopy c.args.superblock.now.bytes c.args.blocks) _ _ _ (c.sync.ensures.effect tells))
 
 pub returns-clause-written : goal.returns-clause-written

@@ -1,5 +1,4 @@
-use Rattle.std.proofs.Common.{◌≡◌, ◌<◌, length, arith}
-use Rattle.command_answers.specs.outside.History.{reads}
+use Rattle.convert_steps.proofs.Imports.{◌≡◌, ◌<◌, length, arith, reads}
 use Rattle.convert_steps.proofs.Phases.{copy_only, copy_stands}
 use Rattle.convert_steps.proofs.switch.write_copy.Goals as goal
 

@@ -1,6 +1,4 @@
-use Rattle.std.proofs.Common.{refl}
-use Rattle.command_answers.specs.outside.History.{IsBlock}
-use Rattle.command_answers.proofs.outside.Crash.{write_only, sync_only, writes_then}
+use Rattle.convert_steps.proofs.Imports.{refl, IsBlock, write_only, sync_only, writes_then}
 use Rattle.convert_steps.proofs.switch.write_superblock.Goals as goal
 
 pub returns-in_err-write-clause-only : goal.returns-in_err-write-clause-only

@@ -1,7 +1,4 @@
-use Rattle.std.proofs.Common.{◌∙◌, ap, sym, subst}
-use Rattle.reiser_volume.specs.reiser_super.declared.superblock.Super.{Super}
-use Rattle.space_items.specs.Chunks.{chunk_items}
-use Rattle.unit_plan.specs.Chunks.{AreChunks}
+use Rattle.convert_trees.proofs.Imports.{◌∙◌, ap, sym, subst, Super, chunk_items, AreChunks}
 use Rattle.convert_trees.proofs.Adding.{adds_of, all_of_list}
 use Rattle.convert_trees.proofs.first.write_chunks.Goals as goal
 

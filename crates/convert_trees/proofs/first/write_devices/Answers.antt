@@ -1,6 +1,4 @@
-use Rattle.std.proofs.Common.{sym, subst}
-use Rattle.reiser_volume.specs.reiser_super.declared.superblock.Super.{Super}
-use Rattle.unit_plan.specs.Chunks.{AreChunks}
+use Rattle.convert_trees.proofs.Imports.{sym, subst, Super, AreChunks}
 use Rattle.convert_trees.proofs.Adding.{adds_of, all_of_list}
 use Rattle.convert_trees.proofs.first.write_devices.Goals as goal
 

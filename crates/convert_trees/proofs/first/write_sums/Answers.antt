@@ -1,4 +1,4 @@
-use Rattle.std.proofs.Common.{◌∙◌}
+use Rattle.convert_trees.proofs.Imports.{◌∙◌}
 use Rattle.convert_trees.proofs.Adding.{adds_of, all_of_list, none_of, some_of}
 use Rattle.convert_trees.proofs.Sums.{sums_fit}
 use Rattle.convert_trees.proofs.first.write_sums.Goals as goal

@@ -1,13 +1,5 @@
-use Rattle.std.proofs.Common.{◌∙◌, ℕ, List, length, drop, sym, ap, subst, arith}
-use Rattle.std.proofs.lemmas.List.{length-drop}
-use Rattle.btr_tree.specs.Counting.{tree_nodes}
-use Rattle.btr_tree.specs.Roots.{lengths_of}
-use Rattle.reiser_volume.specs.reiser_super.declared.superblock.Super.{Super}
-use Rattle.space_items.specs.Extents.{extent_items}
-use Rattle.space_items.specs.Nodes.{merged_nodes}
-use Rattle.space_items.specs.declared.node.TreeNode.{TreeNode}
+use Rattle.convert_trees.proofs.Imports.{◌∙◌, ℕ, List, length, drop, sym, ap, subst, arith, length-drop, tree_nodes, lengths_of, Super, extent_items, merged_nodes, TreeNode, AreChunks}
 use Rattle.space_items.proofs.Staying.{own_nodes_stay_so}
-use Rattle.unit_plan.specs.Chunks.{AreChunks}
 use Rattle.convert_trees.proofs.Few.{few_merged, merged_fit, row_few, same_nodes}
 use Rattle.convert_trees.proofs.last.all_nodes.Goals as goal
 

@@ -1,11 +1,7 @@
-use Rattle.std.proofs.Common.{◌≡◌, ◌∙◌, ◌+◌, ◌*◌, ℕ, List, length, ap, subst, arith}
-use Rattle.btr_tree.specs.Counting.{node_bound}
-use Rattle.reiser_volume.specs.reiser_super.declared.superblock.Super.{Super}
+use Rattle.convert_trees.proofs.Imports.{◌≡◌, ◌∙◌, ◌+◌, ◌*◌, ℕ, List, length, ap, subst, arith, node_bound, Super, extent_bytes, AreChunks, PlannedChunk}
+use Rattle.unit_plan.specs.declared.item_bytes.TheConstants.{BLOCK_GROUP_BYTES, EXTENT_BYTES, NODE_BYTES}
 use Rattle.space_items.proofs.OneList.{chunks_one}
 use Rattle.space_items.proofs.Tallying.{few_chunks}
-use Rattle.space_items.specs.Own.{extent_bytes}
-use Rattle.unit_plan.specs.Chunks.{AreChunks}
-use Rattle.unit_plan.specs.declared.chunk.Chunk.{Chunk}
 use Rattle.convert_trees.proofs.Few.{few_pieces}
 use Rattle.convert_trees.proofs.last.extent_bound.Goals as goal
 
@@ -28,5 +24,5 @@ pub returns : goal.returns
 returns g c = λ chunks are nodes long.
     let own = subst (λ (s : Super). AreChunks c.args.w.now.plan.now s.blocks c.in_ok-chunks.chunks) c.sup.ensures c.in_ok-chunks.ensures in
     let one : c.in_ok-chunks.chunks ≡ chunks = chunks_one _ _ c.in_ok-chunks.chunks chunks own are in
-    let bytes : 107 * c.len.result + 49 * c.len-2.result + 58 * c.args.others ≡ extent_bytes (length (g.P.PieceList.pieces c.args.w.now.pieces.now)) (length chunks) (length nodes) = omega (arith, c.len.ensures, c.len-2.ensures, ap (λ (cs : List Chunk). length cs) one, long) in
+    let bytes : EXTENT_BYTES * c.len.result + BLOCK_GROUP_BYTES * c.len-2.result + NODE_BYTES * c.args.others ≡ extent_bytes (length (g.P.PieceList.pieces c.args.w.now.pieces.now)) (length chunks) (length nodes) = omega (arith, c.len.ensures, c.len-2.ensures, ap (λ (cs : List PlannedChunk). length cs) one, long) in
     ap (λ (n : ℕ). 2 * n + 16) (c.node_bound.ensures ∙ ap (λ (b : ℕ). node_bound b c.args.w.now.form.nodesize) bytes)

@@ -1,13 +1,4 @@
-use Rattle.std.proofs.Common.{◌∙◌, ◌≤◌, length, drop, refl, sym, ap, subst, arith}
-use Rattle.std.proofs.lemmas.List.{length-drop}
-use Rattle.btr_tree.specs.btr_node.NodeSize.{IsNodeSize}
-use Rattle.btr_tree.specs.Counting.{tree_nodes}
-use Rattle.btr_tree.specs.Roots.{lengths_of}
-use Rattle.reiser_volume.specs.reiser_super.declared.superblock.Super.{Super}
-use Rattle.space_items.specs.Extents.{extent_items}
-use Rattle.btr_tree_writer.specs.Trees.{AreWritable}
-use Rattle.btr_tree_writer.specs.declared.form.NodeForm.{NodeForm}
-use Rattle.unit_plan.specs.Chunks.{AreChunks}
+use Rattle.convert_trees.proofs.Imports.{◌∙◌, ◌≤◌, length, drop, refl, sym, ap, subst, arith, length-drop, IsNodeSize, tree_nodes, lengths_of, Super, extent_items, AreWritable, NodeForm, AreChunks}
 use Rattle.convert_trees.proofs.Adding.{failed}
 use Rattle.convert_trees.proofs.Extents.{extents_added, extents_writable, used_sum}
 use Rattle.convert_trees.proofs.last.write_extents.Goals as goal

@@ -1,4 +1,4 @@
-use Rattle.std.proofs.Common.{◌≡◌, take}
+use Rattle.convert_trees.proofs.Imports.{◌≡◌, take}
 use Rattle.convert_trees.proofs.root_tree.first_slots.Given as goal
 
 abbrev pub invariant-loop-slot : goal.invariant-loop-slot

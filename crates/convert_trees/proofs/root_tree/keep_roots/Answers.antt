@@ -1,17 +1,6 @@
-use Rattle.std.proofs.Common.{◌≡◌, ◌∙◌, ℕ, ◌+◌, ◌-◌, ◌≤◌, ◌++◌, List, length, take, drop, refl, sym, ap, subst, arith}
-use Rattle.std.specs.List.{All}
-use Rattle.std.proofs.lemmas.List.{length-drop, length-take}
-use Rattle.btr_tree.specs.btr_node.Leaf.{Item}
-use Rattle.btr_tree.specs.btr_node.NodeSize.{IsNodeSize}
-use Rattle.btr_tree.specs.Counting.{tree_nodes}
-use Rattle.btr_tree.specs.Roots.{lengths_of}
-use Rattle.btr_tree_writer.specs.declared.form.NodeForm.{NodeForm}
-use Rattle.space_items.proofs.Ordered.{root_items_fit}
-use Rattle.space_items.proofs.OwnBound.{roomy}
-use Rattle.space_items.specs.Nodes.{nodes_of_tree}
+use Rattle.convert_trees.proofs.Imports.{◌≡◌, ◌∙◌, ℕ, ◌+◌, ◌-◌, ◌≤◌, ◌++◌, List, length, take, drop, refl, sym, ap, subst, arith, All, length-drop, length-take, ROOT_TREE, Item, IsNodeSize, tree_nodes, lengths_of, NodeForm, root_items_fit, roomy, nodes_of_tree, listed}
 use Rattle.convert_trees.proofs.Adding.{handed}
 use Rattle.convert_trees.proofs.Rooted.{ascends, root_lengths}
-use Rattle.convert_trees.specs.Roots.{listed}
 use Rattle.convert_trees.proofs.root_tree.keep_roots.Goals as goal
 
 pub root_list-requires-clause-few : goal.root_list-requires-clause-few
@@ -48,8 +37,8 @@ returns-clause-nodes g c = λ extents.
     let row = c.args.row.now in
     let lens = ap lengths_of c.in_ok-list.ensures ∙ root_lengths c.args.index form.ids c.args.w.now.time form.nodesize c.args.first _ extents in
     let more = c.in_ok-take.ensures.taken (lengths_of c.in_ok-list.list) c.counted.ensures.counted in
-    subst (λ (ls : List ℕ). c.take.new.self.nodes ≡ row.nodes ++ nodes_of_tree 1 form.nodesize ls (drop row.taken row.slots)) lens
-    (subst (λ (f : NodeForm). c.take.new.self.nodes ≡ row.nodes ++ nodes_of_tree 1 f.nodesize (lengths_of c.in_ok-list.list) (drop row.taken row.slots)) c.requires.form more.1)
+    subst (λ (ls : List ℕ). c.take.new.self.nodes ≡ row.nodes ++ nodes_of_tree ROOT_TREE form.nodesize ls (drop row.taken row.slots)) lens
+    (subst (λ (f : NodeForm). c.take.new.self.nodes ≡ row.nodes ++ nodes_of_tree ROOT_TREE f.nodesize (lengths_of c.in_ok-list.list) (drop row.taken row.slots)) c.requires.form more.1)
 
 pub returns-clause-slots : goal.returns-clause-slots
 returns-clause-slots g c = λ extents.

@@ -1,10 +1,4 @@
-use Rattle.std.proofs.Common.{◌≡◌, inr, ℕ, refl, sym, ap, subst, arith}
-use Rattle.btr_tree.specs.outside.History.{reads}
-use Rattle.btr_tree.proofs.outside.Crash.{writes_then}
-use Rattle.btr_tree.specs.btr_node.NodeSize.{IsNodeSize}
-use Rattle.convert_steps.specs.declared.trees.VolumeTrees.{VolumeTrees}
-use Rattle.btr_tree_writer.specs.declared.form.NodeForm.{NodeForm}
-use Rattle.convert_trees.specs.RootTree.{AddsLast, saved_in}
+use Rattle.convert_trees.proofs.Imports.{◌≡◌, inr, ℕ, refl, sym, ap, subst, arith, reads, writes_then, IsNodeSize, VolumeTrees, NodeForm, AddsLast, saved_in}
 use Rattle.convert_trees.proofs.Adding.{all_of_list, failed}
 use Rattle.convert_trees.proofs.Behind.{IsInRest, later_by}
 use Rattle.convert_trees.proofs.Front.{kept_inside_so, kept_only, kept_serve_so, later_only}

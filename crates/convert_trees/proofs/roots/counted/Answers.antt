@@ -1,8 +1,5 @@
-use Rattle.std.proofs.Common.{◌∙◌, ◌<◌, ℕ, List, [], length, get_or, ap, subst, arith}
-use Rattle.std.proofs.lemmas.Option.{slice_get-get_or}
-use Rattle.btr_tree.specs.btr_node.Leaf.{Item}
+use Rattle.convert_trees.proofs.Imports.{◌∙◌, ◌<◌, ℕ, List, [], length, get_or, ap, subst, arith, slice_get-get_or, Item, Counted}
 use Rattle.btr_tree.specs.Builder.{no_key}
-use Rattle.btr_tree.specs.Counting.{Counted}
 use Rattle.convert_trees.proofs.Tallying.{small_size, lengths_more}
 use Rattle.convert_trees.proofs.roots.counted.Goals as goal
 

@@ -1,6 +1,4 @@
-use Rattle.std.proofs.Common.{◌≡◌, ◌≤◌, ◌*◌, take}
-use Rattle.btr_tree.specs.Counting.{Counted}
-use Rattle.btr_tree.specs.Roots.{lengths_of}
+use Rattle.convert_trees.proofs.Imports.{◌≡◌, ◌≤◌, ◌*◌, take, Counted, lengths_of}
 use Rattle.convert_trees.proofs.roots.counted.Given as goal
 
 abbrev pub invariant-loop-i : goal.invariant-loop-i

@@ -1,8 +1,5 @@
-use Rattle.std.proofs.Common.{◌∙◌, ◌+◌, ◌<◌, List, length, count_by, sym, ap, take_all, arith}
-use Rattle.indexmap.specs.IndexMap.{keys}
-use Rattle.reiser_volume.specs.reiser_volume_objects.Keys.{root, same_key}
+use Rattle.convert_trees.proofs.Imports.{◌∙◌, ◌+◌, ◌<◌, List, length, count_by, sym, ap, take_all, arith, keys, root, same_key, links_in}
 use Rattle.reiser_volume.specs.reiser_volume_objects.declared.naming.Naming.{Naming}
-use Rattle.reiser_volume.specs.Opened.{links_in}
 use Rattle.convert_trees.proofs.Indexing.{counted_no, counted_yes}
 use Rattle.convert_trees.proofs.roots.saved_index.Goals as goal
 use Rattle.convert_trees.proofs.roots.saved_index.Goals.{then-is_root, else-is_root}

@@ -1,7 +1,4 @@
-use Rattle.std.proofs.Common.{◌≡◌, ◌≤◌, ◌+◌, count_by, take}
-use Rattle.btr_tree.specs.outside.History.{Image}
-use Rattle.reiser_volume.specs.reiser_volume_objects.Keys.{root, same_key}
-use Rattle.reiser_volume.specs.Opened.{IsOpened, links_in}
+use Rattle.convert_trees.proofs.Imports.{◌≡◌, ◌≤◌, ◌+◌, count_by, take, Image, root, same_key, IsOpened, links_in}
 use Rattle.convert_trees.proofs.roots.saved_index.Given as goal
 
 abbrev pub invariant-loop-i : goal.invariant-loop-i

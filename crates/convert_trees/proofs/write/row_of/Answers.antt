@@ -1,6 +1,4 @@
-use Rattle.std.proofs.Common.{◌<◌, ◌≤◌, ◌+◌, ◌*◌, ◌^◌, ℕ, List, length, sym, subst, ◌∙◌}
-use Rattle.std.specs.List.{All, AllPairs}
-use Rattle.btr_tree.specs.Building.{AreSlots}
+use Rattle.convert_trees.proofs.Imports.{◌<◌, ◌≤◌, ◌+◌, ◌*◌, ◌^◌, ℕ, List, length, sym, subst, ◌∙◌, All, AllPairs, AreSlots}
 use Rattle.convert_trees.proofs.Placing.{served, small_units, slots_inside, few_slots}
 use Rattle.convert_trees.proofs.write.row_of.Goals as goal
 

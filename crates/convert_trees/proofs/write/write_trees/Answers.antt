@@ -1,19 +1,5 @@
-use Rattle.std.proofs.Common.{◌∙◌, inr, ℕ, ◌+◌, ◌*◌, ◌≤◌, List, [], length, sym, ap, subst, arith}
-use Rattle.std.specs.List.{All}
-use Rattle.btr_tree.specs.outside.History.{reads}
-use Rattle.btr_tree.specs.Building.{AreSlots}
-use Rattle.btr_tree.specs.Counting.{tree_nodes}
-use Rattle.btr_tree.specs.Roots.{lengths_of}
-use Rattle.space_items.specs.Chunks.{chunk_items}
-use Rattle.space_items.specs.declared.node.TreeNode.{TreeNode}
-use Rattle.space_items.specs.Laws.{AreIds}
-use Rattle.space_items.proofs.Ordered.{chunk_items_fit}
-use Rattle.btr_tree_writer.specs.declared.form.NodeForm.{NodeForm}
-use Rattle.btr_tree_writer.specs.declared.trees.Trees.{Trees}
-use Rattle.unit_plan.specs.Places.{node_places}
+use Rattle.convert_trees.proofs.Imports.{◌∙◌, inr, ℕ, ◌+◌, ◌*◌, ◌≤◌, List, [], length, sym, ap, subst, arith, All, reads, AreSlots, tree_nodes, lengths_of, chunk_items, TreeNode, AreIds, chunk_items_fit, NodeForm, Trees, node_places, AddsFirst, FirstItems, first_count, first_items, AddsLast, saved_in}
 use Rattle.convert_trees.proofs.Adding.{failed}
-use Rattle.convert_trees.specs.First.{AddsFirst, FirstItems, first_count, first_items}
-use Rattle.convert_trees.specs.RootTree.{AddsLast, saved_in}
 use Rattle.convert_trees.proofs.Ending.{ends_for, first_counted, first_is, first_nodes, last_fits, row_is, trees_stand}
 use Rattle.convert_trees.proofs.Few.{row_few}
 use Rattle.convert_trees.proofs.Given.{given_for, node_form}

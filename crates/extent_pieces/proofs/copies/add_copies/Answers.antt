@@ -1,6 +1,4 @@
-use Rattle.std.proofs.Common.{◌≡◌, ◌≤◌, length, length-append, ◌+◌, ◌∙◌, ◌++◌, ◌∷◌, [], true, not, List, arith, ap, sym, subst, ℕ, Option}
-use Rattle.reiser_bitmap.specs.vol_block.Volume.{is_reserved}
-use Rattle.unit_plan.specs.declared.piece.Piece.{Piece}
+use Rattle.extent_pieces.proofs.Imports.{◌≡◌, ◌≤◌, length, length-append, ◌+◌, ◌∙◌, ◌++◌, ◌∷◌, [], true, not, List, arith, ap, sym, subst, ℕ, Option, is_reserved, Piece}
 use Rattle.extent_pieces.proofs.Copying.{Copies, copies_start, copies_one, copies_none, copies_all, piece_at}
 use Rattle.extent_pieces.proofs.Dividing.{stops}
 use Rattle.extent_pieces.proofs.Ending.{end_of}

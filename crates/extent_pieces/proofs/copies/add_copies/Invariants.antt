@@ -1,7 +1,4 @@
-use Rattle.std.proofs.Common.{◌≡◌, ◌-◌, ◌≤◌, ◌<◌, true, length}
-use Rattle.reiser_bitmap.specs.vol_block.Volume.{is_reserved}
-use Rattle.extent_pieces.specs.Owned.{TellOwners}
-use Rattle.extent_pieces.specs.Pieces.{Owners}
+use Rattle.extent_pieces.proofs.Imports.{◌≡◌, ◌-◌, ◌≤◌, ◌<◌, true, length, is_reserved, TellOwners, Owners}
 use Rattle.extent_pieces.proofs.Copying.{Copies}
 use Rattle.extent_pieces.proofs.copies.add_copies.Given as goal
 

@@ -1,6 +1,4 @@
-use Rattle.std.proofs.Common.{◌≡◌, take}
-use Rattle.std.specs.Prelude.{sum_by}
-use Rattle.extent_pieces.specs.Parts.{capped}
+use Rattle.extent_pieces.proofs.Imports.{◌≡◌, take, sum_by, capped}
 use Rattle.extent_pieces.proofs.counts.block_count.Given as goal
 
 abbrev pub invariant-loop-piece : goal.invariant-loop-piece

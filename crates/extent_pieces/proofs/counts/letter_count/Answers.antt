@@ -1,8 +1,4 @@
-use Rattle.std.proofs.Common.{◌<◌, ℕ, length, ap, arith, List, ⊎_elim}
-use Rattle.std.proofs.lemmas.List.Sums.{sum_by_more}
-use Rattle.std.proofs.lemmas.Option.{slice_get_cases}
-use Rattle.reiser_volume_objects.specs.declared.naming.Naming.{Naming}
-use Rattle.reiser_volume.specs.Opened.{links_in}
+use Rattle.extent_pieces.proofs.Imports.{◌<◌, ℕ, length, ap, arith, List, ⊎_elim, sum_by_more, slice_get_cases, Naming, links_in}
 use Rattle.extent_pieces.proofs.counts.letter_count.Goals as goal
 
 pub loop-i-preserved : goal.loop-i-preserved

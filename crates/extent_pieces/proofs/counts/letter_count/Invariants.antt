@@ -1,7 +1,4 @@
-use Rattle.std.proofs.Common.{◌≡◌, take, length}
-use Rattle.std.specs.Prelude.{sum_by}
-use Rattle.reiser_volume.specs.Opened.{links_in}
-use Rattle.extent_pieces.specs.Parts.{capped}
+use Rattle.extent_pieces.proofs.Imports.{◌≡◌, take, length, sum_by, links_in, capped}
 use Rattle.extent_pieces.proofs.counts.letter_count.Given as goal
 
 abbrev pub invariant-loop-i : goal.invariant-loop-i

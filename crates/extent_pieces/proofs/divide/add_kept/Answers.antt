@@ -1,8 +1,4 @@
-use Rattle.std.proofs.Common.{◌≡◌, ◌+◌, ◌∙◌, ◌++◌, ◌∷◌, [], true, not, length, List, arith, ap, sym, subst}
-use Rattle.unit_plan.specs.Choice.{is_data}
-use Rattle.unit_plan.specs.declared.piece.Piece.{Piece}
-use Rattle.reiser_bitmap.proofs.Ends.{IsEnd}
-use Rattle.extent_pieces.specs.Pieces.{is_joined}
+use Rattle.extent_pieces.proofs.Imports.{◌≡◌, ◌+◌, ◌∙◌, ◌++◌, ◌∷◌, [], true, not, length, List, arith, ap, sym, subst, is_data, Piece, IsEnd, is_joined}
 use Rattle.extent_pieces.proofs.Dividing.{Divides, divides_start, divides_more, divides_all, stops}
 use Rattle.extent_pieces.proofs.Ending.{end_of}
 use Rattle.extent_pieces.proofs.Maximal.{piece_end}

@@ -1,7 +1,4 @@
-use Rattle.std.proofs.Common.{◌≡◌, ◌-◌, ◌≤◌, ◌<◌, true, length}
-use Rattle.unit_plan.specs.Choice.{is_data}
-use Rattle.extent_pieces.specs.Owned.{TellOwners}
-use Rattle.extent_pieces.specs.Pieces.{Owners}
+use Rattle.extent_pieces.proofs.Imports.{◌≡◌, ◌-◌, ◌≤◌, ◌<◌, true, length, is_data, TellOwners, Owners}
 use Rattle.extent_pieces.proofs.Dividing.{Divides}
 use Rattle.extent_pieces.proofs.divide.add_kept.Given as goal
 

@@ -1,5 +1,4 @@
-use Rattle.std.proofs.Common.{◌+◌, not, length, arith}
-use Rattle.unit_plan.specs.Choice.{is_data}
+use Rattle.extent_pieces.proofs.Imports.{◌+◌, not, length, arith, is_data}
 use Rattle.extent_pieces.proofs.Dividing.{stops}
 use Rattle.extent_pieces.proofs.Ending.{end_of}
 use Rattle.extent_pieces.proofs.divide.count_kept.Goals as goal

@@ -1,5 +1,4 @@
-use Rattle.std.proofs.Common.{◌≡◌, ◌-◌, ◌≤◌, ◌<◌, true, length}
-use Rattle.unit_plan.specs.Choice.{is_data}
+use Rattle.extent_pieces.proofs.Imports.{◌≡◌, ◌-◌, ◌≤◌, ◌<◌, true, length, is_data}
 use Rattle.extent_pieces.proofs.divide.count_kept.Given as goal
 
 abbrev pub invariant-loop-b : goal.invariant-loop-b

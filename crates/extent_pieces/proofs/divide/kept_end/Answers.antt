@@ -1,10 +1,4 @@
-use Rattle.std.proofs.Common.{◌≡◌, ◌<◌, ◌-◌, Bool, List, true, not, length, sym, arith, subst, ℕ}
-use Rattle.std.proofs.lemmas.Bool.{not_from_false}
-use Rattle.reiser_bitmap.specs.vol_block.Volume.{is_reserved}
-use Rattle.reiser_bitmap.specs.Bits.{has}
-use Rattle.reiser_bitmap.specs.Next.{end_of_run, next_unused}
-use Rattle.reiser_bitmap.proofs.Ends.{IsEnd, end_facts, end_is}
-use Rattle.extent_pieces.specs.Pieces.{advanced, is_joined, is_owner}
+use Rattle.extent_pieces.proofs.Imports.{◌≡◌, ◌<◌, ◌-◌, Bool, List, true, not, length, sym, arith, subst, ℕ, not_from_false, is_reserved, has, end_of_run, next_unused, IsEnd, end_facts, end_is, advanced, is_joined, is_owner}
 use Rattle.extent_pieces.proofs.Dividing.{data_inside}
 use Rattle.extent_pieces.proofs.Ending.{data_unreserved, data_used, end_above, end_of, kept_end_is}
 use Rattle.extent_pieces.proofs.divide.kept_end.Goals as goal

@@ -1,5 +1,4 @@
-use Rattle.std.proofs.Common.{◌≡◌, ◌-◌, ◌∙◌, ℕ, Option, Some, ap}
-use Rattle.unit_plan.specs.declared.piece.Piece.{Piece}
+use Rattle.extent_pieces.proofs.Imports.{◌≡◌, ◌-◌, ◌∙◌, ℕ, Option, Some, ap, Piece}
 use Rattle.extent_pieces.proofs.divide.kept_piece.Goals as goal
 
 same_piece : (b e f : ℕ) (o q : Option (ℕ × ℕ)) → e ≡ f → o ≡ q

@@ -1,8 +1,4 @@
-use Rattle.std.proofs.Common.{◌≡◌, ◌+◌, ◌∙◌, true, not, length, arith, ap, sym}
-use Rattle.reiser_bitmap.specs.vol_block.Volume.{is_reserved}
-use Rattle.unit_plan.specs.Choice.{is_data}
-use Rattle.reiser_bitmap.specs.Bits.{has}
-use Rattle.reiser_bitmap.proofs.Ends.{end_is}
+use Rattle.extent_pieces.proofs.Imports.{◌≡◌, ◌+◌, ◌∙◌, true, not, length, arith, ap, sym, is_reserved, is_data, has, end_is}
 use Rattle.extent_pieces.proofs.Dividing.{data_here, data_past, data_start, stops}
 use Rattle.extent_pieces.proofs.Ending.{end_of}
 use Rattle.extent_pieces.proofs.divide.next_data.Goals as goal

@@ -1,6 +1,4 @@
-use Rattle.std.proofs.Common.{◌≡◌, ◌-◌, ◌≤◌, ◌<◌, ℕ, true, not, length}
-use Rattle.reiser_bitmap.specs.Bits.{has}
-use Rattle.unit_plan.specs.Choice.{is_data}
+use Rattle.extent_pieces.proofs.Imports.{◌≡◌, ◌-◌, ◌≤◌, ◌<◌, ℕ, true, not, length, has, is_data}
 use Rattle.extent_pieces.proofs.divide.next_data.Given as goal
 
 abbrev pub invariant-loop-b : goal.invariant-loop-b

@@ -1,7 +1,5 @@
-use Rattle.std.proofs.Common.{◌∙◌, ap}
-use Rattle.std.specs.Prelude.{Option, unwrap_or}
-use Rattle.fs_rows.specs.declared.row.Kind.{Kind}
-use Rattle.fs_rows.specs.declared.row.Kind.TheVariants.{File}
+use Rattle.extent_pieces.proofs.Imports.{◌∙◌, ap, unwrap_or, Kind, File}
+use Rattle.std.specs.Prelude.{Option}
 use Rattle.extent_pieces.proofs.Objects.{kind_is}
 use Rattle.extent_pieces.proofs.files.kind_at.Goals as goal
 

@@ -1,5 +1,4 @@
-use Rattle.std.proofs.Common.{◌≡◌, ◌++◌, map, take}
-use Rattle.extent_pieces.specs.Pieces.{tail_piece}
+use Rattle.extent_pieces.proofs.Imports.{◌≡◌, ◌++◌, map, take, tail_piece}
 use Rattle.extent_pieces.proofs.find.add_tails.Given as goal
 
 abbrev pub invariant-loop-tail : goal.invariant-loop-tail

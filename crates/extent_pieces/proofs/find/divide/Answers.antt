@@ -1,11 +1,4 @@
-use Rattle.std.proofs.Common.{◌≡◌, List, length, length-append, map, ap, sym, subst, arith}
-use Rattle.unit_plan.specs.declared.piece.Piece.{Piece}
-use Rattle.indexmap.specs.IndexMap.{keys}
-use Rattle.extent_pieces.specs.declared.run.OwnedRun.{OwnedRun}
-use Rattle.extent_pieces.specs.Files.{owner}
-use Rattle.extent_pieces.specs.Found.{files_of}
-use Rattle.extent_pieces.specs.Owned.{TellOwners}
-use Rattle.extent_pieces.specs.Pieces.{Owners, tail_piece}
+use Rattle.extent_pieces.proofs.Imports.{◌≡◌, List, length, length-append, map, ap, sym, subst, arith, Piece, keys, OwnedRun, owner, files_of, TellOwners, Owners, tail_piece}
 use Rattle.extent_pieces.proofs.Making.{found_of, tells}
 use Rattle.extent_pieces.proofs.find.divide.Goals as goal
 

@@ -1,6 +1,4 @@
-use Rattle.std.proofs.Common.{leb, rules}
-use Rattle.std.proofs.lemmas.Bool.{leb-true, leb-false}
-use Rattle.std.proofs.lemmas.List.Sorted.{IsPartitionPoint-from_clause, IsPartitionedBy-leb}
+use Rattle.extent_pieces.proofs.Imports.{leb, rules, leb-true, leb-false, IsPartitionPoint-from_clause, IsPartitionedBy-leb}
 use Rattle.extent_pieces.proofs.Owning.{first_rises}
 use Rattle.extent_pieces.proofs.owned.begun.Goals as goal
 

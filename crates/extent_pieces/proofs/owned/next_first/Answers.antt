@@ -1,6 +1,4 @@
-use Rattle.std.proofs.Common.{None}
-use Rattle.reiser_bitmap.proofs.Ends.{end_is}
-use Rattle.extent_pieces.specs.Pieces.{is_owner}
+use Rattle.extent_pieces.proofs.Imports.{None, end_is, is_owner}
 use Rattle.extent_pieces.proofs.Owning.{at_part_above, next_end_at, no_next}
 use Rattle.extent_pieces.proofs.owned.next_first.Goals as goal
 use Rattle.extent_pieces.proofs.owned.next_first.Goals.{else-begun-runs-via-then-begun-runs+else-runs-begun, else-begun-runs-via-else-begun-runs}

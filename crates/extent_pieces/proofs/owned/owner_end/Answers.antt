@@ -1,7 +1,4 @@
-use Rattle.std.proofs.Common.{◌-◌, ◌∙◌, ℕ, Option, sym, ap, arith}
-use Rattle.reiser_bitmap.specs.Next.{end_of_run}
-use Rattle.reiser_bitmap.proofs.Ends.{end_is}
-use Rattle.extent_pieces.specs.Pieces.{advanced, is_owner}
+use Rattle.extent_pieces.proofs.Imports.{◌-◌, ◌∙◌, ℕ, Option, sym, ap, arith, end_of_run, end_is, advanced, is_owner}
 use Rattle.extent_pieces.proofs.Owning.{Holds, holds, run_end, run_small}
 use Rattle.extent_pieces.proofs.owned.owner_end.Goals as goal
 

@@ -1,4 +1,4 @@
-use Rattle.std.proofs.Common.{◌≡◌, ◌-◌, ◌+◌, ◌∙◌, ℕ, Option, Some, sym, ap, arith}
+use Rattle.extent_pieces.proofs.Imports.{◌≡◌, ◌-◌, ◌+◌, ◌∙◌, ℕ, Option, Some, sym, ap, arith}
 use Rattle.extent_pieces.proofs.Owning.{held_low}
 use Rattle.extent_pieces.proofs.owned.owner_of.Goals as goal
 

@@ -1,4 +1,4 @@
-use Rattle.std.proofs.Common.{◌-◌, ◌<◌, length, arith}
+use Rattle.extent_pieces.proofs.Imports.{◌-◌, ◌<◌, length, arith}
 use Rattle.extent_pieces.proofs.Owning.{held_at, none_holds, not_begun, not_there}
 use Rattle.extent_pieces.proofs.owned.run_at.Goals as goal
 use Rattle.extent_pieces.proofs.owned.run_at.Goals.{else-run-b-via-then-run-b+else-b-run, else-run-b-via-else-run-b}

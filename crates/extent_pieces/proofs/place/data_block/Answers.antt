@@ -1,6 +1,4 @@
-use Rattle.std.proofs.Common.{◌+◌, ◌*◌, ◌/◌, ◌%◌, ◌∙◌, Some, Option, ℕ, ap, arith}
-use Rattle.std.proofs.lemmas.Option.{slice_get-get_or, get_or_from_slice_get}
-use Rattle.extent_pieces.specs.Placed.{blocks_of_units}
+use Rattle.extent_pieces.proofs.Imports.{◌+◌, ◌*◌, ◌/◌, ◌%◌, ◌∙◌, Some, Option, ℕ, ap, arith, slice_get-get_or, get_or_from_slice_get, blocks_of_units}
 use Rattle.extent_pieces.proofs.Placing.{get_or-blocks, length-blocks}
 use Rattle.extent_pieces.proofs.place.data_block.Goals as goal
 

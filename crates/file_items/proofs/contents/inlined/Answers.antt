@@ -1,9 +1,4 @@
-use Rattle.std.proofs.Common.{sym, subst, ◌∙◌}
-use Rattle.std.proofs.lemmas.Result.{err_from_is_err_and}
-use Rattle.reiser_volume.specs.reiser_volume_contents.Answers.{IsFaultOrMemory}
-use Rattle.reiser_volume_objects.specs.Keys.{items_of}
-use Rattle.reiser_volume.specs.Made.{stat_at}
-use Rattle.reiser_volume.specs.Volume.{volume_items}
+use Rattle.file_items.proofs.Imports.{sym, subst, ◌∙◌, err_from_is_err_and, IsFaultOrMemory, items_of, stat_at, volume_items}
 use Rattle.file_items.proofs.Held.{inline_low, holds_inline, holds_nothing}
 use Rattle.file_items.proofs.contents.inlined.Goals as goal
 

@@ -1,7 +1,4 @@
-use Rattle.std.proofs.lemmas.Result.{MatchResult-weaker}
-use Rattle.reiser_volume_objects.specs.Keys.{items_of}
-use Rattle.reiser_volume.specs.Made.{stat_at}
-use Rattle.reiser_volume.specs.Volume.{volume_items}
+use Rattle.file_items.proofs.Imports.{MatchResult-weaker, items_of, stat_at, volume_items}
 use Rattle.file_items.proofs.Held.{file_inline}
 use Rattle.file_items.proofs.contents.is_inline.Goals as goal
 

@@ -1,13 +1,4 @@
-use Rattle.std.proofs.Common.{sym, ap, subst, ◌∙◌, arith}
-use Rattle.std.proofs.lemmas.Result.{err_from_is_err_and}
-use Rattle.reiser_volume.specs.reiser_volume_contents.Answers.{IsFaultOrMemory}
-use Rattle.reiser_volume_files.specs.Runs.{block_from}
-use Rattle.reiser_volume_objects.specs.Keys.{items_of}
-use Rattle.reiser_volume_objects.specs.declared.stat.ObjectStat.{ObjectStat}
-use Rattle.reiser_volume.specs.Inline.{is_tail}
-use Rattle.reiser_volume.specs.Made.{stat_at}
-use Rattle.reiser_volume.specs.Volume.{volume_items}
-use Rattle.file_items.specs.Contents.{begins_in_tail}
+use Rattle.file_items.proofs.Imports.{sym, ap, subst, ◌∙◌, arith, err_from_is_err_and, IsFaultOrMemory, block_from, items_of, ObjectStat, is_tail, stat_at, volume_items, begins_in_tail}
 use Rattle.file_items.proofs.Held.{stat_is, first_tail, not_short}
 use Rattle.file_items.proofs.contents.is_inline_file.Goals as goal
 

@@ -1,7 +1,4 @@
-use Rattle.std.proofs.Common.{sym, ap, subst, arith}
-use Rattle.std.proofs.lemmas.Result.{err_from_is_err_and}
-use Rattle.reiser_volume.specs.reiser_volume_contents.Answers.{IsFaultOrMemory}
-use Rattle.reiser_volume_objects.specs.declared.stat.ObjectStat.{ObjectStat}
+use Rattle.file_items.proofs.Imports.{sym, ap, subst, arith, err_from_is_err_and, IsFaultOrMemory, ObjectStat}
 use Rattle.reiser_volume.proofs.Holding.{fault_or}
 use Rattle.file_items.proofs.Held.{stat_is}
 use Rattle.file_items.proofs.contents.read_bytes.Goals as goal

@@ -1,13 +1,4 @@
-use Rattle.std.proofs.Common.{◌≡◌, Option, sym, ap, subst, ◌∙◌, get_or, Contains}
-use Rattle.std.specs.Prelude.{unwrap_or}
-use Rattle.std.proofs.lemmas.List.Elements.{Contains-get_or}
-use Rattle.std.proofs.lemmas.Option.{slice_get_within, unwrap_or-slice_get}
-use Rattle.fs_rows.specs.declared.row.Kind.{Kind}
-use Rattle.fs_rows.specs.declared.row.Kind.TheVariants.{File}
-use Rattle.indexmap.specs.IndexMap.{keys}
-use Rattle.reiser_volume_objects.specs.declared.key.ObjectKey.{ObjectKey}
-use Rattle.reiser_volume_objects.specs.declared.stat.ObjectStat.{ObjectStat}
-use Rattle.reiser_volume.specs.Made.{kind_by, no_stat}
+use Rattle.file_items.proofs.Imports.{◌≡◌, Option, sym, ap, subst, ◌∙◌, get_or, Contains, unwrap_or, Contains-get_or, slice_get_within, unwrap_or-slice_get, Kind, File, keys, ObjectKey, ObjectStat, kind_by, no_stat}
 use Rattle.file_items.proofs.directory.kind_at.Goals as goal
 
 pub returns : goal.returns

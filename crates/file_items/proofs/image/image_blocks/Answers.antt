@@ -1,6 +1,4 @@
-use Rattle.std.proofs.Common.{◌+◌, ◌∙◌, Bool, List, filter, is_some, sum_by, take, ap, sym, arith}
-use Rattle.reiser_volume.specs.reiser_volume_names.Tally.{capped}
-use Rattle.unit_plan.specs.declared.piece.Piece.{Piece}
+use Rattle.file_items.proofs.Imports.{◌+◌, ◌∙◌, Bool, List, filter, is_some, sum_by, take, ap, sym, arith, capped, Piece}
 use Rattle.file_items.proofs.Ordering.{count_more, tested_more, tested_same}
 use Rattle.file_items.proofs.image.image_blocks.Goals.{then-is_some, else-is_some}
 use Rattle.file_items.proofs.image.image_blocks.Goals as goal

@@ -1,5 +1,4 @@
-use Rattle.std.proofs.Common.{◌≡◌, filter, is_some, sum_by, take}
-use Rattle.reiser_volume.specs.reiser_volume_names.Tally.{capped}
+use Rattle.file_items.proofs.Imports.{◌≡◌, filter, is_some, sum_by, take, capped}
 use Rattle.file_items.proofs.image.image_blocks.Given as goal
 
 abbrev pub invariant-loop-i : goal.invariant-loop-i

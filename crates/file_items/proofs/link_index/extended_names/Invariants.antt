@@ -1,14 +1,9 @@
-use Rattle.std.proofs.Common.{◌≡◌, length, map, take}
-use Rattle.indexmap.specs.IndexMap.{keys}
-use Rattle.reiser_volume.specs.outside.History.{Image}
-use Rattle.reiser_volume.specs.Opened.{IsOpened, links_in}
-use Rattle.file_items.specs.Names.{entries}
-use Rattle.file_items.specs.Sizes.{AreSizes}
+use Rattle.file_items.proofs.Imports.{◌≡◌, length, map, take, keys, Image, IsOpened, links_in, indexed_links, AreSizes}
 use Rattle.file_items.proofs.link_index.extended_names.Given as goal
 
 abbrev pub invariant-loop-n : goal.invariant-loop-n
 invariant-loop-n l = record {
   count : length l.extended.items ≡ l.n;
   sizes : (image : Image) → IsOpened l.volume image → AreSizes (keys l.volume.named) l.sizes (take l.n (links_in l.volume));
-  extended : (image : Image) → IsOpened l.volume image → l.extended.items ≡ map (λ e. e.extended) (entries (take l.n (links_in l.volume)));
+  extended : (image : Image) → IsOpened l.volume image → l.extended.items ≡ map (λ e. e.extended) (indexed_links (take l.n (links_in l.volume)));
 }

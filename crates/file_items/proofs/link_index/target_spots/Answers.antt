@@ -1,8 +1,4 @@
-use Rattle.std.proofs.Common.{List, ℕ, subst, arith}
-use Rattle.std.proofs.lemmas.List.{take_all}
-use Rattle.reiser_volume_objects.specs.declared.naming.Naming.{Naming}
-use Rattle.reiser_volume.specs.Opened.{links_in}
-use Rattle.file_items.specs.Spots.{AreBelow, TellsPlaces}
+use Rattle.file_items.proofs.Imports.{List, ℕ, subst, arith, take_all, Naming, links_in, AreBelow, TellsPlaces}
 use Rattle.file_items.proofs.Linked.{spot_step, below_step}
 use Rattle.file_items.proofs.link_index.target_spots.Goals as goal
 

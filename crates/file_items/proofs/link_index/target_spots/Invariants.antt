@@ -1,7 +1,4 @@
-use Rattle.std.proofs.Common.{take}
-use Rattle.reiser_volume.specs.outside.History.{Image}
-use Rattle.reiser_volume.specs.Opened.{IsOpened, links_in}
-use Rattle.file_items.specs.Spots.{AreBelow, TellsPlaces}
+use Rattle.file_items.proofs.Imports.{take, Image, IsOpened, links_in, AreBelow, TellsPlaces}
 use Rattle.file_items.proofs.link_index.target_spots.Given as goal
 
 abbrev pub invariant-loop-n : goal.invariant-loop-n

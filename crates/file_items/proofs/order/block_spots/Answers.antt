@@ -1,9 +1,4 @@
-use Rattle.std.proofs.Common.{◌+◌, Bool, List, filter, is_some, take, ap, sym, subst, arith}
-use Rattle.std.proofs.lemmas.List.{take_all}
-use Rattle.btr_item_list.specs.declared.spot.Spot.{Spot}
-use Rattle.unit_plan.specs.declared.piece.Piece.{Piece}
-use Rattle.file_items.specs.Extents.{file_block}
-use Rattle.file_items.specs.Orders.{Tells}
+use Rattle.file_items.proofs.Imports.{◌+◌, Bool, List, filter, is_some, take, ap, sym, subst, arith, take_all, Spot, Piece, file_block, TellsPieces}
 use Rattle.file_items.proofs.Ordering.{tells_more, tells_same, owner_block}
 use Rattle.file_items.proofs.order.block_spots.Goals.{in-Some+in_ok-push, in_default}
 use Rattle.file_items.proofs.order.block_spots.Goals as goal
@@ -14,14 +9,14 @@ loop-number-preserved g c =
     let test : Piece → Bool = λ (p : Piece). is_some p.owner in
     elim c.match-get.branch [
       | in-Some+in_ok-push w ↦
-          subst (λ (l : List Spot). Tells all file_block l (filter test (take (c.loop-number.number + 1) all))) (sym (ap (λ v. v.items) w.spots-is))
+          subst (λ (l : List Spot). TellsPieces all file_block l (filter test (take (c.loop-number.number + 1) all))) (sym (ap (λ v. v.items) w.spots-is))
           (tells_more all file_block test c.loop-number.spots.items w.push.new.self.items c.loop-number.number w.in-Some.block c.get.result.now c.loop-number.invariant c.get.ensures (ap is_some w.in-Some.is) (owner_block c.get.result.now _ w.in-Some.block w.in-Some.is w.in-Some.block-is) w.in_ok-push.ensures.items)
       | in_default w ↦
-          subst (λ (l : List Spot). Tells all file_block l (filter test (take (c.loop-number.number + 1) all))) (sym (ap (λ v. v.items) w.spots-is))
+          subst (λ (l : List Spot). TellsPieces all file_block l (filter test (take (c.loop-number.number + 1) all))) (sym (ap (λ v. v.items) w.spots-is))
           (tells_same all file_block test c.loop-number.spots.items c.loop-number.number c.get.result.now c.loop-number.invariant c.get.ensures (ap is_some w.in_default.is))
     ]
 
 pub returns : goal.returns
 returns g c =
     let all : List Piece = g.P.PieceList.pieces c.args.pieces.now in
-    subst (λ (l : List Piece). Tells all file_block c.loop-number.spots.items (filter (λ p. is_some p.owner) l)) (take_all c.loop-number.number all (omega arith)) c.loop-number.invariant
+    subst (λ (l : List Piece). TellsPieces all file_block c.loop-number.spots.items (filter (λ p. is_some p.owner) l)) (take_all c.loop-number.number all (omega arith)) c.loop-number.invariant

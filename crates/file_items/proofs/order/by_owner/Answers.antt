@@ -1,7 +1,4 @@
-use Rattle.std.proofs.Common.{filter, is_some, List}
-use Rattle.std.proofs.lemmas.Result.{IfOk-weaker}
-use Rattle.unit_plan.specs.declared.piece.Piece.{Piece}
-use Rattle.file_items.specs.Extents.{file_block}
+use Rattle.file_items.proofs.Imports.{filter, is_some, List, IfOk-weaker, Piece, file_block}
 use Rattle.file_items.proofs.Ordering.{tells_sorted, owners_are}
 use Rattle.file_items.proofs.order.by_owner.Goals as goal
 

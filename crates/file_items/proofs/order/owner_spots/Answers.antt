@@ -1,12 +1,4 @@
-use Rattle.std.proofs.Common.{◌∙◌, List, ap, sym, subst, arith}
-use Rattle.std.specs.Prelude.{slice_get}
-use Rattle.std.proofs.lemmas.List.{take_all}
-use Rattle.std.proofs.lemmas.Option.{slice_get_within}
-use Rattle.btr_item_list.specs.declared.spot.Spot.{Spot}
-use Rattle.btr_item_list.proofs.Placing.{told_long}
-use Rattle.unit_plan.specs.declared.piece.Piece.{Piece}
-use Rattle.file_items.specs.Orders.{Tells}
-use Rattle.file_items.specs.Extents.{file_block, owner_inode, by_block}
+use Rattle.file_items.proofs.Imports.{◌∙◌, List, ap, sym, subst, arith, slice_get, take_all, slice_get_within, Spot, told_long, Piece, TellsPieces, file_block, owner_inode, by_block}
 use Rattle.file_items.proofs.Ordering.{tells_there, piece_at, piece_same, owner_more, unwrapped}
 use Rattle.file_items.proofs.order.owner_spots.Goals as goal
 
@@ -28,4 +20,4 @@ pub returns : goal.returns
 returns g c =
     let all = g.P.PieceList.pieces c.args.pieces.now in
     let long = told_long (λ (s : Spot). slice_get all s.number) c.args.blocks.now (by_block all) (tells_there all file_block c.args.blocks.now (by_block all) c.requires) in
-    subst (λ (l : List Piece). Tells all owner_inode c.loop-i.spots.items l) (take_all c.loop-i.i (by_block all) (omega (arith, long, c.loop-i-test.false, c.len-i-end.ensures))) c.loop-i.invariant
+    subst (λ (l : List Piece). TellsPieces all owner_inode c.loop-i.spots.items l) (take_all c.loop-i.i (by_block all) (omega (arith, long, c.loop-i-test.false, c.len-i-end.ensures))) c.loop-i.invariant

@@ -1,4 +1,4 @@
-use Rattle.std.proofs.Common.{List, Bool, refl, ◌∙◌, ap, subst}
+use Rattle.file_items_tests.proofs.Imports.{List, Bool, refl, ◌∙◌, ap, subst}
 use Rattle.indexmap.specs.IndexMap.{keys}
 use Rattle.outside.specs.History.{Image}
 use Rattle.outside_mem.specs.Laws.{readable, kept_readable}

@@ -1,9 +1,8 @@
-use Rattle.std.proofs.Common.{◌≡◌, false}
-use Rattle.file_items.specs.Stream.{Fits}
+use Rattle.file_items_tests.proofs.Imports.{◌≡◌, false, FitsStream}
 use Rattle.file_items_tests.proofs.volume_items.sum.Given as goal
 
 abbrev pub invariant-loop : goal.invariant-loop
 invariant-loop l = record {
   live : l.items.spent ≡ false;
-  fits : Fits l.items l.volume l.pieces.items.items;
+  fits : FitsStream l.items l.volume l.pieces.items.items;
 }

@@ -1,4 +1,4 @@
-use Rattle.fs_paths.specs.Spread.{node_cmp, is_of}
+use Rattle.fs_paths.proofs.Imports.{node_cmp, is_of}
 use Rattle.fs_paths.proofs.Middle.{in_order, middle_is}
 use Rattle.fs_paths.proofs.Parting.{same_node_cmp}
 use Rattle.fs_paths.proofs.entries.bounds_of.Goals as goal

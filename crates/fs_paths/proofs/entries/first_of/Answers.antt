@@ -1,6 +1,4 @@
-use Rattle.std.proofs.Common.{is_lt, rules}
-use Rattle.std.proofs.lemmas.List.Sorted.{IsPartitionPoint-from_clause}
-use Rattle.fs_paths.specs.Spread.{node_cmp}
+use Rattle.fs_paths.proofs.Imports.{is_lt, rules, IsPartitionPoint-from_clause, node_cmp}
 use Rattle.fs_paths.proofs.Middle.{parted_lt}
 use Rattle.fs_paths.proofs.Parting.{rises}
 use Rattle.fs_paths.proofs.entries.first_of.Goals as goal

@@ -1,12 +1,4 @@
-use Rattle.std.proofs.Common.{List, is_lt, sym, subst, rules}
-use Rattle.std.proofs.lemmas.List.Sorted.{answers_always, ranks_by}
-use Rattle.std.proofs.lemmas.Result.{IfOk-weaker}
-use Rattle.fs_rows.specs.Rows.{path_cmp}
-use Rattle.fs_paths.specs.declared.found.Found.{Found}
-use Rattle.fs_paths.specs.declared.link.Link.{Link}
-use Rattle.fs_paths.specs.declared.link.PathTo.{PathTo}
-use Rattle.fs_paths.specs.Paths.{ArePaths}
-use Rattle.fs_paths.specs.Spread.{AscendByDirectory, IsTree, Reaches}
+use Rattle.fs_paths.proofs.Imports.{List, is_lt, sym, subst, rules, answers_always, ranks_by, IfOk-weaker, path_cmp, PathFound, NodeLink, PathTo, ArePaths, AscendByDirectory, FormTree, Reaches}
 use Rattle.fs_paths.proofs.Arranging.{tree_from_named, tree_sorted, reaches_sorted, path_total, listed}
 use Rattle.fs_paths.proofs.list.paths.Goals as goal
 
@@ -15,13 +7,13 @@ spread-requires c = subst AscendByDirectory (sym c.deref.ensures.value) (record 
 
 pub returns : goal.returns
 returns c =
-    let links : List Link = c.args.links.items in
-    let by_dir : List Link = c.sort_by_key.new.self.items in
-    let found : List Found = c.in_ok-found.found.items in
-    let by_path : List Found = c.sort_by.new.self.items in
+    let links : List NodeLink = c.args.links.items in
+    let by_dir : List NodeLink = c.sort_by_key.new.self.items in
+    let found : List PathFound = c.in_ok-found.found.items in
+    let by_path : List PathFound = c.sort_by.new.self.items in
     let same = c.in_ok-sort_by_key.ensures.permutation in
-    let ascend = c.in_ok-sort_by.ensures.sorted (λ f g. is_lt (path_cmp f.path g.path)) (ranks_by path_total (λ (f : Found). f.path)) (answers_always _ _ _ (λ f a r g h. search rules)) in
-    let reached : IsTree by_dir c.args.root → Reaches by_dir c.args.root found = subst (λ (l : List Link). IsTree l c.args.root → Reaches l c.args.root found) c.deref.ensures.value c.in_ok-found.ensures in
+    let ascend = c.in_ok-sort_by.ensures.sorted (λ f g. is_lt (path_cmp f.path g.path)) (ranks_by path_total (λ (f : PathFound). f.path)) (answers_always _ _ _ (λ f a r g h. search rules)) in
+    let reached : FormTree by_dir c.args.root → Reaches by_dir c.args.root found = subst (λ (l : List NodeLink). FormTree l c.args.root → Reaches l c.args.root found) c.deref.ensures.value c.in_ok-found.ensures in
     IfOk-weaker c.number.result _ _
     (λ list is named.
     let tree = tree_sorted links by_dir c.args.root same (tree_from_named links c.args.root named) in

@@ -1,6 +1,4 @@
-use Rattle.std.proofs.Common.{◌≡◌, map, take}
-use Rattle.indexmap.specs.IndexSet.{insert_all}
-use Rattle.fs_paths.specs.Links.{same_node}
+use Rattle.fs_paths.proofs.Imports.{◌≡◌, map, take, insert_all, same_node}
 use Rattle.fs_paths.proofs.reach.follow.Given as goal
 
 abbrev pub invariant-loop-link : goal.invariant-loop-link

@@ -1,9 +1,4 @@
-use Rattle.std.proofs.Common.{◌≡◌, ◌<◌, ◌≤◌, ◌+◌, ◌∙◌, List, length, get_or, sym, ap, subst, arith}
-use Rattle.std.proofs.lemmas.List.{get_or_default}
-use Rattle.indexmap.specs.IndexSet.{insert_key}
-use Rattle.fs_paths.specs.declared.node.NodeId.{NodeId}
-use Rattle.fs_paths.specs.Links.{same_node}
-use Rattle.fs_paths.specs.Queue.{followed}
+use Rattle.fs_paths.proofs.Imports.{◌≡◌, ◌<◌, ◌≤◌, ◌+◌, ◌∙◌, List, length, get_or, sym, ap, subst, arith, get_or_default, insert_key, NodeId, same_node, followed}
 use Rattle.fs_paths.proofs.Queues.{Queue, start, step, queue_is}
 use Rattle.fs_paths.proofs.reach.reach_sorted.Goals as goal
 

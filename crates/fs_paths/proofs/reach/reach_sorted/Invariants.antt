@@ -1,5 +1,4 @@
-use Rattle.std.proofs.Common.{◌+◌, ◌-◌, length}
-use Rattle.fs_paths.specs.Queue.{waiting}
+use Rattle.fs_paths.proofs.Imports.{◌+◌, ◌-◌, length, waiting}
 use Rattle.fs_paths.proofs.Queues.{Queue}
 use Rattle.fs_paths.proofs.reach.reach_sorted.Given as goal
 

@@ -1,11 +1,4 @@
-use Rattle.std.proofs.Common.{List, sym, subst, rules}
-use Rattle.std.proofs.lemmas.List.Sorted.{answers_always}
-use Rattle.std.proofs.lemmas.Result.{IfOk-weaker}
-use Rattle.indexmap.specs.IndexSet.{contains}
-use Rattle.fs_paths.specs.declared.link.Link.{Link}
-use Rattle.fs_paths.specs.Links.{same_node}
-use Rattle.fs_paths.specs.Reached.{AreReached}
-use Rattle.fs_paths.specs.Spread.{AscendByDirectory}
+use Rattle.fs_paths.proofs.Imports.{List, sym, subst, rules, answers_always, IfOk-weaker, contains, NodeLink, same_node, AreReached, AscendByDirectory}
 use Rattle.fs_paths.proofs.Queues.{reached_sorted}
 use Rattle.fs_paths.proofs.reach.reached.Goals as goal
 
@@ -14,7 +7,7 @@ reach_sorted-requires c = subst AscendByDirectory (sym c.deref.ensures.value) (r
 
 pub returns : goal.returns
 returns c =
-    let links : List Link = c.args.links.items in
+    let links : List NodeLink = c.args.links.items in
     IfOk-weaker c.reach_sorted.result _ _
-    (λ set is. reached_sorted links c.sort_by_key.new.self.items c.args.root (contains same_node set) c.in_ok-sort_by_key.ensures.permutation (subst (λ (l : List Link). AreReached l c.args.root (contains same_node set)) c.deref.ensures.value is))
+    (λ set is. reached_sorted links c.sort_by_key.new.self.items c.args.root (contains same_node set) c.in_ok-sort_by_key.ensures.permutation (subst (λ (l : List NodeLink). AreReached l c.args.root (contains same_node set)) c.deref.ensures.value is))
     c.reach_sorted.ensures

@@ -1,7 +1,4 @@
-use Rattle.std.proofs.Common.{◌<◌, ◌+◌, ◌∙◌, ◌++◌, ◌∷◌, [], List, length, get_or, sym, ap, subst, arith}
-use Rattle.std.proofs.lemmas.List.{get_or_default}
-use Rattle.fs_rows.specs.Rows.{NameList}
-use Rattle.fs_paths.specs.declared.found.Found.{Found}
+use Rattle.fs_paths.proofs.Imports.{◌<◌, ◌+◌, ◌∙◌, ◌++◌, ◌∷◌, [], List, length, get_or, sym, ap, subst, arith, get_or_default, NameList, PathFound}
 use Rattle.fs_paths.proofs.Walks.{Walk, start, step, first, reaches}
 use Rattle.fs_paths.proofs.spread.spread.Goals as goal
 use Rattle.fs_paths.proofs.spread.spread.Goals.{then-loop-i-test+else-len-links, else-loop-i-test}
@@ -9,16 +6,16 @@ use Rattle.fs_paths.proofs.spread.spread.Goals.{then-loop-i-test+else-len-links,
 pub loop-i-init : goal.loop-i-init
 loop-i-init c =
     let is = c.in_ok-push.ensures.items
-    ∙ (ap (λ (l : List Found). l ++ record { path = c.new.result; target = c.args.root } ∷ []) c.new-found.ensures.items
+    ∙ (ap (λ (l : List PathFound). l ++ record { path = c.new.result; target = c.args.root } ∷ []) c.new-found.ensures.items
     ∙ ap (λ (p : NameList). record { path = p; target = c.args.root } ∷ []) c.new.ensures) in
-    subst (λ (l : List Found). Walk c.args.links.now c.args.root l 0) (sym is) start
+    subst (λ (l : List PathFound). Walk c.args.links.now c.args.root l 0) (sym is) start
 
 pub loop-i-preserved : goal.loop-i-preserved
 loop-i-preserved c =
-    let old : List Found = c.loop-i.found.items in
-    let f : Found = get_or old c.loop-i.i (first c.args.root) in
+    let old : List PathFound = c.loop-i.found.items in
+    let f : PathFound = get_or old c.loop-i.i (first c.args.root) in
     let within : c.loop-i.i < length old = omega (arith, c.loop-i-test.true, c.loop-i.found.ok, c.len.ensures) in
-    subst (λ (l : List Found). Walk c.args.links.now c.args.root l (c.loop-i.i + 1)) (sym (c.in_ok-follow.ensures (first c.args.root))) (step old c.loop-i.i f c.loop-i.invariant within (get_or_default old c.loop-i.i f (first c.args.root) within))
+    subst (λ (l : List PathFound). Walk c.args.links.now c.args.root l (c.loop-i.i + 1)) (sym (c.in_ok-follow.ensures (first c.args.root))) (step old c.loop-i.i f c.loop-i.invariant within (get_or_default old c.loop-i.i f (first c.args.root) within))
 
 pub returns : goal.returns
 returns c = reaches c.args.links.now c.args.root c.loop-i.found.items c.loop-i.i c.loop-i.invariant (λ more few.

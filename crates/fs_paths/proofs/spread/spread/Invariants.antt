@@ -1,4 +1,4 @@
-use Rattle.std.proofs.Common.{◌+◌, ◌-◌, length}
+use Rattle.fs_paths.proofs.Imports.{◌+◌, ◌-◌, length}
 use Rattle.fs_paths.proofs.Walks.{Walk}
 use Rattle.fs_paths.proofs.spread.spread.Given as goal
 

@@ -1,6 +1,4 @@
-use Rattle.std.proofs.Common.{ℕ, List, codes, not, subst}
-use Rattle.sink_text.specs.Pushes.{Pushes}
-use Rattle.fs_rows.specs.Text.{any_flag, dash, flag}
+use Rattle.fs_rows.proofs.Imports.{ℕ, List, codes, not, subst, Pushes, any_flag, dash, flag}
 use Rattle.fs_rows.proofs.LineLemmas.{flags_parts}
 use Rattle.fs_rows.proofs.line.push_flags.Goals as goal
 

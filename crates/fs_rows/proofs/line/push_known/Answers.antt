@@ -1,5 +1,4 @@
-use Rattle.std.proofs.Common.{[], ◌∷◌, ◌++◌}
-use Rattle.fs_rows.specs.Text.{flags_text, last_fields, owner_fields, time_fields}
+use Rattle.fs_rows.proofs.Imports.{[], ◌∷◌, ◌++◌, flags_text, last_fields, owner_fields, time_fields}
 use Rattle.fs_rows.proofs.LineLemmas.{pushes_fields, stopped_fields}
 use Rattle.fs_rows.proofs.line.push_known.Goals as goal
 

@@ -1,5 +1,4 @@
-use Rattle.std.proofs.Common.{[], ◌∷◌}
-use Rattle.fs_rows.specs.Text.{device_by, length_text, mark_text, names_by, spaced}
+use Rattle.fs_rows.proofs.Imports.{[], ◌∷◌, device_by, length_text, mark_text, names_by, spaced}
 use Rattle.fs_rows.proofs.LineLemmas.{stopped_first}
 use Rattle.fs_rows.proofs.line.push_last.Goals as goal
 

@@ -1,6 +1,5 @@
-use Rattle.std.proofs.Common.{◌≡◌, false, codes, sym, ◌∙◌}
+use Rattle.fs_rows.proofs.Imports.{◌≡◌, false, codes, sym, ◌∙◌, path_text}
 use Rattle.fs_rows.specs.Rows.{is_same_path}
-use Rattle.fs_rows.specs.Text.{path_text}
 use Rattle.fs_rows.proofs.LineLemmas.{stopped_first}
 use Rattle.fs_rows.proofs.line.push_least.Goals as goal
 

@@ -1,5 +1,4 @@
-use Rattle.std.proofs.Common.{◌<◌, length, arith}
-use Rattle.fs_rows.specs.Text.{slashed}
+use Rattle.fs_rows.proofs.Imports.{◌<◌, length, arith, slashed}
 use Rattle.fs_rows.proofs.LineLemmas.{pushed_at, stopped_at}
 use Rattle.fs_rows.proofs.line.push_names.Goals as goal
 

@@ -1,7 +1,4 @@
-use Rattle.std.proofs.Common.{◌≡◌, IsTrue, take}
-use Rattle.std.specs.List.{flat_map}
-use Rattle.sink_text.specs.Pushes.{Pushed}
-use Rattle.fs_rows.specs.Text.{slashed}
+use Rattle.fs_rows.proofs.Imports.{◌≡◌, IsTrue, take, flat_map, Pushed, slashed}
 use Rattle.fs_rows.proofs.line.push_names.Given as goal
 
 abbrev pub invariant-loop-i : goal.invariant-loop-i

@@ -1,6 +1,4 @@
-use Rattle.std.proofs.Common.{◌++◌}
-use Rattle.sink_text.proofs.Pushing.{pushes_later}
-use Rattle.fs_rows.specs.Text.{end_by, ending_text, fields_by, least_text, path_text, spaced}
+use Rattle.fs_rows.proofs.Imports.{◌++◌, pushes_later, end_by, ending_text, fields_by, least_text, path_text, spaced}
 use Rattle.fs_rows.proofs.LineLemmas.{stopped_first}
 use Rattle.fs_rows.proofs.line.push_row.Goals as goal
 

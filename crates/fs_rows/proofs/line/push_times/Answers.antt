@@ -1,7 +1,6 @@
-use Rattle.std.proofs.Common.{ℕ, List, subst}
+use Rattle.fs_rows.proofs.Imports.{ℕ, List, subst, Pushes}
 use Rattle.std.specs.Fmt.{signed_decimal}
 use Rattle.sink_text.specs.Digits.{fraction}
-use Rattle.sink_text.specs.Pushes.{Pushes}
 use Rattle.fs_rows.proofs.LineLemmas.{times_text}
 use Rattle.fs_rows.proofs.line.push_times.Goals as goal
 

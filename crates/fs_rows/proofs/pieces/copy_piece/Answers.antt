@@ -1,5 +1,4 @@
-use Rattle.std.proofs.Common.{◌≡◌, ◌-◌, ◌+◌, ◌∙◌, ◌≤◌, ℕ, List, length, get_or, sym, ap, arith}
-use Rattle.fs_rows.specs.Bytes.{block_by}
+use Rattle.fs_rows.proofs.Imports.{◌≡◌, ◌-◌, ◌+◌, ◌∙◌, ◌≤◌, ℕ, List, length, get_or, sym, ap, arith, block_by}
 use Rattle.fs_rows.proofs.Copies.{copy_is, part_length, part_at}
 use Rattle.fs_rows.proofs.Functions.{same_block}
 use Rattle.fs_rows.proofs.pieces.copy_piece.Goals as goal

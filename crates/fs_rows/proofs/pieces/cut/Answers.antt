@@ -1,4 +1,4 @@
-use Rattle.std.proofs.Common.{◌≡◌, ◌-◌, ◌*◌, ◌∙◌, ◌≤◌, ℕ, min, length, replicate, ap, arith}
+use Rattle.fs_rows.proofs.Imports.{◌≡◌, ◌-◌, ◌*◌, ◌∙◌, ◌≤◌, ℕ, min, length, replicate, ap, arith}
 use Rattle.fs_rows.proofs.Copies.{cut_is, part_length, rest_length}
 use Rattle.fs_rows.proofs.pieces.cut.Goals as goal
 

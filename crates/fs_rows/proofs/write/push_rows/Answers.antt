@@ -1,5 +1,4 @@
-use Rattle.std.proofs.Common.{◌<◌, length, arith}
-use Rattle.fs_rows.specs.Text.{row_text, rows_text}
+use Rattle.fs_rows.proofs.Imports.{◌<◌, length, arith, row_text, rows_text}
 use Rattle.fs_rows.proofs.LineLemmas.{all_pushed, pushed_at, stopped_at}
 use Rattle.fs_rows.proofs.write.push_rows.Goals as goal
 

@@ -1,7 +1,4 @@
-use Rattle.std.proofs.Common.{◌≡◌, IsTrue, take}
-use Rattle.std.specs.List.{flat_map}
-use Rattle.sink_text.specs.Pushes.{Pushed}
-use Rattle.fs_rows.specs.Text.{row_text}
+use Rattle.fs_rows.proofs.Imports.{◌≡◌, IsTrue, take, flat_map, Pushed, row_text}
 use Rattle.fs_rows.proofs.write.push_rows.Given as goal
 
 abbrev pub invariant-loop-i : goal.invariant-loop-i

@@ -1,5 +1,5 @@
+use Rattle.fs_rows.proofs.Imports.{takes_of_flush, takes_of_stopped}
 use Rattle.sink_text.proofs.Prefix.{takes_part}
-use Rattle.sink_text.proofs.Pushing.{takes_of_flush, takes_of_stopped}
 use Rattle.fs_rows.proofs.write.write_rows.Goals as goal
 
 pub returns-in_err-push_rows-clause-taken : goal.returns-in_err-push_rows-clause-taken

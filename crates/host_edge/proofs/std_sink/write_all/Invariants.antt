@@ -1,4 +1,4 @@
-use Rattle.std.proofs.Common.{length}
+use Rattle.host_edge.proofs.Imports.{length}
 use Rattle.host_edge.proofs.std_sink.write_all.Given as goal
 
 abbrev pub decreases-loop-rest : goal.decreases-loop-rest

@@ -1,9 +1,4 @@
-use Rattle.std.proofs.Common.{ℕ, Option, ◌∙◌, ap}
-use Rattle.std.specs.Option.{unwrap_or}
-use Rattle.vol_block.specs.declared.block.Block.{Block}
-use Rattle.vol_block.specs.Volume.{zeros}
-use Rattle.outside_mem.specs.Done.{calls_of}
-use Rattle.outside_mem.specs.Store.{bytes_or}
+use Rattle.outside_mem.proofs.Imports.{ℕ, Option, ◌∙◌, ap, unwrap_or, Block, zeros, calls_of, bytes_or}
 use Rattle.outside_mem.proofs.Undo.{rest_ordered, choose_more, next_number}
 use Rattle.outside_mem.proofs.Keys.{apart_eq}
 use Rattle.outside_mem.proofs.crash.choose.Goals as goal

@@ -1,11 +1,4 @@
-use Rattle.std.proofs.Common.{◌≡◌, ℕ}
-use Rattle.std.specs.Ordering.{nat_cmp}
-use Rattle.std.specs.BTreeMap.{is_at, get, keys}
-use Rattle.std.specs.Map.{lookup, keys_of}
-use Rattle.std.specs.List.Sorted.{IsStrictlySortedBy}
-use Rattle.outside_mem.specs.Choice.{written, number_for}
-use Rattle.outside_mem.specs.Done.{calls_of}
-use Rattle.outside_mem.specs.Store.{bytes_at, chosen_or}
+use Rattle.outside_mem.proofs.Imports.{◌≡◌, ℕ, nat_cmp, is_at, get, keys, lookup, keys_of, IsStrictlySortedBy, written, number_for, calls_of, bytes_at, chosen_or}
 use Rattle.outside_mem.proofs.crash.choose.Given as goal
 
 abbrev pub invariant-loop-n : goal.invariant-loop-n

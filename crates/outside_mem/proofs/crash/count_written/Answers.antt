@@ -1,6 +1,4 @@
-use Rattle.std.proofs.Common.{◌-◌, ◌∷◌, [], ℕ, List, length, take, ap, arith, length-append}
-use Rattle.outside_mem.specs.Choice.{written}
-use Rattle.outside_mem.specs.Done.{calls_of}
+use Rattle.outside_mem.proofs.Imports.{◌-◌, ◌∷◌, [], ℕ, List, length, take, ap, arith, length-append, written, calls_of}
 use Rattle.outside_mem.proofs.Newest.{newest_here, newest_elsewhere, newest_synced}
 use Rattle.outside_mem.proofs.crash.count_written.Goals as goal
 

@@ -1,6 +1,4 @@
-use Rattle.std.proofs.Common.{◌≡◌, ◌+◌, ◌≤◌, length, take}
-use Rattle.outside_mem.specs.Choice.{written}
-use Rattle.outside_mem.specs.Done.{calls_of}
+use Rattle.outside_mem.proofs.Imports.{◌≡◌, ◌+◌, ◌≤◌, length, take, written, calls_of}
 use Rattle.outside_mem.proofs.crash.count_written.Given as goal
 
 abbrev pub invariant-loop-k : goal.invariant-loop-k

@@ -1,6 +1,4 @@
-use Rattle.std.proofs.Common.{◌≡◌, ◌-◌, ◌<◌, ◌≤◌, [], length, take, slice_index_or}
-use Rattle.outside_mem.specs.Choice.{written}
-use Rattle.outside_mem.specs.Done.{calls_of}
+use Rattle.outside_mem.proofs.Imports.{◌≡◌, ◌-◌, ◌<◌, ◌≤◌, [], length, take, slice_index_or, written, calls_of}
 use Rattle.outside_mem.proofs.crash.nth_newest.Given as goal
 
 abbrev pub invariant-loop-k : goal.invariant-loop-k

@@ -1,7 +1,5 @@
-use Rattle.std.proofs.Common.{sym, subst}
+use Rattle.program_words.proofs.Imports.{sym, subst, Takes, answer_line}
 use Rattle.command_answers.specs.declared.answer.Answer.{Answer}
-use Rattle.command_answers.specs.outside.Fault.{Takes}
-use Rattle.program_words.specs.Lines.{answer_line}
 use Rattle.program_words.proofs.answer_line.write_answer.Goals as goal
 
 pub returns-in-Fault-clause-taken : goal.returns-in-Fault-clause-taken

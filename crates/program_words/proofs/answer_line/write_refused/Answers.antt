@@ -1,7 +1,5 @@
-use Rattle.std.proofs.Common.{◌++◌, sym, subst}
+use Rattle.program_words.proofs.Imports.{◌++◌, sym, subst, Takes, words_to_end, volume_words}
 use Rattle.command_answers.specs.refusals.declared.refusal.VolumeRefusal.{VolumeRefusal}
-use Rattle.command_answers.specs.outside.Fault.{Takes}
-use Rattle.program_words.specs.Lines.{words_to_end, volume_words}
 use Rattle.program_words.proofs.answer_line.write_refused.Goals as goal
 
 pub returns-in-Unsupported-clause-taken : goal.returns-in-Unsupported-clause-taken

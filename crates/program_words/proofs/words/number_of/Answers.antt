@@ -1,4 +1,4 @@
-use Rattle.std.proofs.Common.{sym, ◌∙◌}
+use Rattle.program_words.proofs.Imports.{sym, ◌∙◌}
 use Rattle.program_words.proofs.Numbers.{read_is, unread_is}
 use Rattle.program_words.proofs.words.number_of.Goals as goal
 

@@ -1,7 +1,4 @@
-use Rattle.std.proofs.Common.{◌+◌, ◌∙◌, ap, arith}
-use Rattle.std.specs.Prelude.{sum_by, count_ones}
-use Rattle.std.proofs.lemmas.List.{take_all}
-use Rattle.std.proofs.lemmas.List.Sums.{sum_by-take-le}
+use Rattle.reiser_bitmap.proofs.Imports.{◌+◌, ◌∙◌, ap, arith, sum_by, count_ones, take_all, sum_by-take-le}
 use Rattle.reiser_bitmap.proofs.CountLemmas.{ones_are_bits, ones_more}
 use Rattle.reiser_bitmap.proofs.count.bit_count.Goals as goal
 

@@ -1,5 +1,4 @@
-use Rattle.std.proofs.Common.{◌≡◌, take}
-use Rattle.std.specs.Prelude.{sum_by, count_ones}
+use Rattle.reiser_bitmap.proofs.Imports.{◌≡◌, take, sum_by, count_ones}
 use Rattle.reiser_bitmap.proofs.count.bit_count.Given as goal
 
 abbrev pub invariant-loop-byte : goal.invariant-loop-byte

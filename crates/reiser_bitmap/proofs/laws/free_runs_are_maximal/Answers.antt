@@ -1,5 +1,4 @@
-use Rattle.reiser_bitmap.specs.Runs.{free_runs}
-use Rattle.reiser_bitmap.specs.Units.{is_free_unit, unit_count}
+use Rattle.reiser_bitmap.proofs.Imports.{free_runs, is_free_unit, unit_count}
 use Rattle.reiser_bitmap.proofs.FreeUnits.{past_units}
 use Rattle.reiser_bitmap.proofs.MaximalRuns.{runs_are_maximal}
 use Rattle.reiser_bitmap.proofs.laws.free_runs_are_maximal.Goals as goal

@@ -1,4 +1,4 @@
-use Rattle.std.proofs.Common.{◌/◌, ◌<◌, length, arith}
+use Rattle.reiser_bitmap.proofs.Imports.{◌/◌, ◌<◌, length, arith}
 use Rattle.reiser_bitmap.proofs.BitLemmas.{read}
 use Rattle.reiser_bitmap.proofs.LoadLemmas.{with_end, bits_kept, end_stored}
 use Rattle.reiser_bitmap.proofs.load.clear_tail.Goals as goal

@@ -1,6 +1,4 @@
-use Rattle.std.proofs.Common.{refl, ◌≡◌, ◌-◌, ◌*◌, ◌≤◌, min, ℕ, List, length, sym, ◌∙◌, ap, subst, arith}
-use Rattle.refusals.specs.outside.History.{Image, block_at}
-use Rattle.reiser_bitmap.specs.Layout.{bitmap_block}
+use Rattle.reiser_bitmap.proofs.Imports.{refl, ◌≡◌, ◌-◌, ◌*◌, ◌≤◌, min, ℕ, List, length, sym, ◌∙◌, ap, subst, arith, Image, block_at, bitmap_block}
 use Rattle.reiser_bitmap.proofs.LoadLemmas.{HasBitsOf, none_read, more_read, all_read}
 use Rattle.reiser_bitmap.proofs.load.read_bytes.Goals as goal
 

@@ -1,4 +1,4 @@
-use Rattle.std.proofs.Common.{◌≡◌, ◌*◌, min, length, IsTrue}
+use Rattle.reiser_bitmap.proofs.Imports.{◌≡◌, ◌*◌, min, length, IsTrue}
 use Rattle.reiser_bitmap.proofs.LoadLemmas.{HasBitsOf}
 use Rattle.reiser_bitmap.proofs.load.read_bytes.Given as goal
 

@@ -1,5 +1,4 @@
-use Rattle.std.proofs.Common.{◌≡◌, ◌+◌, ◌*◌, Bool, true, sym, subst}
-use Rattle.reiser_bitmap.specs.Next.{is_bit}
+use Rattle.reiser_bitmap.proofs.Imports.{◌≡◌, ◌+◌, ◌*◌, Bool, true, sym, subst, is_bit}
 use Rattle.reiser_bitmap.proofs.Ends.{ones_are_bits}
 use Rattle.reiser_bitmap.proofs.next.are_bits.Goals as goal
 

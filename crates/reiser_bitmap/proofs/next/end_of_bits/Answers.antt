@@ -1,5 +1,4 @@
-use Rattle.std.proofs.Common.{◌≡◌, ◌+◌, ◌*◌, ◌/◌, ◌<◌, ◌≤◌, ℕ, Bool, true, false, sym, subst, arith}
-use Rattle.reiser_bitmap.specs.Next.{is_bit}
+use Rattle.reiser_bitmap.proofs.Imports.{◌≡◌, ◌+◌, ◌*◌, ◌/◌, ◌<◌, ◌≤◌, ℕ, Bool, true, false, sym, subst, arith, is_bit}
 use Rattle.reiser_bitmap.proofs.Ends.{bits_more, end_is, other_bit}
 use Rattle.reiser_bitmap.proofs.next.end_of_bits.Goals as goal
 

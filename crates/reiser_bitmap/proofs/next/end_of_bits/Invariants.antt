@@ -1,5 +1,4 @@
-use Rattle.std.proofs.Common.{◌≡◌, ◌-◌, ◌<◌, ◌≤◌, ℕ, true}
-use Rattle.reiser_bitmap.specs.Next.{is_bit}
+use Rattle.reiser_bitmap.proofs.Imports.{◌≡◌, ◌-◌, ◌<◌, ◌≤◌, ℕ, true, is_bit}
 use Rattle.reiser_bitmap.proofs.next.end_of_bits.Given as goal
 
 abbrev pub invariant-loop-b : goal.invariant-loop-b

@@ -1,5 +1,4 @@
-use Rattle.std.proofs.Common.{◌/◌, ◌%◌, arith}
-use Rattle.std.specs.Prelude.{slice_index}
+use Rattle.reiser_bitmap.proofs.Imports.{◌/◌, ◌%◌, arith, slice_index}
 use Rattle.reiser_bitmap.proofs.BitLemmas.{has_bit}
 use Rattle.reiser_bitmap.proofs.next.has_bit.Goals as goal
 

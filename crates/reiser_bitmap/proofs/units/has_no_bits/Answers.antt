@@ -1,5 +1,4 @@
-use Rattle.std.proofs.Common.{arith}
-use Rattle.std.proofs.lemmas.Bool.{eq-eqb, eqb-true}
+use Rattle.reiser_bitmap.proofs.Imports.{arith, eq-eqb, eqb-true}
 use Rattle.reiser_bitmap.proofs.Zeros.{lanes_from_zeros, zeros_from_lanes, no_bits_from_zeros, zeros_from_no_bits}
 use Rattle.reiser_bitmap.proofs.units.has_no_bits.Goals as goal
 

@@ -1,5 +1,4 @@
-use Rattle.std.proofs.Common.{◌≡◌, ℕ, ◌<◌, ◌≤◌, length}
-use Rattle.reiser_items.specs.Entries.{IsEntry, area_end}
+use Rattle.reiser_items.proofs.Imports.{◌≡◌, ℕ, ◌<◌, ◌≤◌, length, IsEntry, area_end}
 use Rattle.reiser_items.proofs.entries.are_entries.Given as goal
 
 abbrev pub invariant-loop-i : goal.invariant-loop-i

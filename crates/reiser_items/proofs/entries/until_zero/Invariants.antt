@@ -1,6 +1,5 @@
-use Rattle.std.proofs.Common.{◌≡◌, ◌+◌, ◌-◌, ◌≤◌, length, drop}
+use Rattle.reiser_items.proofs.Imports.{◌≡◌, ◌+◌, ◌-◌, ◌≤◌, length, drop, is_of_name}
 use Rattle.std.specs.List.{prefix_len}
-use Rattle.reiser_items.specs.Entries.{is_of_name}
 use Rattle.reiser_items.proofs.entries.until_zero.Given as goal
 
 abbrev pub invariant-loop-end : goal.invariant-loop-end

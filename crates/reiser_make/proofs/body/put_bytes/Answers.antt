@@ -1,8 +1,4 @@
-use Rattle.std.proofs.Common.{◌+◌, ◌++◌, ◌∷◌, [], ℕ, List, map, ap, sym, ◌∙◌, refl, arith}
-use Rattle.std.specs.List.{range_with_len}
-use Rattle.std.proofs.lemmas.List.{take_more_set}
-use Rattle.std.proofs.lemmas.List.FromFn.{map-range_with_len_more}
-use Rattle.reiser_make.specs.Shape.{file_byte}
+use Rattle.reiser_make.proofs.Imports.{◌+◌, ◌++◌, ◌∷◌, [], ℕ, List, map, ap, sym, ◌∙◌, refl, arith, range_with_len, take_more_set, map-range_with_len_more, file_byte}
 use Rattle.reiser_make.proofs.body.put_bytes.Goals as goal
 
 pub loop-at-preserved : goal.loop-at-preserved

@@ -1,6 +1,4 @@
-use Rattle.std.proofs.Common.{◌≡◌, take, map}
-use Rattle.std.specs.List.{range_with_len}
-use Rattle.reiser_make.specs.Shape.{file_byte}
+use Rattle.reiser_make.proofs.Imports.{◌≡◌, take, map, range_with_len, file_byte}
 use Rattle.reiser_make.proofs.body.put_bytes.Given as goal
 
 abbrev pub invariant-loop-at : goal.invariant-loop-at

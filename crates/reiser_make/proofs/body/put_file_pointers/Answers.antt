@@ -1,8 +1,6 @@
-use Rattle.std.proofs.Common.{◌≡◌, ◌+◌, ◌*◌, ◌++◌, ℕ, take, drop, ap, sym, ◌∙◌, refl, arith}
+use Rattle.reiser_make.proofs.Imports.{◌≡◌, ◌+◌, ◌*◌, ◌++◌, ℕ, take, drop, ap, sym, ◌∙◌, refl, arith, pointers_bytes, pointer}
 use Rattle.byteorder.specs.Endian.{little_bytes}
 use Rattle.reiser_items.proofs.vol_block.Fronts.{front_of_new}
-use Rattle.reiser_make.specs.Items.{pointers_bytes}
-use Rattle.reiser_make.specs.Shape.{pointer}
 use Rattle.reiser_make.proofs.Lists.{flat_map_more}
 use Rattle.reiser_make.proofs.body.put_file_pointers.Goals as goal
 

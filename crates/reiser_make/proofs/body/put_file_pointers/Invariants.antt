@@ -1,5 +1,4 @@
-use Rattle.std.proofs.Common.{◌≡◌, ◌*◌, take}
-use Rattle.reiser_make.specs.Items.{pointers_bytes}
+use Rattle.reiser_make.proofs.Imports.{◌≡◌, ◌*◌, take, pointers_bytes}
 use Rattle.reiser_make.proofs.body.put_file_pointers.Given as goal
 
 abbrev pub invariant-loop-k : goal.invariant-loop-k

@@ -1,7 +1,4 @@
-use Rattle.std.proofs.Common.{◌≡◌, ℕ, ◌+◌, ◌*◌, List, length, refl, ap, ◌∙◌, arith}
-use Rattle.reiser_items.specs.Entries.{EntryValue}
-use Rattle.reiser_make.specs.Directory.{file_entry, entries_bytes}
-use Rattle.reiser_make.specs.Shape.{root_id, directory_id}
+use Rattle.reiser_make.proofs.Imports.{◌≡◌, ℕ, ◌+◌, ◌*◌, List, length, refl, ap, ◌∙◌, arith, EntryValue, file_entry, entries_bytes, root_id, directory_id}
 use Rattle.reiser_make.proofs.Entering.{listed, put_listed, file_short, so_far_whole, length-listed}
 use Rattle.reiser_make.proofs.directory.put_directory.Goals as goal
 

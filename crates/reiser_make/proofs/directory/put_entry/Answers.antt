@@ -1,4 +1,4 @@
-use Rattle.std.proofs.Common.{◌-◌, ◌+◌, ◌*◌, ℕ, List, length, refl, ap, ◌∙◌, arith}
+use Rattle.reiser_make.proofs.Imports.{◌-◌, ◌+◌, ◌*◌, ℕ, List, length, refl, ap, ◌∙◌, arith}
 use borrow.Rule.Slice.PartMut.{put_mid}
 use Rattle.reiser_make.proofs.Entering.{so_far_more}
 use Rattle.reiser_make.proofs.directory.put_entry.Goals as goal

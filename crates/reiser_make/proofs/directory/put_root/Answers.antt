@@ -1,9 +1,4 @@
-use Rattle.std.proofs.Common.{◌≡◌, ℕ, ◌++◌, ◌∷◌, [], List, length, ap, ◌∙◌, arith}
-use Rattle.reiser_items.specs.Entries.{EntryValue}
-use Rattle.reiser_make.specs.Directory.{entry, directory_entry, entries_bytes, entries_so_far}
-use Rattle.reiser_make.specs.Names.{directory_name, entry_offset}
-use Rattle.reiser_make.specs.Shape.{root_id, above_root}
-use Rattle.reiser_make.specs.declared.object.ObjectId.{ObjectId}
+use Rattle.reiser_make.proofs.Imports.{◌≡◌, ℕ, ◌++◌, ◌∷◌, [], List, length, ap, ◌∙◌, arith, EntryValue, entry, directory_entry, entries_bytes, entries_so_far, directory_name, entry_offset, root_id, above_root, ObjectId}
 use Rattle.reiser_make.proofs.Entering.{listed, put_listed, directory_short, so_far_whole, length-listed}
 use Rattle.reiser_make.proofs.directory.put_root.Goals as goal
 

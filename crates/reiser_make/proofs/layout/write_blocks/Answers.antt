@@ -1,9 +1,4 @@
-use Rattle.std.proofs.Common.{◌*◌, ◌+◌, map, ap, ◌∙◌, arith}
-use Rattle.std.specs.List.{range_with_len}
-use Rattle.reiser_make.specs.Inner.{needed}
-use Rattle.reiser_make.specs.Layout.{IsUsed, data_placed}
-use Rattle.reiser_make.specs.Places.{place}
-use Rattle.reiser_make.specs.Shape.{stored_before, stored_of, file_bytes}
+use Rattle.reiser_make.proofs.Imports.{◌*◌, ◌+◌, map, ap, ◌∙◌, arith, range_with_len, needed, IsUsed, data_placed, place, stored_before, stored_of, sample_bytes}
 use Rattle.reiser_make.proofs.Laying.{goes_more, only_more, in_range}
 use Rattle.reiser_make.proofs.Placed.{used_below, data_at}
 use Rattle.reiser_make.proofs.layout.write_blocks.Goals as goal
@@ -28,5 +23,5 @@ loop-j-preserved g c =
     goes_more _ (IsUsed c.args.usage.now) _ _ _ _ _ _ _ _ _ _ _ _ (data_placed c.args.plan.now.sample c.args.i c.args.sparse) 0 c.loop-j.j c.loop-j.j c.place.result c.put_block.new.into.bytes
     c.loop-j.invariant (omega arith) (used_below c.args.plan.now.sample c.args.usage.now c.place.result c.requires.usage at.1)
     (ap (λ b. (b, c.put_block.new.into.bytes)) at.0
-    ∙ ap (λ bytes. (place (stored_before c.args.plan.now.sample.names c.args.i + c.loop-j.j), bytes)) (c.put_block.ensures ∙ ap (λ k. file_bytes c.args.i c.args.sparse (4096 * k) 4096) c.stored_block.ensures))
+    ∙ ap (λ bytes. (place (stored_before c.args.plan.now.sample.names c.args.i + c.loop-j.j), bytes)) (c.put_block.ensures ∙ ap (λ k. sample_bytes c.args.i c.args.sparse (4096 * k) 4096) c.stored_block.ensures))
     c.write.ensures.open c.write.ensures.size c.in_ok-write.ensures.cause.kept c.in_ok-write.ensures.effect

@@ -1,6 +1,4 @@
-use Rattle.std.proofs.Common.{IsTrue, map}
-use Rattle.std.specs.List.{range_with_len}
-use Rattle.reiser_make.specs.Layout.{IsUsed, data_placed}
+use Rattle.reiser_make.proofs.Imports.{IsTrue, map, range_with_len, IsUsed, data_placed}
 use Rattle.reiser_make.proofs.Laying.{Goes}
 use Rattle.reiser_make.proofs.layout.write_blocks.Given as goal
 

@@ -1,6 +1,4 @@
-use Rattle.std.proofs.Common.{◌+◌, sym, arith}
-use Rattle.std.specs.List.{range_with_len, flat_map}
-use Rattle.reiser_make.specs.Layout.{IsUsed, data_of_name}
+use Rattle.reiser_make.proofs.Imports.{◌+◌, sym, arith, range_with_len, flat_map, IsUsed, data_of_name}
 use Rattle.reiser_make.proofs.Laying.{goes_on, only_on}
 use Rattle.reiser_make.proofs.Lists.{flat_map_more}
 use Rattle.reiser_make.proofs.layout.write_data.Goals as goal

@@ -1,6 +1,4 @@
-use Rattle.std.proofs.Common.{IsTrue}
-use Rattle.std.specs.List.{range_with_len, flat_map}
-use Rattle.reiser_make.specs.Layout.{IsUsed, data_of_name}
+use Rattle.reiser_make.proofs.Imports.{IsTrue, range_with_len, flat_map, IsUsed, data_of_name}
 use Rattle.reiser_make.proofs.Laying.{Goes}
 use Rattle.reiser_make.proofs.layout.write_data.Given as goal
 

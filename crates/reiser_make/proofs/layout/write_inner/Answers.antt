@@ -1,11 +1,4 @@
-use Rattle.std.proofs.Common.{◌≡◌, ◌≤◌, ◌+◌, ◌-◌, ◌++◌, ℕ, length, sym, ap, ◌∙◌, arith}
-use Rattle.std.specs.List.{range_with_len, flat_map}
-use Rattle.fs_rows.specs.outside.History.{reads}
-use Rattle.reiser_make.specs.Inner.{root_level}
-use Rattle.reiser_make.specs.Layout.{IsUsed, laid_over, level_part}
-use Rattle.reiser_make.specs.Leaf.{leaves}
-use Rattle.reiser_make.specs.Shape.{Shape}
-use Rattle.reiser_make.specs.declared.level.Level.{Level}
+use Rattle.reiser_make.proofs.Imports.{◌≡◌, ◌≤◌, ◌+◌, ◌-◌, ◌++◌, ℕ, length, sym, ap, ◌∙◌, arith, range_with_len, flat_map, reads, root_level, IsUsed, laid_over, level_part, leaves, Shape, Level}
 use Rattle.reiser_make.proofs.Laying.{goes_none, goes_on, only_on}
 use Rattle.reiser_make.proofs.Lists.{flat_map_more}
 use Rattle.reiser_make.proofs.Rising.{climbs_first, climbs_more, climbs_below, climbed, below_third, below_few}

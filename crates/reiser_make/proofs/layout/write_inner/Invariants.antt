@@ -1,6 +1,4 @@
-use Rattle.std.proofs.Common.{◌-◌, IsTrue}
-use Rattle.std.specs.List.{range_with_len, flat_map}
-use Rattle.reiser_make.specs.Layout.{IsUsed, level_part}
+use Rattle.reiser_make.proofs.Imports.{◌-◌, IsTrue, range_with_len, flat_map, IsUsed, level_part}
 use Rattle.reiser_make.proofs.Laying.{Goes}
 use Rattle.reiser_make.proofs.Rising.{Climbs}
 use Rattle.reiser_make.proofs.layout.write_inner.Given as goal

@@ -1,10 +1,4 @@
-use Rattle.std.proofs.Common.{◌≡◌, ◌<◌, ℕ, length, map, ap, ◌∙◌, arith}
-use Rattle.std.specs.List.{range_with_len}
-use Rattle.reiser_make.specs.Inner.{needed, node_place}
-use Rattle.fs_rows.specs.outside.History.{reads}
-use Rattle.reiser_make.specs.Layout.{IsUsed, laid_over, leaf_placed}
-use Rattle.reiser_make.specs.Leaf.{leaves}
-use Rattle.reiser_make.specs.declared.level.Level.{Level}
+use Rattle.reiser_make.proofs.Imports.{◌≡◌, ◌<◌, ℕ, length, map, ap, ◌∙◌, arith, range_with_len, needed, node_place, reads, IsUsed, laid_over, leaf_placed, leaves, Level}
 use Rattle.reiser_make.proofs.Counting.{leaves_begin}
 use Rattle.reiser_make.proofs.Laying.{goes_none, goes_more, only_more, in_range}
 use Rattle.reiser_make.proofs.Placed.{used_below, node_at}

@@ -1,8 +1,4 @@
-use Rattle.std.proofs.Common.{◌≡◌, drop, IsTrue, map}
-use Rattle.std.specs.List.{range_with_len}
-use Rattle.reiser_make.specs.Layout.{IsUsed, leaf_placed}
-use Rattle.reiser_make.specs.Leaf.{leaves, leaves_of}
-use Rattle.reiser_make.specs.Walk.{items_behind}
+use Rattle.reiser_make.proofs.Imports.{◌≡◌, drop, IsTrue, map, range_with_len, IsUsed, leaf_placed, leaves, leaves_of, items_behind}
 use Rattle.reiser_make.proofs.Laying.{Goes}
 use Rattle.reiser_make.proofs.layout.write_leaves.Given as goal
 

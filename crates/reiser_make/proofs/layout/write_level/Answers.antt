@@ -1,11 +1,4 @@
-use Rattle.std.proofs.Common.{◌≡◌, ◌+◌, length, map, sym, ap, ◌∙◌, arith}
-use Rattle.std.specs.List.{range_with_len}
-use Rattle.fs_rows.specs.outside.History.{reads}
-use Rattle.reiser_make.specs.Inner.{needed, node_place, level_nodes}
-use Rattle.reiser_make.specs.Layout.{IsUsed, laid_over, inner_placed}
-use Rattle.reiser_make.specs.Leaf.{leaves}
-use Rattle.reiser_make.specs.Levels.{level_of}
-use Rattle.reiser_make.specs.declared.level.Level.{Level}
+use Rattle.reiser_make.proofs.Imports.{◌≡◌, ◌+◌, length, map, sym, ap, ◌∙◌, arith, range_with_len, reads, needed, node_place, level_nodes, IsUsed, laid_over, inner_placed, leaves, level_of, Level}
 use Rattle.reiser_make.proofs.Laying.{goes_none, goes_more, only_more, in_range}
 use Rattle.reiser_make.proofs.Placed.{used_below, level_at}
 use Rattle.reiser_make.proofs.Rising.{level_more, below_few}

@@ -1,7 +1,4 @@
-use Rattle.std.proofs.Common.{◌≡◌, ap, ◌∙◌, arith}
-use Rattle.fs_rows.specs.outside.History.{reads}
-use Rattle.reiser_make.specs.Inner.{needed, total}
-use Rattle.reiser_make.specs.Layout.{IsUsed, laid_over, system_placed, system_row}
+use Rattle.reiser_make.proofs.Imports.{◌≡◌, ap, ◌∙◌, arith, reads, needed, total, IsUsed, laid_over, system_placed, system_row}
 use Rattle.reiser_make.proofs.Laying.{goes_none, goes_more, only_more, in_range}
 use Rattle.reiser_make.proofs.Placed.{used_below, system_below, total_some}
 use Rattle.reiser_make.proofs.layout.write_system.Goals as goal

@@ -1,5 +1,4 @@
-use Rattle.std.proofs.Common.{IsTrue}
-use Rattle.reiser_make.specs.Layout.{IsUsed, system_row}
+use Rattle.reiser_make.proofs.Imports.{IsTrue, IsUsed, system_row}
 use Rattle.reiser_make.proofs.Laying.{Goes}
 use Rattle.reiser_make.proofs.layout.write_system.Given as goal
 

@@ -1,7 +1,4 @@
-use Rattle.std.proofs.Common.{◌++◌, ap, ◌∙◌, arith}
-use Rattle.fs_rows.specs.outside.History.{reads}
-use Rattle.fs_rows.proofs.outside.Crash.{writes_then}
-use Rattle.reiser_make.specs.Layout.{IsUsed, laid_over, volume_blocks, system_part, data_part, leaf_part, inner_part, bitmap_part}
+use Rattle.reiser_make.proofs.Imports.{◌++◌, ap, ◌∙◌, arith, reads, writes_then, IsUsed, laid_over, volume_blocks, system_part, data_part, leaf_part, inner_part, bitmap_part}
 use Rattle.reiser_make.proofs.Laying.{laid_five}
 use Rattle.reiser_make.proofs.Placed.{needed_some}
 use Rattle.reiser_make.proofs.layout.write_volume.Goals as goal

@@ -1,8 +1,4 @@
-use Rattle.std.proofs.Common.{ℕ, ap, subst, ◌∙◌}
-use Rattle.fs_rows.specs.outside.History.{WritesOnly}
-use Rattle.reiser_make.specs.Inner.{needed}
-use Rattle.reiser_make.specs.Layout.{IsUsed}
-use Rattle.reiser_make.specs.declared.bitmap.Usage.{Usage}
+use Rattle.reiser_make.proofs.Imports.{ℕ, ap, subst, ◌∙◌, WritesOnly, needed, IsUsed, Usage}
 use Rattle.reiser_make.proofs.maker.make_version.Goals as goal
 
 abbrev usage_as : ℕ → ℕ → Usage

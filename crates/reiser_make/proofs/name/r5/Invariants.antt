@@ -1,6 +1,4 @@
-use Rattle.std.proofs.Common.{◌≡◌, take}
-use Rattle.std.specs.List.{fold}
-use Rattle.reiser_make.specs.Names.{r5_step}
+use Rattle.reiser_make.proofs.Imports.{◌≡◌, take, fold, r5_step}
 use Rattle.reiser_make.proofs.name.r5.Given as goal
 
 abbrev pub invariant-loop-byte : goal.invariant-loop-byte

@@ -1,7 +1,4 @@
-use Rattle.std.proofs.Common.{Bool, sym, subst}
-use Rattle.sink_text.specs.outside.History.{WritesOnly}
-use Rattle.reiser_make_app.specs.Order.{Ordered, seen}
-use Rattle.reiser_make_app.specs.Outcome.{Uses}
+use Rattle.reiser_make_app.proofs.Imports.{Bool, sym, subst, WritesOnly, Ordered, seen, Uses}
 use Rattle.reiser_make_app.proofs.top.make_ordered.Goals as goal
 
 abbrev in_version : Ordered → Bool → Ordered

@@ -1,7 +1,5 @@
-use Rattle.std.proofs.Common.{ℕ, List, arith}
+use Rattle.reiser_make_app.proofs.Imports.{ℕ, List, arith, seen, Uses}
 use Rattle.sink_text.proofs.outside.Crash.{writes_then, sync_only}
-use Rattle.reiser_make_app.specs.Order.{seen}
-use Rattle.reiser_make_app.specs.Outcome.{Uses}
 use Rattle.reiser_make_app.proofs.Making.{made_whole}
 use Rattle.reiser_make_app.proofs.top.write_ordered.Goals as goal
 

@@ -1,4 +1,4 @@
-use Rattle.std.proofs.Common.{arith}
+use Rattle.reiser_make_app.proofs.Imports.{arith}
 use Rattle.reiser_make_app.proofs.Counts.{too_few, too_many}
 use Rattle.reiser_make_app.proofs.words.three_words.Goals as goal
 use Rattle.reiser_make_app.proofs.words.three_words.Goals.{in_default-via-then-words-lt3, in_default-via-else-words-lt3+else-words-lt4}

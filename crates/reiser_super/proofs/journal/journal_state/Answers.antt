@@ -1,6 +1,4 @@
-use Rattle.std.proofs.Common.{◌≡◌, ◌+◌, ◌∙◌, ap, subst, List, ℕ, []}
-use Rattle.std.specs.Prelude.{OnOk, IfErr}
-use Rattle.refusals.specs.outside.History.{Image, block_at}
+use Rattle.reiser_super.proofs.Imports.{◌≡◌, ◌+◌, ◌∙◌, ap, subst, List, ℕ, [], OnOk, IfErr, Image, block_at}
 use Rattle.reiser_super.specs.State.{IsPendingIn}
 use Rattle.reiser_super.proofs.Waiting.{at_place, at_log}
 use Rattle.reiser_super.proofs.journal.journal_state.Goals as goal

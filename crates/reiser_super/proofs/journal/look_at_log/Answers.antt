@@ -1,6 +1,4 @@
-use Rattle.std.proofs.Common.{◌≡◌, ◌+◌, ◌∙◌, ap, arith}
-use Rattle.refusals.specs.outside.History.{Image, block_at}
-use Rattle.reiser_super.specs.Journal.{log_block}
+use Rattle.reiser_super.proofs.Imports.{◌≡◌, ◌+◌, ◌∙◌, ap, arith, Image, block_at, log_block}
 use Rattle.reiser_super.proofs.Waiting.{among_all, none_more, none_at_all}
 use Rattle.reiser_super.proofs.journal.look_at_log.Goals as goal
 

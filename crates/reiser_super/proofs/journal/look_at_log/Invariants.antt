@@ -1,7 +1,4 @@
-use Rattle.std.proofs.Common.{◌≡◌, [], map, IsTrue}
-use Rattle.std.specs.Prelude.{filter}
-use Rattle.std.specs.List.{range_with_len}
-use Rattle.reiser_super.specs.Journal.{is_descriptor, log_block}
+use Rattle.reiser_super.proofs.Imports.{◌≡◌, [], map, IsTrue, filter, range_with_len, is_descriptor, log_block}
 use Rattle.reiser_super.proofs.journal.look_at_log.Given as goal
 
 abbrev pub invariant-loop-place : goal.invariant-loop-place

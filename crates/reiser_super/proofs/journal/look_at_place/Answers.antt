@@ -1,6 +1,4 @@
-use Rattle.std.proofs.Common.{◌≡◌, ◌+◌, ◌∙◌, ap}
-use Rattle.refusals.specs.outside.History.{Image, block_at}
-use Rattle.reiser_super.specs.Journal.{log_block}
+use Rattle.reiser_super.proofs.Imports.{◌≡◌, ◌+◌, ◌∙◌, ap, Image, block_at, log_block}
 use Rattle.reiser_super.proofs.Waiting.{not_newer, not_committed, committed}
 use Rattle.reiser_super.proofs.journal.look_at_place.Goals as goal
 

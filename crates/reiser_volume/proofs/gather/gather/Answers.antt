@@ -1,12 +1,5 @@
-use Rattle.std.proofs.Common.{filter, sym, subst}
-use Rattle.std.proofs.lemmas.Result.{err_from_is_err_and}
-use Rattle.reiser_bitmap.specs.refusals.declared.answer.VolAnswer.{VolAnswer}
-use Rattle.reiser_volume.specs.Answers.{RefusesVolume, IsVerdict}
-use Rattle.reiser_volume_names.specs.Known.{is_known}
-use Rattle.reiser_volume.specs.Volume.{volume_items}
+use Rattle.reiser_volume.proofs.Imports.{filter, sym, subst, err_from_is_err_and, VolAnswer, RefusesVolume, IsVerdict, is_known, volume_items, keys_found, known_named, stat_found, sorted_reach, links_found}
 use Rattle.reiser_volume.proofs.Refusals.{objects_refused, names_refused}
-use Rattle.reiser_volume_names.proofs.Tabling.{keys_found, known_named, stat_found, sorted_reach}
-use Rattle.reiser_volume_names.proofs.Uniqueness.{links_found}
 use Rattle.reiser_volume.proofs.gather.gather.Goals as goal
 
 pub returns-in_err-reached-clause-gathered : goal.returns-in_err-reached-clause-gathered

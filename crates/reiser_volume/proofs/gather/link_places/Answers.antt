@@ -1,9 +1,4 @@
-use Rattle.std.proofs.Common.{◌≡◌, ◌<◌, List, length, get_or, map, Some, sym, ap, refl, ◌∙◌, arith}
-use Rattle.std.specs.Prelude.{slice_get}
-use Rattle.std.proofs.lemmas.Option.{slice_get_read, get_or_from_slice_get}
-use Rattle.reiser_volume_objects.specs.declared.naming.Naming.{Naming}
-use Rattle.reiser_volume_names.specs.Known.{is_known}
-use Rattle.reiser_volume_names.specs.Passes.{is_link}
+use Rattle.reiser_volume.proofs.Imports.{◌≡◌, ◌<◌, List, length, get_or, map, Some, sym, ap, refl, ◌∙◌, arith, slice_get, slice_get_read, get_or_from_slice_get, Naming, is_known, is_link}
 use Rattle.reiser_volume.proofs.Placing.{place_more, place_same}
 use Rattle.reiser_volume.proofs.gather.link_places.Goals.{then-is_link+in_ok-push, else-is_link}
 use Rattle.reiser_volume.proofs.gather.link_places.Goals as goal

@@ -1,5 +1,4 @@
-use Rattle.indexmap.specs.IndexMap.{keys}
-use Rattle.reiser_volume_names.proofs.Tabling.{ascending}
+use Rattle.reiser_volume.proofs.Imports.{keys, ascending}
 use Rattle.reiser_volume.proofs.gather.sort.Goals as goal
 
 pub returns-clause-ascends : goal.returns-clause-ascends

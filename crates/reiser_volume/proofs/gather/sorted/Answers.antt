@@ -1,4 +1,4 @@
-use Rattle.reiser_volume_names.proofs.Tabling.{ascending}
+use Rattle.reiser_volume.proofs.Imports.{ascending}
 use Rattle.reiser_volume.proofs.gather.sorted.Goals as goal
 
 pub returns-clause-ascends : goal.returns-clause-ascends

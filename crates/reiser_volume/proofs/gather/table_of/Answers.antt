@@ -1,7 +1,4 @@
-use Rattle.std.proofs.Common.{List, get_or, take, subst, sym, refl}
-use Rattle.reiser_volume_objects.specs.declared.key.ObjectKey.{ObjectKey}
-use Rattle.reiser_volume_names.specs.Known.{HasStats}
-use Rattle.reiser_volume_names.proofs.Tabling.{take_next}
+use Rattle.reiser_volume.proofs.Imports.{List, get_or, take, subst, sym, refl, ObjectKey, HasStats, take_next}
 use Rattle.reiser_volume.proofs.gather.table_of.Goals as goal
 
 pub loop-key-preserved : goal.loop-key-preserved

@@ -1,7 +1,4 @@
-use Rattle.std.proofs.Common.{◌∙◌, sym, ap}
-use Rattle.reiser_volume_objects.specs.declared.stat.ObjectStat.{ObjectStat}
-use Rattle.reiser_volume_objects.specs.Kinds.{kind_of_mode}
-use Rattle.reiser_volume.specs.Volume.{volume_items}
+use Rattle.reiser_volume.proofs.Imports.{◌∙◌, sym, ap, ObjectStat, kind_of_mode, volume_items}
 use Rattle.reiser_volume.proofs.Holding.{none_some, known_stat}
 use Rattle.reiser_volume.proofs.rows.known.Goals as goal
 

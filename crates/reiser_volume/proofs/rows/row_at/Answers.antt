@@ -1,17 +1,11 @@
-use Rattle.std.proofs.Common.{sym, ap, subst}
-use Rattle.std.proofs.lemmas.Result.{err_from_is_err_and}
-use Rattle.reiser_volume_contents.specs.Answers.{IsFaultOrMemory}
-use Rattle.reiser_volume_objects.specs.declared.key.ObjectKey.{ObjectKey}
-use Rattle.reiser_super.specs.declared.superblock.Super.{Super}
-use Rattle.reiser_volume.specs.Made.{IsKnownAt, IsOf, bytes_at}
-use Rattle.reiser_volume.specs.Volume.{volume_items}
+use Rattle.reiser_volume.proofs.Imports.{sym, ap, subst, err_from_is_err_and, IsFaultOrMemory, ObjectKey, Super, IsKnownAt, IsOfVolume, bytes_at, volume_items}
 use Rattle.reiser_volume.proofs.Rowed.{is_of, content_there, least_there, row_made}
 use Rattle.reiser_volume.proofs.rows.row_at.Goals as goal
 
 pub returns-in_err-known-clause-row : goal.returns-in_err-known-clause-row
 returns-in_err-known-clause-row g c = λ tells image is accepted opened list has i at before.
     let of = is_of image c.args.volume.now list accepted opened has i c.args.path.now at c.args.rows.now before in
-    absurd (c.in_err-known.ensures.known image (subst (λ (k : ObjectKey). IsOf image c.args.volume.now k) (sym c.key_at-key.ensures) of))
+    absurd (c.in_err-known.ensures.known image (subst (λ (k : ObjectKey). IsOfVolume image c.args.volume.now k) (sym c.key_at-key.ensures) of))
 
 pub returns-in_err-content-clause-row : goal.returns-in_err-content-clause-row
 returns-in_err-content-clause-row g c = λ tells image is accepted opened list has i at before.
@@ -19,7 +13,7 @@ returns-in_err-content-clause-row g c = λ tells image is accepted opened list h
     let p = c.args.path.now in
     let rows = c.args.rows.now in
     let of = is_of image volume list accepted opened has i p at rows before in
-    let of_key = subst (λ (k : ObjectKey). IsOf image volume k) (sym c.key_at-key.ensures) of in
+    let of_key = subst (λ (k : ObjectKey). IsOfVolume image volume k) (sym c.key_at-key.ensures) of in
     let known = c.in_ok-known.ensures.known image of_key in
     let there = content_there image volume list accepted opened has i p at rows before c.in_ok-known.known (subst (λ (k : ObjectKey). IsKnownAt (volume_items image) k c.in_ok-known.known) c.key_at-key.ensures known) (λ r. r.now) c.first_row-first.result c.first_row-first.ensures in
     let bytes = ap (λ (k : ObjectKey). bytes_at image (volume_items image) k c.in_ok-known.known.stat c.in_ok-known.known.kind) (sym c.key_at-key.ensures) in
@@ -33,7 +27,7 @@ returns-clause-row g c = λ tells image is accepted opened list has i at before.
     let p = c.args.path.now in
     let rows = c.args.rows.now in
     let of = is_of image volume list accepted opened has i p at rows before in
-    let of_key = subst (λ (k : ObjectKey). IsOf image volume k) (sym c.key_at-key.ensures) of in
+    let of_key = subst (λ (k : ObjectKey). IsOfVolume image volume k) (sym c.key_at-key.ensures) of in
     let known = c.in_ok-known.ensures.known image of_key in
     let own = subst (λ (k : ObjectKey). IsKnownAt (volume_items image) k c.in_ok-known.known) c.key_at-key.ensures known in
     let there = content_there image volume list accepted opened has i p at rows before c.in_ok-known.known own (λ r. r.now) c.first_row-first.result c.first_row-first.ensures in

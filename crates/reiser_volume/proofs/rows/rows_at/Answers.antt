@@ -1,11 +1,4 @@
-use Rattle.std.proofs.Common.{◌∙◌, ◌<◌, ◌≤◌, List, map, length, sym, ap, subst, refl, arith}
-use Rattle.std.proofs.lemmas.List.{take_all}
-use Rattle.std.proofs.lemmas.Option.{slice_get_read}
-use Rattle.std.proofs.lemmas.Result.{err_from_is_err_and}
-use Rattle.fs_rows.specs.Rows.{row_of}
-use Rattle.fs_paths.specs.declared.link.PathTo.{PathTo}
-use Rattle.reiser_volume_contents.specs.Answers.{IsFaultOrMemory}
-use Rattle.reiser_volume.specs.Made.{whole_row}
+use Rattle.reiser_volume.proofs.Imports.{◌∙◌, ◌<◌, ◌≤◌, List, map, length, sym, ap, subst, refl, arith, take_all, slice_get_read, err_from_is_err_and, row_of, PathTo, IsFaultOrMemory, whole_row}
 use Rattle.reiser_volume.proofs.Rowed.{rows_more}
 use Rattle.reiser_volume.proofs.rows.rows_at.Goals as goal
 

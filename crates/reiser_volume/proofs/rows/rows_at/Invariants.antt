@@ -1,10 +1,4 @@
-use Rattle.std.proofs.Common.{◌≡◌, map, take, IsTrue}
-use Rattle.reiser_bitmap.specs.outside.History.{Image}
-use Rattle.fs_rows.specs.Rows.{row_of}
-use Rattle.reiser_volume.specs.Made.{whole_row}
-use Rattle.reiser_volume.specs.Opened.{IsOpened}
-use Rattle.reiser_volume.specs.Volume.{IsAccepted}
-use Rattle.reiser_volume.specs.Ways.{HasPaths}
+use Rattle.reiser_volume.proofs.Imports.{◌≡◌, map, take, IsTrue, Image, row_of, whole_row, IsOpened, IsAccepted, HasPaths}
 use Rattle.reiser_volume.proofs.rows.rows_at.Given as goal
 
 abbrev pub invariant-loop-i : goal.invariant-loop-i

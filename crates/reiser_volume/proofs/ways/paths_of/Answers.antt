@@ -1,4 +1,4 @@
-use Rattle.std.proofs.lemmas.Result.{IfOk-weaker}
+use Rattle.reiser_volume.proofs.Imports.{IfOk-weaker}
 use Rattle.reiser_volume.proofs.Leading.{has_paths}
 use Rattle.reiser_volume.proofs.ways.paths_of.Goals as goal
 

@@ -1,5 +1,4 @@
-use Rattle.std.proofs.Common.{◌≤◌, List, ℕ, length, ap, arith}
-use Rattle.reiser_volume_contents.specs.Holds.{object_items}
+use Rattle.reiser_volume_contents.proofs.Imports.{◌≤◌, List, ℕ, length, ap, arith, object_items}
 use Rattle.reiser_volume_contents.proofs.Files.{file_items}
 use Rattle.reiser_volume_contents.proofs.Naming.{names_own}
 use Rattle.reiser_volume_contents.proofs.calls.file_tail.Goals as goal

@@ -1,4 +1,4 @@
-use Rattle.reiser_volume_contents.specs.Holds.{object_items}
+use Rattle.reiser_volume_contents.proofs.Imports.{object_items}
 use Rattle.reiser_volume_contents.proofs.Files.{link_answer}
 use Rattle.reiser_volume_contents.proofs.Naming.{memory_names}
 use Rattle.reiser_volume_contents.proofs.calls.link_target.Goals as goal

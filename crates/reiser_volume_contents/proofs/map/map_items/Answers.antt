@@ -1,10 +1,5 @@
-use Rattle.std.proofs.Common.{◌∙◌, ◌++◌, ◌∷◌, ℕ, List, [], sym, ap, subst, arith}
-use Rattle.std.proofs.lemmas.Result.{err_from_is_err_and}
-use Rattle.reiser_volume_objects.specs.reiser_walk.Items.{Item}
+use Rattle.reiser_volume_contents.proofs.Imports.{◌∙◌, ◌++◌, ◌∷◌, ℕ, List, [], sym, ap, subst, arith, err_from_is_err_and, ReiserItem, items_of, IsFaultOrMemory, NamesLeaf, items_ahead, standing}
 use Rattle.reiser_volume_files.specs.Runs.{file_runs}
-use Rattle.reiser_volume_objects.specs.Keys.{items_of}
-use Rattle.reiser_volume_contents.specs.Answers.{IsFaultOrMemory, NamesLeaf}
-use Rattle.reiser_volume_contents.specs.Reads.{ahead, standing}
 use Rattle.reiser_volume_contents.proofs.Files.{next_follows, stands_head, stands_body, fault_of}
 use Rattle.reiser_volume_contents.proofs.map.map_items.Goals as goal
 
@@ -27,7 +22,7 @@ loop-mapper-preserved g c =
           let same = g.met.S.BlockSource.kept_blocks c.args.src.now c.loop-mapper.src tells before.kept ∙ is in
           let told = before.told tells image is all are reads in
           let came = rw c.if-branch.true at (c.in_ok-advance.ensures.comes tells image same told.0 all told.1) in
-          let later : List Item = items_of c.advance.new.self.key (ahead image c.args.leaves.now c.advance.new.self) in (
+          let later : List ReiserItem = items_of c.advance.new.self.key (items_ahead image c.args.leaves.now c.advance.new.self) in (
             told.0 ++ came.0 ∷ [],
             came.1,
             c.in_ok-add_item.ensures.given told.0 came.0 (stands_head (standing c.advance.new.self) came.0 c.head.result came.2 c.head.ensures) (stands_body (standing c.advance.new.self) came.0 c.body.result.now came.2 c.body.ensures)
@@ -42,7 +37,7 @@ returns-clause-map g c = λ tells image is all are reads.
     let told = c.loop-mapper.invariant.told tells image is all are reads in
     let over = rw c.if-branch.false at (c.in_ok-advance.ensures.comes tells image same told.0 all told.1) in
     c.in_ok-map.ensures told.0 told.2
-    ∙ (ap (λ (xs : List Item). file_runs xs c.loop-mapper.mapper.size) over ∙ ap (λ (n : ℕ). file_runs all n) c.loop-mapper.invariant.size)
+    ∙ (ap (λ (xs : List ReiserItem). file_runs xs c.loop-mapper.mapper.size) over ∙ ap (λ (n : ℕ). file_runs all n) c.loop-mapper.invariant.size)
 
 pub returns-in_err-advance-clause-names : goal.returns-in_err-advance-clause-names
 returns-in_err-advance-clause-names g c = λ first from.

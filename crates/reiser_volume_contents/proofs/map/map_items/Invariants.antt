@@ -1,9 +1,4 @@
-use Rattle.std.proofs.Common.{◌≡◌, ℕ, List, [], IsTrue}
-use Rattle.reiser_volume_objects.specs.outside.History.{Image}
-use Rattle.reiser_volume_objects.specs.reiser_walk.Items.{Item}
-use Rattle.reiser_volume_files.specs.States.{MapsFile}
-use Rattle.reiser_volume_contents.specs.Holds.{AreFileItems}
-use Rattle.reiser_volume_contents.specs.Reads.{Reads, StandsFrom, fuel}
+use Rattle.reiser_volume_contents.proofs.Imports.{◌≡◌, ℕ, List, [], IsTrue, Image, ReiserItem, MapsFile, AreFileItems, Reads, StandsFrom, fuel}
 use Rattle.reiser_volume_contents.proofs.map.map_items.Given as goal
 
 abbrev pub invariant-loop-mapper : goal.invariant-loop-mapper
@@ -11,8 +6,8 @@ invariant-loop-mapper g l = record {
   kept : g.S.BlockSource.kept l.fn.src l.src;
   same : g.S.BlockSource.faults l.src ≡ g.S.BlockSource.faults l.fn.src;
   size : l.mapper.size ≡ l.size;
-  told : IsTrue g.S.BlockSource.tells → (image : Image) → g.S.BlockSource.blocks l.fn.src ≡ image → (all : List Item) → AreFileItems (g.S.BlockSource.size l.fn.src) all → Reads l.fn.items l.leaves image [] all
-      → (given : List Item) × Reads l.items l.leaves image given all × MapsFile l.mapper given;
+  told : IsTrue g.S.BlockSource.tells → (image : Image) → g.S.BlockSource.blocks l.fn.src ≡ image → (all : List ReiserItem) → AreFileItems (g.S.BlockSource.size l.fn.src) all → Reads l.fn.items l.leaves image [] all
+      → (given : List ReiserItem) × Reads l.items l.leaves image given all × MapsFile l.mapper given;
   from : (first : ℕ) → StandsFrom first l.leaves l.fn.items → StandsFrom first l.leaves l.items;
 }
 

@@ -1,5 +1,4 @@
-use Rattle.std.proofs.Common.{refl, sym, subst, arith}
-use Rattle.reiser_volume_contents.specs.Reads.{IsFrom, standing}
+use Rattle.reiser_volume_contents.proofs.Imports.{refl, sym, subst, arith, IsFrom, standing}
 use Rattle.reiser_volume_contents.proofs.Files.{stands_head, stands_body}
 use Rattle.reiser_volume_contents.proofs.mark.mark_item.Goals as goal
 

@@ -1,12 +1,5 @@
-use Rattle.std.proofs.Common.{◌≡◌, ◌∙◌, ◌++◌, ◌∷◌, ℕ, List, [], refl, true, sym, ap, subst, arith}
-use Rattle.std.proofs.lemmas.Result.{err_from_is_err_and}
+use Rattle.reiser_volume_contents.proofs.Imports.{◌≡◌, ◌∙◌, ◌++◌, ◌∷◌, ℕ, List, [], refl, true, sym, ap, subst, arith, err_from_is_err_and, ReiserItem, file_bytes, are_inside, items_of, IsFault, NamesLeaf, items_ahead}
 use Rattle.fs_rows.specs.Mark.{mark_of_bytes}
-use Rattle.reiser_volume_objects.specs.reiser_walk.Items.{Item}
-use Rattle.reiser_volume_files.specs.Bytes.{file_bytes}
-use Rattle.reiser_volume_files.specs.Pieces.{are_inside}
-use Rattle.reiser_volume_objects.specs.Keys.{items_of}
-use Rattle.reiser_volume_contents.specs.Answers.{IsFault, NamesLeaf}
-use Rattle.reiser_volume_contents.specs.Reads.{ahead}
 use Rattle.reiser_volume_contents.proofs.Files.{next_follows, next_inside}
 use Rattle.reiser_volume_contents.proofs.mark.mark_items.Goals as goal
 
@@ -40,7 +33,7 @@ loop-marker-preserved g c =
           let next = g.met.S.BlockSource.kept_blocks c.args.src.now c.advance.new.src tells kept ∙ is in
           let told = before.told tells image is all are reads in
           let came = rw c.if-branch.true at (c.in_ok-advance.ensures.comes tells image same told.0 all told.1) in
-          let later : List Item = items_of c.advance.new.self.key (ahead image c.args.leaves.now c.advance.new.self) in
+          let later : List ReiserItem = items_of c.advance.new.self.key (items_ahead image c.args.leaves.now c.advance.new.self) in
           let inside = next_inside (g.S.BlockSource.size c.args.src.now) all told.0 came.0 later are came.1.whole in
           let here = subst (λ (n : ℕ). are_inside came.0.head.kind came.0.body n ≡ true) (sym (g.met.S.BlockSource.kept_size c.args.src.now c.advance.new.src kept)) inside in (
             told.0 ++ came.0 ∷ [],
@@ -62,7 +55,7 @@ returns-in_err-mark_item-clause-mark g c = λ tells image is all are reads.
     let next = g.met.S.BlockSource.kept_blocks c.args.src.now c.advance.new.src tells kept ∙ is in
     let told = before.told tells image is all are reads in
     let came = rw c.if-branch.true at (c.in_ok-advance.ensures.comes tells image same told.0 all told.1) in
-    let later : List Item = items_of c.advance.new.self.key (ahead image c.args.leaves.now c.advance.new.self) in
+    let later : List ReiserItem = items_of c.advance.new.self.key (items_ahead image c.args.leaves.now c.advance.new.self) in
     let inside = next_inside (g.S.BlockSource.size c.args.src.now) all told.0 came.0 later are came.1.whole in
     let here = subst (λ (n : ℕ). are_inside came.0.head.kind came.0.body n ≡ true) (sym (g.met.S.BlockSource.kept_size c.args.src.now c.advance.new.src kept)) inside in
     let fault = c.in_err-mark_item.ensures.given tells image next told.0 came.0 came.2 (next_follows (g.S.BlockSource.size c.args.src.now) all told.0 came.0 later are came.1.whole) here told.2 in
@@ -75,7 +68,7 @@ returns-clause-mark g c = λ tells image is all are reads.
     let told = c.loop-marker.invariant.told tells image is all are reads in
     let over = rw c.if-branch.false at (c.in_ok-advance.ensures.comes tells image same told.0 all told.1) in
     c.finish.ensures image told.0 told.2
-    ∙ (ap (λ (xs : List Item). mark_of_bytes (file_bytes image xs c.loop-marker.marker.file.size)) over ∙ ap (λ (n : ℕ). mark_of_bytes (file_bytes image all n)) c.loop-marker.invariant.size)
+    ∙ (ap (λ (xs : List ReiserItem). mark_of_bytes (file_bytes image xs c.loop-marker.marker.file.size)) over ∙ ap (λ (n : ℕ). mark_of_bytes (file_bytes image all n)) c.loop-marker.invariant.size)
 
 pub returns-in_err-advance-clause-names : goal.returns-in_err-advance-clause-names
 returns-in_err-advance-clause-names g c = λ first from.

@@ -1,10 +1,4 @@
-use Rattle.std.proofs.Common.{◌∙◌, ◌++◌, ◌∷◌, List, [], refl, sym, ap, subst, arith}
-use Rattle.std.proofs.lemmas.Result.{err_from_is_err_and}
-use Rattle.reiser_volume_objects.specs.reiser_walk.Items.{Item}
-use Rattle.reiser_volume_files.specs.Bytes.{tail_block}
-use Rattle.reiser_volume_objects.specs.Keys.{items_of}
-use Rattle.reiser_volume_contents.specs.Answers.{IsFault, NamesLeaf}
-use Rattle.reiser_volume_contents.specs.Reads.{ahead, standing}
+use Rattle.reiser_volume_contents.proofs.Imports.{◌∙◌, ◌++◌, ◌∷◌, List, [], refl, sym, ap, subst, arith, err_from_is_err_and, ReiserItem, tail_block, items_of, IsFault, NamesLeaf, items_ahead, standing}
 use Rattle.reiser_volume_contents.proofs.Files.{next_follows, stands_head, stands_body, empty_tail}
 use Rattle.reiser_volume_contents.proofs.tail.gather_items.Goals as goal
 
@@ -34,7 +28,7 @@ loop-into-preserved g c =
           let same = g.met.S.BlockSource.kept_blocks c.args.src.now c.loop-into.src tells before.kept ∙ is in
           let told = before.told tells image is all are reads in
           let came = rw c.if-branch.true at (c.in_ok-advance.ensures.comes tells image same told.0 all told.1) in
-          let later : List Item = items_of c.advance.new.self.key (ahead image c.args.leaves.now c.advance.new.self) in (
+          let later : List ReiserItem = items_of c.advance.new.self.key (items_ahead image c.args.leaves.now c.advance.new.self) in (
             told.0 ++ came.0 ∷ [],
             came.1,
             c.put_tail.ensures told.0 came.0 (stands_head (standing c.advance.new.self) came.0 c.head.result came.2 c.head.ensures) (stands_body (standing c.advance.new.self) came.0 c.body.result.now came.2 c.body.ensures)
@@ -48,7 +42,7 @@ returns-clause-tail g c = λ tells image is all are reads.
     let same = g.met.S.BlockSource.kept_blocks c.args.src.now c.loop-into.src tells c.loop-into.invariant.kept ∙ is in
     let told = c.loop-into.invariant.told tells image is all are reads in
     let over = rw c.if-branch.false at (c.in_ok-advance.ensures.comes tells image same told.0 all told.1) in
-    told.2 ∙ ap (λ (xs : List Item). tail_block xs c.args.size c.args.k) over
+    told.2 ∙ ap (λ (xs : List ReiserItem). tail_block xs c.args.size c.args.k) over
 
 pub returns-in_err-advance-clause-names : goal.returns-in_err-advance-clause-names
 returns-in_err-advance-clause-names g c = λ first from.

@@ -1,5 +1,4 @@
-use Rattle.fs_rows.proofs.FileMarks.{block_of_file}
-use Rattle.reiser_volume_files.specs.Bytes.{file_byte}
+use Rattle.reiser_volume_files.proofs.Imports.{block_of_file, file_byte}
 use Rattle.reiser_volume_files.proofs.laws.blocks_of_bytes.Goals as goal
 
 pub returns : goal.returns

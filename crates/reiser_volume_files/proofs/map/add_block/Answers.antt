@@ -1,8 +1,4 @@
-use Rattle.std.proofs.Common.{◌≡◌, ◌+◌, ◌-◌, ◌∷◌, ◌++◌, ◌∙◌, ◌<◌, [], List, length, set, OnOk, sym, ap, subst, eqb, arith}
-use Rattle.std.proofs.lemmas.Bool.{and_parts, eqb-true}
-use Rattle.std.proofs.lemmas.Option.{get_or_from_slice_get}
-use Rattle.reiser_volume_files.specs.declared.map.FileRun.{FileRun}
-use Rattle.reiser_volume_files.specs.Runs.{goes_on, run_of, longer, with_block, is_next}
+use Rattle.reiser_volume_files.proofs.Imports.{◌≡◌, ◌+◌, ◌-◌, ◌∷◌, ◌++◌, ◌∙◌, ◌<◌, [], List, length, set, OnOk, sym, ap, subst, eqb, arith, and_parts, eqb-true, get_or_from_slice_get, FileRun, goes_on, run_of, longer, with_block, is_next}
 use Rattle.reiser_volume_files.proofs.Joining.{run_grown, run_begun, first_run}
 use Rattle.reiser_volume_files.proofs.map.add_block.Goals as goal
 use Rattle.reiser_volume_files.proofs.map.add_block.Goals.{then-len-gt0+else-goes_on, else-len-gt0}

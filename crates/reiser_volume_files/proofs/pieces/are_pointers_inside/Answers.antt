@@ -1,10 +1,5 @@
-use Rattle.std.proofs.Common.{◌∙◌, ◌&&◌, ℕ, Bool, List, get_or, sym, ap, arith}
-use Rattle.std.specs.List.{list_all}
-use Rattle.std.proofs.lemmas.List.{take_all}
+use Rattle.reiser_volume_files.proofs.Imports.{◌∙◌, ◌&&◌, ℕ, Bool, List, get_or, sym, ap, arith, list_all, take_all, pointers, pointers_length, is_inside}
 use Rattle.std.proofs.lemmas.List.Folds.{list_all_at, list_all_more}
-use Rattle.reiser_walk.specs.reiser_items.Pointers.{pointers}
-use Rattle.reiser_walk.proofs.reiser_items.Lists.{pointers_length}
-use Rattle.reiser_volume_files.specs.Pieces.{is_inside}
 use Rattle.reiser_volume_files.proofs.pieces.are_pointers_inside.Goals as goal
 
 pub loop-j-preserved : goal.loop-j-preserved

@@ -1,7 +1,4 @@
-use Rattle.std.proofs.Common.{sym, ◌∙◌, arith}
-use Rattle.std.proofs.lemmas.Option.{get_or_from_slice_get}
-use Rattle.reiser_walk.specs.reiser_items.Pointers.{pointers}
-use Rattle.reiser_walk.proofs.reiser_items.Lists.{pointers_length, pointer_at}
+use Rattle.reiser_volume_files.proofs.Imports.{sym, ◌∙◌, arith, get_or_from_slice_get, pointers, pointers_length, pointer_at}
 use Rattle.reiser_volume_files.proofs.pieces.pointer.Goals as goal
 
 pub returns : goal.returns

@@ -1,9 +1,4 @@
-use Rattle.std.proofs.Common.{◌≡◌, ◌-◌, ◌∙◌, ℕ, List, [], ◌∷◌, ◌++◌, min, take, length, refl, sym, ap, subst, arith, ◌⊎◌}
-use Rattle.std.proofs.lemmas.List.{take_min}
-use Rattle.reiser_walk.specs.reiser_node.declared.head.ItemHead.{ItemHead}
-use Rattle.reiser_walk.specs.reiser_node.declared.head.ItemKind.TheVariants.{Stat, Indirect, Directory}
-use Rattle.fs_rows.specs.Pieces.{Overlays}
-use Rattle.reiser_volume_files.specs.Bytes.{direct_content}
+use Rattle.reiser_volume_files.proofs.Imports.{◌≡◌, ◌-◌, ◌∙◌, ℕ, List, [], ◌∷◌, ◌++◌, min, take, length, refl, sym, ap, subst, arith, ◌⊎◌, take_min, ItemHead, Stat, Indirect, Directory, Overlays, direct_content}
 use Rattle.reiser_volume_files.proofs.Tails.{tail_overlays, other_tail, none_by_kind}
 use Rattle.reiser_volume_files.proofs.tail.put_tail.Goals as goal
 

@@ -1,11 +1,5 @@
-use Rattle.std.proofs.Common.{List, take}
-use Rattle.indexmap.specs.IndexSet.{contains}
-use Rattle.reiser_volume_objects.specs.reiser_walk.Items.{Item}
-use Rattle.reiser_volume_objects.specs.Keys.{same_key}
-use Rattle.reiser_volume_objects.specs.Table.{HasNoted}
-use Rattle.reiser_volume_names.specs.Again.{HasDirectories}
-use Rattle.reiser_volume_names.specs.Passes.{link_list}
+use Rattle.reiser_volume_names.proofs.Imports.{List, take, contains, ReiserItem, same_key, HasNoted, HasDirectories, link_list}
 use Rattle.reiser_volume_names.proofs.again.check_directories.Given as goal
 
 abbrev pub invariant-loop-naming : goal.invariant-loop-naming
-invariant-loop-naming l = (items : List Item) → HasNoted l.objects items → HasDirectories items l.seen (link_list (contains same_key l.named) (take l.naming-index l.objects.namings.items))
+invariant-loop-naming l = (items : List ReiserItem) → HasNoted l.objects items → HasDirectories items l.seen (link_list (contains same_key l.named) (take l.naming-index l.objects.namings.items))

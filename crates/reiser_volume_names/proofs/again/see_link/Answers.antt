@@ -1,9 +1,4 @@
-use Rattle.std.proofs.Common.{◌≡◌, ◌∙◌, ◌++◌, ◌∷◌, [], Bool, true, sym, subst, if◌then◌else◌}
-use Rattle.std.specs.Result.{MatchResult}
-use Rattle.indexmap.specs.IndexSet.{contains}
-use Rattle.reiser_volume_objects.specs.Keys.{same_key}
-use Rattle.reiser_volume_names.specs.Again.{HasDirectories, BlamesAgain}
-use Rattle.reiser_volume_names.specs.Passes.{is_link}
+use Rattle.reiser_volume_names.proofs.Imports.{◌≡◌, ◌∙◌, ◌++◌, ◌∷◌, [], Bool, true, sym, subst, if◌then◌else◌, MatchResult, contains, same_key, HasDirectories, BlamesAgain, is_link}
 use Rattle.reiser_volume_names.proofs.again.see_link.Goals as goal
 
 pub returns-then-is_link-clause-checked : goal.returns-then-is_link-clause-checked

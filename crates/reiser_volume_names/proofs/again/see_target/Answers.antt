@@ -1,5 +1,4 @@
-use Rattle.std.proofs.Common.{◌≡◌, ◌∙◌, true, sym}
-use Rattle.reiser_volume_objects.specs.Items.{is_directory_at}
+use Rattle.reiser_volume_names.proofs.Imports.{◌≡◌, ◌∙◌, true, sym, is_directory_at}
 use Rattle.reiser_volume_names.proofs.Seeing.{was_there}
 use Rattle.reiser_volume_names.proofs.Againing.{directory_again}
 use Rattle.reiser_volume_names.proofs.again.see_target.Goals as goal

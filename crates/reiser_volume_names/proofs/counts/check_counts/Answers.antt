@@ -1,11 +1,4 @@
-use Rattle.std.proofs.Common.{◌<◌, ◌≤◌, ◌+◌, ◌∙◌, ◌++◌, List, length, get_or, drop, filter, ◌^◌, sym, ap, subst, arith}
-use Rattle.std.proofs.lemmas.Result.{err_from_is_err_and}
-use Rattle.reiser_volume_objects.specs.refusals.declared.answer.VolAnswer.{VolAnswer}
-use Rattle.indexmap.specs.IndexSet.{contains}
-use Rattle.reiser_volume_objects.specs.declared.naming.Naming.{Naming}
-use Rattle.reiser_volume_objects.specs.Keys.{same_key}
-use Rattle.reiser_volume_names.specs.Counts.{CountsNames, BlamesCount, names_of}
-use Rattle.reiser_volume_names.specs.Passes.{is_link, link_list}
+use Rattle.reiser_volume_names.proofs.Imports.{◌<◌, ◌≤◌, ◌+◌, ◌∙◌, ◌++◌, List, length, get_or, drop, filter, ◌^◌, sym, ap, subst, arith, err_from_is_err_and, VolAnswer, contains, Naming, same_key, CountsNames, BlamesCount, names_of, is_link, link_list}
 use Rattle.reiser_volume_names.proofs.Counting.{count_of_part}
 use Rattle.reiser_volume_names.proofs.Lists.{kept_step, kept_split, kept_all}
 use Rattle.reiser_volume_names.proofs.counts.check_counts.Goals as goal

@@ -1,5 +1,4 @@
-use Rattle.std.proofs.Common.{◌≡◌, ◌∙◌, false, sym, arith}
-use Rattle.reiser_volume_objects.specs.Items.{is_directory_at}
+use Rattle.reiser_volume_names.proofs.Imports.{◌≡◌, ◌∙◌, false, sym, arith, is_directory_at}
 use Rattle.reiser_volume_names.proofs.Counting.{uncounted, counted_more, counted_over, counts_it, not_counted}
 use Rattle.reiser_volume_names.proofs.counts.count_target.Goals as goal
 

@@ -1,11 +1,4 @@
-use Rattle.std.proofs.Common.{◌<◌, ◌+◌, ◌∙◌, ◌++◌, List, length, get_or, drop, filter, sym, ap, subst, arith}
-use Rattle.std.proofs.lemmas.Result.{err_from_is_err_and}
-use Rattle.reiser_volume_objects.specs.refusals.declared.answer.VolAnswer.{VolAnswer}
-use Rattle.indexmap.specs.IndexSet.{contains}
-use Rattle.reiser_volume_objects.specs.declared.naming.Naming.{Naming}
-use Rattle.reiser_volume_objects.specs.Keys.{same_key}
-use Rattle.reiser_volume_names.specs.Crowds.{Counts, BlamesCrowd}
-use Rattle.reiser_volume_names.specs.Passes.{is_link, link_list}
+use Rattle.reiser_volume_names.proofs.Imports.{◌<◌, ◌+◌, ◌∙◌, ◌++◌, List, length, get_or, drop, filter, sym, ap, subst, arith, err_from_is_err_and, VolAnswer, contains, Naming, same_key, CrowdCounts, BlamesCrowd, is_link, link_list}
 use Rattle.reiser_volume_names.proofs.Crowding.{blamed_of_part}
 use Rattle.reiser_volume_names.proofs.Lists.{kept_step, kept_split}
 use Rattle.reiser_volume_names.proofs.crowd.check_crowds.Goals as goal
@@ -14,7 +7,7 @@ pub loop-naming-preserved : goal.loop-naming-preserved
 loop-naming-preserved c =
     let within : c.loop-naming.naming-index < length c.args.objects.now.namings.items = omega (arith, c.loop-naming-test.true, ap length c.deref-naming-items.ensures.value) in
     let at = c.naming-item.is ∙ ap (λ (l : List Naming). get_or l c.loop-naming.naming-index c.naming-item.result) c.deref-naming-items.ensures.value in
-    subst (λ (l : List Naming). Counts c.join_link.new.sums l) (sym (kept_step (is_link (contains same_key c.args.named.now)) c.args.objects.now.namings.items c.loop-naming.naming-index c.naming-item.result within at))
+    subst (λ (l : List Naming). CrowdCounts c.join_link.new.sums l) (sym (kept_step (is_link (contains same_key c.args.named.now)) c.args.objects.now.namings.items c.loop-naming.naming-index c.naming-item.result within at))
     (c.in_ok-join_link.ensures _ c.loop-naming.invariant)
 
 pub returns-in_err-join_link-clause-blamed : goal.returns-in_err-join_link-clause-blamed

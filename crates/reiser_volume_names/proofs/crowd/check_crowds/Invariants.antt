@@ -1,9 +1,5 @@
-use Rattle.std.proofs.Common.{take}
-use Rattle.indexmap.specs.IndexSet.{contains}
-use Rattle.reiser_volume_objects.specs.Keys.{same_key}
-use Rattle.reiser_volume_names.specs.Crowds.{Counts}
-use Rattle.reiser_volume_names.specs.Passes.{link_list}
+use Rattle.reiser_volume_names.proofs.Imports.{take, contains, same_key, CrowdCounts, link_list}
 use Rattle.reiser_volume_names.proofs.crowd.check_crowds.Given as goal
 
 abbrev pub invariant-loop-naming : goal.invariant-loop-naming
-invariant-loop-naming l = Counts l.sums (link_list (contains same_key l.named) (take l.naming-index l.objects.namings.items))
+invariant-loop-naming l = CrowdCounts l.sums (link_list (contains same_key l.named) (take l.naming-index l.objects.namings.items))

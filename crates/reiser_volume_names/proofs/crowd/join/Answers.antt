@@ -1,6 +1,4 @@
-use Rattle.std.proofs.Common.{ℕ, ◌+◌, ◌∙◌, length, ap, List, arith}
-use Rattle.castagnoli.specs.Castagnoli.{name_hash}
-use Rattle.reiser_volume_names.specs.Tally.{capped}
+use Rattle.reiser_volume_names.proofs.Imports.{ℕ, ◌+◌, ◌∙◌, length, ap, List, arith, name_hash, capped}
 use Rattle.reiser_volume_names.proofs.Crowding.{joined_at, crowded_at}
 use Rattle.reiser_volume_names.proofs.crowd.join.Goals as goal
 

@@ -1,13 +1,4 @@
-use Rattle.std.proofs.Common.{◌≡◌, ◌<◌, ◌≤◌, List, length, get_or, true, sym, subst}
-use Rattle.std.specs.List.{list_any}
-use Rattle.std.proofs.lemmas.List.{get_or_default}
-use Rattle.std.proofs.lemmas.List.Folds.{list_any_at}
-use Rattle.std.proofs.lemmas.Result.{err_from_is_err_and}
-use Rattle.reiser_volume_objects.specs.declared.key.ObjectKey.{ObjectKey}
-use Rattle.reiser_volume_objects.specs.Keys.{same_key}
-use Rattle.reiser_volume_objects.proofs.Checking.{each_found}
-use Rattle.reiser_volume_objects.proofs.Tables.{same_key-self}
-use Rattle.reiser_volume_names.specs.Passes.{HasForms, BlamesObject}
+use Rattle.reiser_volume_names.proofs.Imports.{◌≡◌, ◌<◌, ◌≤◌, List, length, get_or, true, sym, subst, list_any, get_or_default, list_any_at, err_from_is_err_and, ObjectKey, same_key, each_found, same_key-self, HasForms, BlamesObject}
 use Rattle.reiser_volume_names.proofs.Lists.{each_more}
 use Rattle.reiser_volume_names.proofs.each.check_each.Goals as goal
 

@@ -1,7 +1,5 @@
-use Rattle.std.proofs.Common.{◌≡◌, ◌∙◌, ◌≤◌, ℕ, true, sym, ap}
-use Rattle.reiser_volume_objects.specs.refusals.declared.refusal.VolumeRefusal.TheVariants.{Damaged}
-use Rattle.reiser_volume_objects.specs.refusals.declared.rule.Rule.TheVariants.{EntryForm}
-use Rattle.reiser_volume_names.specs.Passes.{HasForms, BlamesObject, BlamesTarget, is_symlink_mode, off_form, long_target}
+use Rattle.reiser_volume_names.proofs.Imports.{◌≡◌, ◌∙◌, ◌≤◌, ℕ, true, sym, ap, Damaged, EntryForm, HasForms, BlamesObject, BlamesTarget, is_symlink_mode}
+use Rattle.reiser_volume_names.specs.Passes.{off_form, long_target}
 use Rattle.reiser_volume_names.proofs.Eaches.{passed_on, forms_of}
 use Rattle.reiser_volume_names.proofs.each.check_object.Goals as goal
 

@@ -1,8 +1,4 @@
-use Rattle.std.proofs.Common.{take}
-use Rattle.indexmap.specs.IndexSet.{contains}
-use Rattle.reiser_volume_objects.specs.Keys.{same_key}
-use Rattle.reiser_volume_names.specs.Extended.{Refers}
-use Rattle.reiser_volume_names.specs.Passes.{link_list}
+use Rattle.reiser_volume_names.proofs.Imports.{take, contains, same_key, Refers, link_list}
 use Rattle.reiser_volume_names.proofs.extended.check_extended.Given as goal
 
 abbrev pub invariant-loop-naming : goal.invariant-loop-naming

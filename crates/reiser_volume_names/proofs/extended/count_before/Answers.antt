@@ -1,4 +1,4 @@
-use Rattle.std.proofs.Common.{Bool, sym, ap, ◌∙◌, arith, if◌then◌else◌}
+use Rattle.reiser_volume_names.proofs.Imports.{Bool, sym, ap, ◌∙◌, arith, if◌then◌else◌}
 use Rattle.reiser_volume_names.proofs.Numbering.{keys_before}
 use Rattle.reiser_volume_names.proofs.extended.count_before.Goals as goal
 

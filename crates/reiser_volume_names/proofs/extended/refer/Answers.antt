@@ -1,8 +1,4 @@
-use Rattle.std.proofs.Common.{◌++◌, ◌∷◌, [], ℕ, ◌+◌, ◌∙◌, length, sym, ap, subst, List}
-use Rattle.reiser_volume_objects.specs.declared.naming.Naming.{Naming}
-use Rattle.reiser_volume_names.specs.Names.{extended}
-use Rattle.reiser_volume_names.specs.Extended.{CountsExtended, Refers, BlamesExtended}
-use Rattle.reiser_volume_names.specs.Tally.{capped}
+use Rattle.reiser_volume_names.proofs.Imports.{◌++◌, ◌∷◌, [], ℕ, ◌+◌, ◌∙◌, length, sym, ap, subst, List, Naming, extended, CountsExtended, Refers, BlamesExtended, capped}
 use Rattle.reiser_volume_names.proofs.Eaches.{passed_on}
 use Rattle.reiser_volume_names.proofs.Extending.{size_now, sizes_more, extended_full, extended_room}
 use Rattle.reiser_volume_names.proofs.extended.refer.Goals as goal

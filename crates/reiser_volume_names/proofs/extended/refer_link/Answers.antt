@@ -1,10 +1,4 @@
-use Rattle.std.proofs.Common.{◌≡◌, ◌∙◌, ◌++◌, ◌∷◌, [], Bool, true, sym, subst, if◌then◌else◌}
-use Rattle.std.specs.Result.{MatchResult}
-use Rattle.indexmap.specs.IndexSet.{contains}
-use Rattle.reiser_volume_objects.specs.Keys.{same_key}
-use Rattle.reiser_volume_names.specs.Extended.{Refers, BlamesExtended}
-use Rattle.reiser_volume_names.specs.Names.{extended}
-use Rattle.reiser_volume_names.specs.Passes.{is_link}
+use Rattle.reiser_volume_names.proofs.Imports.{◌≡◌, ◌∙◌, ◌++◌, ◌∷◌, [], Bool, true, sym, subst, if◌then◌else◌, MatchResult, contains, same_key, Refers, BlamesExtended, extended, is_link}
 use Rattle.reiser_volume_names.proofs.extended.refer_link.Goals as goal
 
 pub returns-then-is_link : goal.returns-then-is_link

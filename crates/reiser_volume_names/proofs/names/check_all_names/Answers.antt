@@ -1,13 +1,4 @@
-use Rattle.std.proofs.Common.{◌≤◌, ℕ, [], sym, subst}
-use Rattle.std.proofs.lemmas.Result.{err_from_is_err_and}
-use Rattle.reiser_volume_objects.specs.refusals.declared.answer.VolAnswer.{VolAnswer}
-use Rattle.indexmap.specs.IndexSet.{contains}
-use Rattle.reiser_volume_objects.specs.declared.key.ObjectKey.{ObjectKey}
-use Rattle.reiser_volume_objects.specs.Keys.{same_key}
-use Rattle.reiser_volume_names.specs.Extended.{BlamesExtended}
-use Rattle.reiser_volume_names.specs.Names.{AreNames, extended, extended_crowd_of}
-use Rattle.reiser_volume_names.specs.Passes.{link_list}
-use Rattle.reiser_volume_names.specs.Refuses.{RefusesNames, IsNamesAnswer}
+use Rattle.reiser_volume_names.proofs.Imports.{◌≤◌, ℕ, [], sym, subst, err_from_is_err_and, VolAnswer, contains, ObjectKey, same_key, BlamesExtended, AreNames, extended, extended_crowd_of, link_list, RefusesNames, IsNamesAnswer}
 use Rattle.reiser_volume_names.proofs.Assembly.{blamed_object, blamed_name, blamed_private, blamed_twice, blamed_again, blamed_count, blamed_crowd, blamed_extended, all_kept, name_answer, twice_answer, crowd_answer, extended_answer}
 use Rattle.reiser_volume_names.proofs.Eaches.{both_ways, if_err_to}
 use Rattle.reiser_volume_names.proofs.names.check_all_names.Goals as goal

@@ -1,10 +1,4 @@
-use Rattle.std.proofs.Common.{◌<◌, ◌≤◌, ◌+◌, ◌∙◌, ◌++◌, List, length, get_or, drop, filter, AllPairs, sym, ap, subst, arith}
-use Rattle.std.proofs.lemmas.Result.{err_from_is_err_and}
-use Rattle.reiser_volume_objects.specs.refusals.declared.answer.VolAnswer.{VolAnswer}
-use Rattle.indexmap.specs.IndexSet.{contains}
-use Rattle.reiser_volume_objects.specs.declared.naming.Naming.{Naming}
-use Rattle.reiser_volume_objects.specs.Keys.{same_key}
-use Rattle.reiser_volume_names.specs.Once.{HasSeen, BlamesTwice, DifferInName}
+use Rattle.reiser_volume_names.proofs.Imports.{◌<◌, ◌≤◌, ◌+◌, ◌∙◌, ◌++◌, List, length, get_or, drop, filter, AllPairs, sym, ap, subst, arith, err_from_is_err_and, VolAnswer, contains, Naming, same_key, HasSeenLinks, BlamesTwice, DifferInName}
 use Rattle.reiser_volume_names.proofs.Seeing.{twice_of_part}
 use Rattle.reiser_volume_names.proofs.Lists.{kept_step, kept_split, kept_all}
 use Rattle.reiser_volume_names.proofs.once.check_once.Goals as goal
@@ -13,7 +7,7 @@ pub loop-naming-preserved : goal.loop-naming-preserved
 loop-naming-preserved c =
     let within : c.loop-naming.naming-index < length c.args.objects.now.namings.items = omega (arith, c.loop-naming-test.true, ap length c.deref-naming-items.ensures.value) in
     let at = c.naming-item.is ∙ ap (λ (l : List Naming). get_or l c.loop-naming.naming-index c.naming-item.result) c.deref-naming-items.ensures.value in
-    subst (λ (l : List Naming). HasSeen c.see_named.new.names l) (sym (kept_step (λ (n : Naming). contains same_key c.args.named.now n.dir) c.args.objects.now.namings.items c.loop-naming.naming-index c.naming-item.result within at))
+    subst (λ (l : List Naming). HasSeenLinks c.see_named.new.names l) (sym (kept_step (λ (n : Naming). contains same_key c.args.named.now n.dir) c.args.objects.now.namings.items c.loop-naming.naming-index c.naming-item.result within at))
     (c.in_ok-see_named.ensures _ c.loop-naming.invariant)
 
 pub returns-in_err-see_named-clause-twice : goal.returns-in_err-see_named-clause-twice

@@ -1,11 +1,7 @@
-use Rattle.std.proofs.Common.{◌≡◌, ◌∙◌, ◌++◌, ◌∷◌, [], Bool, true, sym, subst, if◌then◌else◌}
-use Rattle.std.specs.Result.{MatchResult}
-use Rattle.indexmap.specs.IndexSet.{contains}
-use Rattle.reiser_volume_objects.specs.Keys.{same_key}
-use Rattle.reiser_volume_names.specs.Once.{HasSeen, BlamesTwice}
+use Rattle.reiser_volume_names.proofs.Imports.{◌≡◌, ◌∙◌, ◌++◌, ◌∷◌, [], Bool, true, sym, subst, if◌then◌else◌, MatchResult, contains, same_key, HasSeenLinks, BlamesTwice}
 use Rattle.reiser_volume_names.proofs.once.see_named.Goals as goal
 
 pub returns-then-contains : goal.returns-then-contains
 returns-then-contains c = λ seen has.
     let there : contains same_key c.args.named.now c.args.naming.now.dir ≡ true = sym c.contains.ensures ∙ c.if-contains.true in
-    subst (λ (b : Bool). MatchResult c.see.result (λ _. HasSeen c.see.new.names (seen ++ (if b then c.args.naming.now ∷ [] else []))) (BlamesTwice (seen ++ (if b then c.args.naming.now ∷ [] else [])))) (sym there) (c.see.ensures seen has)
+    subst (λ (b : Bool). MatchResult c.see.result (λ _. HasSeenLinks c.see.new.names (seen ++ (if b then c.args.naming.now ∷ [] else []))) (BlamesTwice (seen ++ (if b then c.args.naming.now ∷ [] else [])))) (sym there) (c.see.ensures seen has)

@@ -1,8 +1,4 @@
-use Rattle.std.proofs.Common.{◌<◌, ◌∙◌, List, length, get_or, ap, arith}
-use Rattle.reiser_volume_objects.specs.declared.naming.Naming.{Naming}
-use Rattle.indexmap.specs.IndexSet.{contains}
-use Rattle.reiser_volume_objects.specs.Keys.{same_key}
-use Rattle.reiser_volume_names.specs.Passes.{IsGoodName}
+use Rattle.reiser_volume_names.proofs.Imports.{◌<◌, ◌∙◌, List, length, get_or, ap, arith, Naming, contains, same_key, IsGoodName}
 use Rattle.reiser_volume_names.proofs.Lists.{each_more}
 use Rattle.reiser_volume_names.proofs.one.check_names.Goals as goal
 

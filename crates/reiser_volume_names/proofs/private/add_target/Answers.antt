@@ -1,8 +1,4 @@
-use Rattle.std.proofs.Common.{◌≡◌, ◌∙◌, ◌++◌, ◌∷◌, [], Bool, true, refl, sym, subst, if◌then◌else◌}
-use Rattle.std.proofs.lemmas.List.Elements.{Contains-push}
-use Rattle.indexmap.specs.IndexSet.{contains}
-use Rattle.reiser_volume_objects.specs.Keys.{same_key}
-use Rattle.reiser_volume_names.specs.Private.{AreTargets, BlamesTargets}
+use Rattle.reiser_volume_names.proofs.Imports.{◌≡◌, ◌∙◌, ◌++◌, ◌∷◌, [], Bool, true, refl, sym, subst, if◌then◌else◌, Contains-push, contains, same_key, AreTargets, BlamesTargets}
 use Rattle.reiser_volume_names.proofs.Attributes.{targets_more, unnot}
 use Rattle.reiser_volume_names.proofs.private.add_target.Goals as goal
 

@@ -1,7 +1,4 @@
-use Rattle.std.proofs.Common.{◌≡◌, ◌<◌, ℕ, false, get_or}
-use Rattle.indexmap.specs.IndexSet.{contains}
-use Rattle.reiser_volume_objects.specs.declared.naming.Naming.{Naming}
-use Rattle.reiser_volume_objects.specs.Keys.{same_key}
+use Rattle.reiser_volume_names.proofs.Imports.{◌≡◌, ◌<◌, ℕ, false, get_or, contains, Naming, same_key}
 use Rattle.reiser_volume_names.proofs.private.check_empty.Given as goal
 
 abbrev pub invariant-loop-naming : goal.invariant-loop-naming

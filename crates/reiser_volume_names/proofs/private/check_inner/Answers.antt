@@ -1,12 +1,4 @@
-use Rattle.std.proofs.Common.{◌≡◌, true, false, Contains, sym, subst}
-use Rattle.std.proofs.lemmas.Result.{err_from_is_err_and}
-use Rattle.reiser_volume_objects.specs.refusals.declared.answer.VolAnswer.{VolAnswer}
-use Rattle.reiser_volume_objects.specs.refusals.declared.answer.VolAnswer.TheVariants.{Refused}
-use Rattle.reiser_volume_objects.specs.refusals.declared.refusal.VolumeRefusal.TheVariants.{HasAttributes}
-use Rattle.indexmap.specs.IndexSet.{contains}
-use Rattle.reiser_volume_objects.specs.declared.naming.Naming.{Naming}
-use Rattle.reiser_volume_objects.specs.Keys.{same_key}
-use Rattle.reiser_volume_names.specs.Private.{HoldsNoAttribute, BlamesBelow}
+use Rattle.reiser_volume_names.proofs.Imports.{◌≡◌, true, false, Contains, sym, subst, err_from_is_err_and, VolAnswer, Refused, HasAttributes, contains, Naming, same_key, HoldsNoAttribute, BlamesBelow}
 use Rattle.reiser_volume_names.proofs.Attributes.{inner_ok, inner_targets, inner_entry}
 use Rattle.reiser_volume_names.proofs.Eaches.{passed_on}
 use Rattle.reiser_volume_names.proofs.private.check_inner.Goals as goal

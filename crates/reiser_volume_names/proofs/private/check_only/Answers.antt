@@ -1,7 +1,4 @@
-use Rattle.std.proofs.Common.{Option, filter, subst}
-use Rattle.reiser_volume_objects.specs.declared.key.ObjectKey.{ObjectKey}
-use Rattle.reiser_volume_objects.specs.Keys.{same_key}
-use Rattle.reiser_volume_names.specs.Private.{HoldsNoAttribute, HasNoAttributes, BlamesBelow, IsOnly}
+use Rattle.reiser_volume_names.proofs.Imports.{Option, filter, subst, ObjectKey, same_key, HoldsNoAttribute, HasNoAttributes, BlamesBelow, IsOnly}
 use Rattle.reiser_volume_names.proofs.Attributes.{none_ok, one_ok, one_blamed}
 use Rattle.reiser_volume_names.proofs.Eaches.{passed_on}
 use Rattle.reiser_volume_names.proofs.private.check_only.Goals as goal

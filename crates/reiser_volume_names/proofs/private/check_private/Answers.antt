@@ -1,10 +1,4 @@
-use Rattle.std.proofs.Common.{◌≡◌, ◌<◌, ◌≤◌, ◌∙◌, List, false, length, get_or, Contains, sym, ap, subst, arith}
-use Rattle.std.proofs.lemmas.Result.{err_from_is_err_and}
-use Rattle.std.proofs.lemmas.List.Elements.{Contains-get_or}
-use Rattle.reiser_volume_objects.specs.refusals.declared.answer.VolAnswer.{VolAnswer}
-use Rattle.reiser_volume_objects.specs.declared.naming.Naming.{Naming}
-use Rattle.reiser_volume_objects.specs.Names.{is_followed}
-use Rattle.reiser_volume_names.specs.Private.{HasNoAttributes, BlamesPrivate}
+use Rattle.reiser_volume_names.proofs.Imports.{◌≡◌, ◌<◌, ◌≤◌, ◌∙◌, List, false, length, get_or, Contains, sym, ap, subst, arith, err_from_is_err_and, Contains-get_or, VolAnswer, Naming, is_followed, HasNoAttributes, BlamesPrivate}
 use Rattle.reiser_volume_names.proofs.Attributes.{private_blamed}
 use Rattle.reiser_volume_names.proofs.Lists.{each_more, each_among}
 use Rattle.reiser_volume_names.proofs.private.check_private.Goals as goal

@@ -1,9 +1,4 @@
-use Rattle.std.proofs.Common.{◌<◌, ◌+◌, ◌∙◌, ◌++◌, List, length, get_or, drop, filter, sym, ap, subst, arith}
-use Rattle.std.proofs.lemmas.Result.{err_from_is_err_and}
-use Rattle.reiser_volume_objects.specs.declared.key.ObjectKey.{ObjectKey}
-use Rattle.reiser_volume_objects.specs.declared.naming.Naming.{Naming}
-use Rattle.reiser_volume_objects.specs.Keys.{same_key}
-use Rattle.reiser_volume_names.specs.Private.{IsOnly, IsExtra}
+use Rattle.reiser_volume_names.proofs.Imports.{◌<◌, ◌+◌, ◌∙◌, ◌++◌, List, length, get_or, drop, filter, sym, ap, subst, arith, err_from_is_err_and, ObjectKey, Naming, same_key, IsOnly, IsExtra}
 use Rattle.reiser_volume_names.proofs.Attributes.{extra_of_part}
 use Rattle.reiser_volume_names.proofs.Lists.{kept_step, kept_split}
 use Rattle.reiser_volume_names.proofs.private.only_entry.Goals as goal

@@ -1,6 +1,4 @@
-use Rattle.std.proofs.Common.{take, filter}
-use Rattle.reiser_volume_objects.specs.Keys.{same_key}
-use Rattle.reiser_volume_names.specs.Private.{IsOnly}
+use Rattle.reiser_volume_names.proofs.Imports.{take, filter, same_key, IsOnly}
 use Rattle.reiser_volume_names.proofs.private.only_entry.Given as goal
 
 abbrev pub invariant-loop-naming : goal.invariant-loop-naming

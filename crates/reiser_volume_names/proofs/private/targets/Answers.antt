@@ -1,10 +1,4 @@
-use Rattle.std.proofs.Common.{◌<◌, ◌≤◌, ◌+◌, ◌∙◌, ◌++◌, List, length, get_or, drop, filter, sym, ap, subst, arith}
-use Rattle.std.proofs.lemmas.Result.{err_from_is_err_and}
-use Rattle.reiser_volume_objects.specs.refusals.declared.answer.VolAnswer.{VolAnswer}
-use Rattle.indexmap.specs.IndexSet.{contains}
-use Rattle.reiser_volume_objects.specs.declared.naming.Naming.{Naming}
-use Rattle.reiser_volume_objects.specs.Keys.{same_key}
-use Rattle.reiser_volume_names.specs.Private.{AreTargets, BlamesTargets}
+use Rattle.reiser_volume_names.proofs.Imports.{◌<◌, ◌≤◌, ◌+◌, ◌∙◌, ◌++◌, List, length, get_or, drop, filter, sym, ap, subst, arith, err_from_is_err_and, VolAnswer, contains, Naming, same_key, AreTargets, BlamesTargets}
 use Rattle.reiser_volume_names.proofs.Attributes.{targets_of_part}
 use Rattle.reiser_volume_names.proofs.Lists.{kept_step, kept_split, kept_all}
 use Rattle.reiser_volume_names.proofs.private.targets.Goals as goal

@@ -1,4 +1,4 @@
-use Rattle.std.proofs.Common.{◌∙◌, sym}
+use Rattle.reiser_volume_objects.proofs.Imports.{◌∙◌, sym}
 use Rattle.reiser_volume_objects.proofs.Checking.{refused_items, refused_size, refused_overlap, in_order}
 use Rattle.reiser_volume_objects.proofs.check.check_kind.Goals as goal
 

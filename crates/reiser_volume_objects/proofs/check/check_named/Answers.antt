@@ -1,8 +1,4 @@
-use Rattle.std.proofs.Common.{◌≡◌, ◌≤◌, List, length, sym, subst, true}
-use Rattle.std.specs.List.{list_any}
-use Rattle.reiser_volume_objects.specs.declared.key.ObjectKey.{ObjectKey}
-use Rattle.reiser_volume_objects.specs.Keys.{same_key}
-use Rattle.reiser_volume_objects.specs.Rules.{IsObject}
+use Rattle.reiser_volume_objects.proofs.Imports.{◌≡◌, ◌≤◌, List, length, sym, subst, true, list_any, ObjectKey, same_key, IsObject}
 use Rattle.reiser_volume_objects.proofs.Checking.{each_found}
 use Rattle.reiser_volume_objects.proofs.check.check_named.Goals as goal
 

@@ -1,4 +1,4 @@
-use Rattle.std.proofs.Common.{◌∙◌, sym}
+use Rattle.reiser_volume_objects.proofs.Imports.{◌∙◌, sym}
 use Rattle.reiser_volume_objects.proofs.Reaching.{other_root_refused}
 use Rattle.reiser_volume_objects.proofs.reach.check_root.Goals as goal
 

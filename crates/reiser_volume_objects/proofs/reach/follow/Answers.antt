@@ -1,9 +1,4 @@
-use Rattle.std.proofs.Common.{◌≡◌, ◌∙◌, sym, ap, subst, true, false, is_some}
-use Rattle.indexmap.specs.IndexSet.{contains}
-use Rattle.fs_paths.specs.declared.node.NodeId.{NodeId}
-use Rattle.fs_paths.specs.Links.{same_node}
-use Rattle.reiser_volume_objects.specs.Names.{is_followed}
-use Rattle.reiser_volume_objects.specs.Items.{stat_of_object}
+use Rattle.reiser_volume_objects.proofs.Imports.{◌≡◌, ◌∙◌, sym, ap, subst, true, false, is_some, contains, NodeId, same_node, is_followed, stat_of_object}
 use Rattle.reiser_volume_objects.proofs.Reaching.{unstated, seen_more}
 use Rattle.reiser_volume_objects.proofs.reach.follow.Goals as goal
 

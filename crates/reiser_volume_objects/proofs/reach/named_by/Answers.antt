@@ -1,11 +1,4 @@
-use Rattle.std.proofs.Common.{◌<◌, ℕ, List, length, sym, subst, Contains, arith}
-use Rattle.std.proofs.lemmas.Result.{err_from_is_err_and}
-use Rattle.indexmap.specs.IndexSet.{contains}
-use Rattle.reiser_bitmap.specs.refusals.declared.answer.VolAnswer.{VolAnswer}
-use Rattle.fs_paths.specs.Links.{same_node}
-use Rattle.reiser_volume_objects.specs.declared.naming.Naming.{Naming}
-use Rattle.reiser_volume_objects.specs.Keys.{same_key, root}
-use Rattle.reiser_volume_objects.specs.Reach.{Refuses}
+use Rattle.reiser_volume_objects.proofs.Imports.{◌<◌, ℕ, List, length, sym, subst, Contains, arith, err_from_is_err_and, contains, VolAnswer, same_node, Naming, same_key, root, Refuses}
 use Rattle.reiser_volume_objects.proofs.Reaching.{closes_more, indexed_naming, reach_is_whole, taken_all}
 use Rattle.reiser_volume_objects.proofs.reach.named_by.Goals as goal
 

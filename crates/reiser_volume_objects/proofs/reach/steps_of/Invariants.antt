@@ -1,5 +1,4 @@
-use Rattle.std.proofs.Common.{◌≡◌, take}
-use Rattle.reiser_volume_objects.specs.Nodes.{steps}
+use Rattle.reiser_volume_objects.proofs.Imports.{◌≡◌, take, steps}
 use Rattle.reiser_volume_objects.proofs.reach.steps_of.Given as goal
 
 abbrev pub invariant-loop-naming : goal.invariant-loop-naming

@@ -1,5 +1,4 @@
-use Rattle.std.proofs.Common.{◌≡◌, ◌++◌, map, filter, take}
-use Rattle.reiser_volume_objects.specs.Names.{is_listed, naming_by}
+use Rattle.reiser_volume_objects.proofs.Imports.{◌≡◌, ◌++◌, map, filter, take, is_listed, naming_by}
 use Rattle.reiser_volume_objects.proofs.table.note_all.Given as goal
 
 abbrev pub invariant-loop-i : goal.invariant-loop-i

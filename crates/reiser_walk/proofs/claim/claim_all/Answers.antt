@@ -1,9 +1,4 @@
-use Rattle.std.proofs.Common.{◌≡◌, ℕ, ◌+◌, ◌∷◌, [], List, ◌++◌, filter, drop, Contains, refl, sym, ◌∙◌, ap, subst, arith}
-use Rattle.std.proofs.lemmas.List.Elements.{Contains-append_left}
-use Rattle.reiser_bitmap.specs.refusals.declared.refusal.VolumeRefusal.{VolumeRefusal}
-use Rattle.reiser_walk.specs.Items.{held_by, is_no_hole}
-use Rattle.reiser_walk.specs.Marks.{Marks, seen_after}
-use Rattle.reiser_walk.specs.Rules.{reach_damages}
+use Rattle.reiser_walk.proofs.Imports.{◌≡◌, ℕ, ◌+◌, ◌∷◌, [], List, ◌++◌, filter, drop, Contains, refl, sym, ◌∙◌, ap, subst, arith, Contains-append_left, VolumeRefusal, held_by, is_no_hole, MarksSeen, seen_after, reach_damages}
 use Rattle.reiser_walk.proofs.Claims.{damages_step, seen_step, drop_end}
 use Rattle.reiser_walk.proofs.claim.claim_all.Goals as goal
 
@@ -41,5 +36,5 @@ returns-clause-claimed c = λ seen marks.
     let before = c.loop-i.invariant.left seen marks in
     let over : drop c.loop-i.i c.args.blocks.now ≡ [] = drop_end c.args.blocks.now c.loop-i.i (omega arith) in (
       sym before.2 ∙ ap (λ (z : List ℕ). reach_damages c.args.tree.now c.args.map.now before.0 (held_by c.args.holder (filter is_no_hole z))) over,
-      subst (Marks c.loop-i.reached) (sym (ap (λ (z : List ℕ). seen_after before.0 (held_by c.args.holder (filter is_no_hole z))) over) ∙ before.3) before.1,
+      subst (MarksSeen c.loop-i.reached) (sym (ap (λ (z : List ℕ). seen_after before.0 (held_by c.args.holder (filter is_no_hole z))) over) ∙ before.3) before.1,
     )

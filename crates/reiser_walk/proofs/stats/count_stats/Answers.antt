@@ -1,11 +1,5 @@
-use Rattle.std.proofs.Common.{◌≡◌, ◌++◌, ◌∷◌, [], List, length, sym, ◌∙◌, ap, subst, arith, count_by}
+use Rattle.reiser_walk.proofs.Imports.{◌≡◌, ◌++◌, ◌∷◌, [], List, length, sym, ◌∙◌, ap, subst, arith, count_by, ReiserTree, BlamesDamage, ReiserItem, tree_damages, is_stat, stat_count, standing}
 use Rattle.std.proofs.lemmas.Result.{err_from_is_err_and}
-use Rattle.reiser_walk.specs.declared.tree.Tree.{Tree}
-use Rattle.reiser_walk.specs.Answers.{Blames}
-use Rattle.reiser_walk.specs.Items.{Item}
-use Rattle.reiser_walk.specs.Rules.{tree_damages}
-use Rattle.reiser_walk.specs.Stats.{is_stat, stat_count}
-use Rattle.reiser_walk.specs.Walks.{standing}
 use Rattle.reiser_walk.proofs.Counting.{counted, passed_by, same_kind, few_items}
 use Rattle.reiser_walk.proofs.stats.count_stats.Goals as goal
 
@@ -19,7 +13,7 @@ returns-in_err-advance-clause-damage g c = λ tells image is fresh.
     let same = g.met.S.BlockSource.kept_blocks c.args.src.now c.loop-walker.src tells before.kept ∙ is in
     let blames = c.in_err-advance.ensures.comes tells image same told.0 told.1 in
     let err = err_from_is_err_and c.from_residual.result c.from_residual.ensures.1 in
-    rw err.1 (subst (Blames c.args.walker.now.tree image c.args.map.now) (sym err.2) (subst (λ (tree : Tree). Blames tree image c.args.map.now c.in_err-advance.field-0.0) before.tree blames))
+    rw err.1 (subst (BlamesDamage c.args.walker.now.tree image c.args.map.now) (sym err.2) (subst (λ (tree : ReiserTree). BlamesDamage tree image c.args.map.now c.in_err-advance.field-0.0) before.tree blames))
 
 pub loop-walker-preserved-then-is_stat : goal.loop-walker-preserved-then-is_stat
 loop-walker-preserved-then-is_stat g c =
@@ -67,7 +61,7 @@ returns-clause-count g c = λ tells image is fresh.
     let told = before.walks tells image is fresh in
     let same = g.met.S.BlockSource.kept_blocks c.args.src.now c.loop-walker.src tells before.kept ∙ is in
     let end = rw c.if-branch.false at (c.in_ok-advance.ensures.comes tells image same told.0 told.1) in
-    told.2 ∙ (ap (λ (items : List Item). count_by is_stat items) end.1.all ∙ ap (λ (tree : Tree). stat_count tree image (length c.args.map.now)) before.tree)
+    told.2 ∙ (ap (λ (items : List ReiserItem). count_by is_stat items) end.1.all ∙ ap (λ (tree : ReiserTree). stat_count tree image (length c.args.map.now)) before.tree)
 
 pub returns-clause-sound : goal.returns-clause-sound
 returns-clause-sound g c = λ tells image is fresh.
@@ -75,4 +69,4 @@ returns-clause-sound g c = λ tells image is fresh.
     let told = before.walks tells image is fresh in
     let same = g.met.S.BlockSource.kept_blocks c.args.src.now c.loop-walker.src tells before.kept ∙ is in
     let end = rw c.if-branch.false at (c.in_ok-advance.ensures.comes tells image same told.0 told.1) in
-    subst (λ (tree : Tree). tree_damages tree image c.args.map.now ≡ []) before.tree end.1.sound
+    subst (λ (tree : ReiserTree). tree_damages tree image c.args.map.now ≡ []) before.tree end.1.sound

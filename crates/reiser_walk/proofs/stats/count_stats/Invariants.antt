@@ -1,8 +1,4 @@
-use Rattle.std.proofs.Common.{◌≡◌, ◌≤◌, ◌+◌, [], false, List, length, count_by, IsTrue}
-use Rattle.reiser_bitmap.specs.outside.History.{Image}
-use Rattle.reiser_walk.specs.Items.{Item}
-use Rattle.reiser_walk.specs.Stats.{is_stat}
-use Rattle.reiser_walk.specs.Walks.{Walks, block_count, fuel}
+use Rattle.reiser_walk.proofs.Imports.{◌≡◌, ◌≤◌, ◌+◌, [], false, List, length, count_by, IsTrue, Image, ReiserItem, is_stat, Walks, block_count, fuel}
 use Rattle.reiser_walk.proofs.stats.count_stats.Given as goal
 
 abbrev pub invariant-loop-walker : goal.invariant-loop-walker
@@ -15,7 +11,7 @@ invariant-loop-walker g l = record {
   few : l.count + fuel l.walker ≤ fuel l.fn.walker;
   -- what was counted is the count of the items given so far
   walks : IsTrue g.S.BlockSource.tells → (image : Image) → g.S.BlockSource.blocks l.fn.src ≡ image → Walks l.fn.walker image l.map []
-      → (given : List Item) × Walks l.walker image l.map given × (l.count ≡ count_by is_stat given);
+      → (given : List ReiserItem) × Walks l.walker image l.map given × (l.count ≡ count_by is_stat given);
 }
 
 abbrev pub decreases-loop-walker : goal.decreases-loop-walker

@@ -1,5 +1,4 @@
-use Rattle.std.proofs.Common.{◌∙◌, refl}
-use Rattle.convert_steps.proofs.command_answers.Handed.{handed_on, volume_cause}
+use Rattle.rollback_core.proofs.Imports.{◌∙◌, refl, handed_on, volume_cause}
 use Rattle.rollback_core.proofs.Plans.{front_refused, reiser_planned}
 use Rattle.rollback_core.proofs.mending.plan_reiser.Goals as goal
 

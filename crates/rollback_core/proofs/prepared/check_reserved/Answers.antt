@@ -1,14 +1,12 @@
-use Rattle.std.proofs.Common.{ℕ, refl, subst}
-use Rattle.volume_state.specs.Using.{IsReservedFree}
-use Rattle.convert_steps.proofs.command_answers.Handed.{btrfs_cause, handed_on}
-use Rattle.rollback_core.proofs.Imaged.{untouched}
+use Rattle.rollback_core.proofs.Imports.{ℕ, refl, subst, IsReservedFree, btrfs_cause, handed_on}
+use Rattle.rollback_core.proofs.Imaged.{can_go_back}
 use Rattle.rollback_core.proofs.Reading.{use_refuses}
 use Rattle.rollback_core.proofs.prepared.check_reserved.Goals as goal
 
 pub returns-in-None-clause-told : goal.returns-in-None-clause-told
 returns-in-None-clause-told g c = λ tells image is on has same.
     let free : IsReservedFree image c.args.blocks = rw c.in-None.is at c.in_ok-reserved_used.ensures.told tells image is on.opened in
-    untouched image has (subst (λ (n : ℕ). IsReservedFree image n) same free)
+    can_go_back image has (subst (λ (n : ℕ). IsReservedFree image n) same free)
 
 pub returns-in_err-reserved_used-clause-told : goal.returns-in_err-reserved_used-clause-told
 returns-in_err-reserved_used-clause-told g c = λ tells image is on has same.

@@ -1,6 +1,4 @@
-use Rattle.std.proofs.Common.{ap, ◌∙◌}
-use Rattle.btr_reader.specs.declared.image_map.ImageMap.{ImageMap}
-use Rattle.volume_state.specs.Saved.{blocks_by_map, image_blocks}
+use Rattle.rollback_core.proofs.Imports.{ap, ◌∙◌, ImageMap, blocks_by_map, image_blocks}
 use Rattle.rollback_core.proofs.Imaged.{told_blocks}
 use Rattle.rollback_core.proofs.Planning.{prepared}
 use Rattle.rollback_core.proofs.prepared.plan.Goals as goal

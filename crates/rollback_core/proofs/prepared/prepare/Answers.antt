@@ -1,9 +1,4 @@
-use Rattle.std.proofs.Common.{ℕ, sym, ◌∙◌, subst}
-use Rattle.std.specs.Prelude.{IfOk}
-use Rattle.std.proofs.lemmas.Result.{err_from_is_err_and}
-use Rattle.convert_steps.specs.command_answers.declared.answer.Answer.{Answer}
-use Rattle.rollback_core.specs.Writing.{HasRoom}
-use Rattle.rollback_core.specs.RollbackAnswers.{RefusesRollback}
+use Rattle.rollback_core.proofs.Imports.{ℕ, sym, ◌∙◌, subst, IfOk, err_from_is_err_and, Answer, HasRoom, RefusesRollback}
 use Rattle.rollback_core.proofs.prepared.prepare.Goals as goal
 
 pub returns-in_err-block-clause-prepared : goal.returns-in_err-block-clause-prepared
@@ -18,38 +13,20 @@ returns-in_err-volume-clause-prepared g c = λ tells image is.
     let err = err_from_is_err_and c.from_residual-in_err-volume.result c.from_residual-in_err-volume.ensures.1 in
     rw err.1 (subst (λ (e : Answer). RefusesRollback image e) (sym err.2) (c.in_err-volume.ensures.opened tells image (g.met.S.BlockSource.kept_blocks _ _ tells kept ∙ is) found))
 
-pub returns-in_err-check_rows-clause-prepared : goal.returns-in_err-check_rows-clause-prepared
-returns-in_err-check_rows-clause-prepared g c = λ tells image is.
-    let kept = c.in_ok-block.ensures.kept in
-    let kept2 = g.met.S.BlockSource.kept_trans _ _ _ kept c.in_ok-volume.ensures.kept in
-    let found = c.in_ok-block.ensures.found tells image is in
-    let opened = c.in_ok-volume.ensures.opened tells image (g.met.S.BlockSource.kept_blocks _ _ tells kept ∙ is) found in
-    let err = err_from_is_err_and c.from_residual-in_err-check_rows.result c.from_residual-in_err-check_rows.ensures.1 in
-    rw err.1 (subst (λ (e : Answer). RefusesRollback image e) (sym err.2) (c.in_err-check_rows.ensures.checked tells image (g.met.S.BlockSource.kept_blocks _ _ tells kept2 ∙ is) opened))
-
 pub returns-in_err-map-clause-prepared : goal.returns-in_err-map-clause-prepared
 returns-in_err-map-clause-prepared g c = λ tells image is.
     let kept = c.in_ok-block.ensures.kept in
     let kept2 = g.met.S.BlockSource.kept_trans _ _ _ kept c.in_ok-volume.ensures.kept in
-    let kept3 = g.met.S.BlockSource.kept_trans _ _ _ kept2 c.in_ok-check_rows.ensures.kept in
     let found = c.in_ok-block.ensures.found tells image is in
     let opened = c.in_ok-volume.ensures.opened tells image (g.met.S.BlockSource.kept_blocks _ _ tells kept ∙ is) found in
-    let rows = c.in_ok-check_rows.ensures.checked tells image (g.met.S.BlockSource.kept_blocks _ _ tells kept2 ∙ is) opened in
     let err = err_from_is_err_and c.from_residual-in_err-map.result c.from_residual-in_err-map.ensures.1 in
-    rw err.1 (subst (λ (e : Answer). RefusesRollback image e) (sym err.2) (c.in_err-map.ensures.read tells image (g.met.S.BlockSource.kept_blocks _ _ tells kept3 ∙ is) opened rows))
-
-pub returns-in_err-check_rows-clause-kept : goal.returns-in_err-check_rows-clause-kept
-returns-in_err-check_rows-clause-kept g c =
-    let kept = c.in_ok-block.ensures.kept in
-    let kept2 = g.met.S.BlockSource.kept_trans _ _ _ kept c.in_ok-volume.ensures.kept in
-    g.met.S.BlockSource.kept_trans _ _ _ kept2 c.in_err-check_rows.ensures.kept
+    rw err.1 (subst (λ (e : Answer). RefusesRollback image e) (sym err.2) (c.in_err-map.ensures.read tells image (g.met.S.BlockSource.kept_blocks _ _ tells kept2 ∙ is) opened))
 
 pub returns-in_err-map-clause-kept : goal.returns-in_err-map-clause-kept
 returns-in_err-map-clause-kept g c =
     let kept = c.in_ok-block.ensures.kept in
     let kept2 = g.met.S.BlockSource.kept_trans _ _ _ kept c.in_ok-volume.ensures.kept in
-    let kept3 = g.met.S.BlockSource.kept_trans _ _ _ kept2 c.in_ok-check_rows.ensures.kept in
-    g.met.S.BlockSource.kept_trans _ _ _ kept3 c.in_err-map.ensures.kept
+    g.met.S.BlockSource.kept_trans _ _ _ kept2 c.in_err-map.ensures.kept
 
 pub prepare_old-requires : goal.prepare_old-requires
 prepare_old-requires g c =
@@ -59,26 +36,22 @@ pub returns-clause-kept : goal.returns-clause-kept
 returns-clause-kept g c =
     let kept = c.in_ok-block.ensures.kept in
     let kept2 = g.met.S.BlockSource.kept_trans _ _ _ kept c.in_ok-volume.ensures.kept in
-    let kept3 = g.met.S.BlockSource.kept_trans _ _ _ kept2 c.in_ok-check_rows.ensures.kept in
-    let kept4 = g.met.S.BlockSource.kept_trans _ _ _ kept3 c.in_ok-map.ensures.kept in
-    g.met.S.BlockSource.kept_trans _ _ _ kept4 c.prepare_old.ensures.kept
+    let kept3 = g.met.S.BlockSource.kept_trans _ _ _ kept2 c.in_ok-map.ensures.kept in
+    g.met.S.BlockSource.kept_trans _ _ _ kept3 c.prepare_old.ensures.kept
 
 pub returns-clause-room : goal.returns-clause-room
 returns-clause-room g c =
     let kept = c.in_ok-block.ensures.kept in
     let kept2 = g.met.S.BlockSource.kept_trans _ _ _ kept c.in_ok-volume.ensures.kept in
-    let kept3 = g.met.S.BlockSource.kept_trans _ _ _ kept2 c.in_ok-check_rows.ensures.kept in
-    let kept4 = g.met.S.BlockSource.kept_trans _ _ _ kept3 c.in_ok-map.ensures.kept in
-    subst (λ (n : ℕ). IfOk c.prepare_old.result (HasRoom n)) (g.met.S.BlockSource.kept_size _ _ kept4) c.prepare_old.ensures.room
+    let kept3 = g.met.S.BlockSource.kept_trans _ _ _ kept2 c.in_ok-map.ensures.kept in
+    subst (λ (n : ℕ). IfOk c.prepare_old.result (HasRoom n)) (g.met.S.BlockSource.kept_size _ _ kept3) c.prepare_old.ensures.room
 
 pub returns-clause-prepared : goal.returns-clause-prepared
 returns-clause-prepared g c = λ tells image is.
     let kept = c.in_ok-block.ensures.kept in
     let kept2 = g.met.S.BlockSource.kept_trans _ _ _ kept c.in_ok-volume.ensures.kept in
-    let kept3 = g.met.S.BlockSource.kept_trans _ _ _ kept2 c.in_ok-check_rows.ensures.kept in
-    let kept4 = g.met.S.BlockSource.kept_trans _ _ _ kept3 c.in_ok-map.ensures.kept in
+    let kept3 = g.met.S.BlockSource.kept_trans _ _ _ kept2 c.in_ok-map.ensures.kept in
     let found = c.in_ok-block.ensures.found tells image is in
     let opened = c.in_ok-volume.ensures.opened tells image (g.met.S.BlockSource.kept_blocks _ _ tells kept ∙ is) found in
-    let rows = c.in_ok-check_rows.ensures.checked tells image (g.met.S.BlockSource.kept_blocks _ _ tells kept2 ∙ is) opened in
-    let map = c.in_ok-map.ensures.read tells image (g.met.S.BlockSource.kept_blocks _ _ tells kept3 ∙ is) opened rows in
-    c.prepare_old.ensures.prepared tells image (g.met.S.BlockSource.kept_blocks _ _ tells kept4 ∙ is) opened map
+    let map = c.in_ok-map.ensures.read tells image (g.met.S.BlockSource.kept_blocks _ _ tells kept2 ∙ is) opened in
+    c.prepare_old.ensures.prepared tells image (g.met.S.BlockSource.kept_blocks _ _ tells kept3 ∙ is) opened map

@@ -1,11 +1,4 @@
-use Rattle.std.proofs.Common.{ℕ, length, sym, ◌∙◌, ap, subst}
-use Rattle.std.specs.Prelude.{IfOk}
-use Rattle.std.proofs.lemmas.Result.{err_from_is_err_and}
-use Rattle.convert_steps.specs.command_answers.declared.answer.Answer.{Answer}
-use Rattle.reiser_volume.proofs.Holding.{used_length}
-use Rattle.volume_state.specs.Saved.{image_blocks}
-use Rattle.rollback_core.specs.Writing.{HasRoom}
-use Rattle.rollback_core.specs.RollbackAnswers.{RefusesRollback}
+use Rattle.rollback_core.proofs.Imports.{ℕ, length, sym, ◌∙◌, ap, subst, IfOk, err_from_is_err_and, Answer, used_length, image_blocks, HasRoom, RefusesRollback}
 use Rattle.rollback_core.proofs.prepared.prepare_old.Goals as goal
 
 pub returns-in_err-old-clause-prepared : goal.returns-in_err-old-clause-prepared

@@ -1,27 +1,22 @@
-use Rattle.std.proofs.Common.{None, Ok, refl}
-use Rattle.btr_reader.specs.Image.{image_refusals}
-use Rattle.btr_reader.specs.Opening.{IsAmong}
-use Rattle.btr_reader.proofs.PartsRead.{of_disk}
-use Rattle.volume_state.proofs.Mapped.{none_read, read_of_disk, way_sound}
-use Rattle.convert_steps.proofs.command_answers.Handed.{btrfs_cause, handed_on}
-use Rattle.rollback_core.proofs.Imaged.{map_on, readable_with}
+use Rattle.rollback_core.proofs.Imports.{None, Ok, refl, image_refusals, IsAmong, of_disk, none_read, read_of_disk, way_sound, btrfs_cause, handed_on}
+use Rattle.rollback_core.proofs.Imaged.{map_on, leads_with}
 use Rattle.rollback_core.proofs.Reading.{way_refuses}
 use Rattle.rollback_core.proofs.prepared.read_map.Goals as goal
 
 pub returns-in-Some-clause-read : goal.returns-in-Some-clause-read
-returns-in-Some-clause-read g c = λ tells image is on rows.
+returns-in-Some-clause-read g c = λ tells image is on.
     let opened = on.opened.opened in
     let told = rw c.in-Some.is at c.in_ok-map.ensures.reads tells image is on.opened in
-    map_on image _ _ opened c.in-Some.map told (readable_with image on.format rows opened.sound (way_sound image _ _ opened c.in-Some.map told))
+    map_on image _ _ opened c.in-Some.map told (leads_with image on.format on.log opened.sound (way_sound image _ _ opened c.in-Some.map told))
 
 pub returns-in-None-clause-read : goal.returns-in-None-clause-read
-returns-in-None-clause-read g c = λ tells image is on rows.
+returns-in-None-clause-read g c = λ tells image is on.
     let opened = on.opened.opened in
     let told = rw c.in-None.is at c.in_ok-map.ensures.reads tells image is on.opened in
-    (readable_with image on.format rows opened.sound (read_of_disk image _ _ opened (Ok None) told).1, none_read image _ _ opened told)
+    (leads_with image on.format on.log opened.sound (read_of_disk image _ _ opened (Ok None) told).1, none_read image _ _ opened told)
 
 pub returns-in_err-map-clause-read : goal.returns-in_err-map-clause-read
-returns-in_err-map-clause-read g c = λ tells image is on rows.
+returns-in_err-map-clause-read g c = λ tells image is on.
     let own = of_disk image _ _ (λ s ranges. IsAmong (image_refusals image s ranges) c.in_err-map.field-0.0) on.opened.opened (c.in_err-map.ensures.reads tells image is on.opened) in
     handed_on c.from_residual.result _ _ _ c.from_residual.ensures.1 (way_refuses image c.in_err-map.field-0.0 on.format on.log on.opened.opened.sound own)
 

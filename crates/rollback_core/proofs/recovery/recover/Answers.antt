@@ -1,68 +1,41 @@
-use Rattle.std.proofs.Common.{◌≡◌, ◌∙◌, inl, inr, refl, sym, subst}
-use Rattle.std.proofs.lemmas.Result.{err_from_is_err_and}
-use Rattle.reiser_bitmap.specs.outside.History.{History, WritesOnly, reads}
-use Rattle.convert_steps.specs.command_answers.declared.answer.Answer.{Answer}
-use Rattle.reiser_bitmap.proofs.outside.Crash.{writes_none}
-use Rattle.reiser_bitmap.proofs.outside.Phases.{left_unwritten}
-use Rattle.rollback_core.specs.RecoveryAnswers.{RefusesRecover}
-use Rattle.rollback_core.specs.Planned.{IsGiven, Stands}
-use Rattle.rollback_core.specs.Recovered.{IsMend}
-use Rattle.rollback_core.proofs.Standing.{crash_partly, mends_only, recovers, summary_is}
+use Rattle.rollback_core.proofs.Imports.{◌≢◌, ◌≡◌, ◌∙◌, inl, inr, ap, subst, IfErr, IfOk, History, reads, synced_then, uncalled, IsLeftByRecover, IsMend, RewritesFirst, RecoverSummary}
+use Rattle.convert_steps.specs.command_answers.declared.answer.Answer.TheVariants as answer
+use Rattle.rollback_core.proofs.Rewriting.{called_only, first_goes_on, settled_told, uncalled_only}
 use Rattle.rollback_core.proofs.recovery.recover.Goals as goal
 
-pub returns-in_err-mending-clause-crash : goal.returns-in_err-mending-clause-crash
-returns-in_err-mending-clause-crash g c = λ tells settled image left.
-    inl (left_unwritten _ _ settled (g.met.D.Disk.kept_history _ _ tells c.plan.ensures.kept) image left)
+pub returns-in_err-sync-clause-crash : goal.returns-in_err-sync-clause-crash
+returns-in_err-sync-clause-crash g c = λ tells. uncalled _ _ _ (c.in_err-sync.ensures.effect tells)
 
-pub returns-in_err-mending-clause-recovered : goal.returns-in_err-mending-clause-recovered
-returns-in_err-mending-clause-recovered g c = λ tells image is.
-    let blocks = g.met.D.Disk.open_blocks c.args.disk.now _ tells c.requires.«open» in
-    let err = err_from_is_err_and c.from_residual.result c.from_residual.ensures.1 in
-    rw err.1 (subst (λ (e : Answer). RefusesRecover image e) (sym err.2) (c.in_err-mending.ensures.planned tells image (blocks ∙ is)))
+pub returns-in_err-sync-clause-only : goal.returns-in_err-sync-clause-only
+returns-in_err-sync-clause-only g c = λ tells. uncalled_only _ _ (c.in_err-sync.ensures.effect tells)
+
+pub returns-in_err-sync-clause-order : goal.returns-in_err-sync-clause-order
+returns-in_err-sync-clause-order g c = λ tells. inl (c.in_err-sync.ensures.effect tells)
 
 pub returns-clause-crash : goal.returns-clause-crash
-returns-clause-crash g c = λ tells settled image left.
-    let same : g.D.Disk.history c.plan.new.src ≡ g.D.Disk.history c.args.disk.now = g.met.D.Disk.kept_history _ _ tells c.plan.ensures.kept in
-    let planned = c.in_ok-mending.ensures.planned tells _ (g.met.D.Disk.open_blocks c.args.disk.now _ tells c.requires.«open») in
-    let only = subst (λ (h : History). WritesOnly (IsGiven c.in_ok-mending.mending) h (g.D.Disk.history c.write_mending.new.disk)) same (c.write_mending.ensures.only tells) in
-    inr (planned.can, crash_partly (reads (g.D.Disk.history c.args.disk.now)) c.in_ok-mending.mending planned (g.D.Disk.history c.args.disk.now) (g.D.Disk.history c.write_mending.new.disk) refl only settled image left)
-
-pub returns-in_err-mirrors-clause-crash : goal.returns-in_err-mirrors-clause-crash
-returns-in_err-mirrors-clause-crash g c = λ tells settled image left.
-    let same : g.D.Disk.history c.plan.new.src ≡ g.D.Disk.history c.args.disk.now = g.met.D.Disk.kept_history _ _ tells c.plan.ensures.kept in
-    let planned = c.in_ok-mending.ensures.planned tells _ (g.met.D.Disk.open_blocks c.args.disk.now _ tells c.requires.«open») in
-    let only = subst (λ (h : History). WritesOnly (IsGiven c.in_ok-mending.mending) h (g.D.Disk.history c.write_mending.new.disk)) same (c.write_mending.ensures.only tells) in
-    inr (planned.can, crash_partly (reads (g.D.Disk.history c.args.disk.now)) c.in_ok-mending.mending planned (g.D.Disk.history c.args.disk.now) (g.D.Disk.history c.write_mending.new.disk) refl only settled image left)
-
-pub returns-clause-recovered : goal.returns-clause-recovered
-returns-clause-recovered g c = λ tells image is.
-    let same : g.D.Disk.history c.plan.new.src ≡ g.D.Disk.history c.args.disk.now = g.met.D.Disk.kept_history _ _ tells c.plan.ensures.kept in
-    let planned = c.in_ok-mending.ensures.planned tells image (g.met.D.Disk.open_blocks c.args.disk.now _ tells c.requires.«open» ∙ is) in
-    let only = subst (λ (h : History). WritesOnly (IsGiven c.in_ok-mending.mending) h (g.D.Disk.history c.write_mending.new.disk)) same (c.write_mending.ensures.only tells) in
-    let stands = subst (λ (h : History). Stands c.in_ok-mending.mending (reads h) (reads (g.D.Disk.history c.write_mending.new.disk))) same (c.in_ok-mirrors.ensures.written tells) in (
-      recovers image c.in_ok-mending.mending planned (g.D.Disk.history c.args.disk.now) (g.D.Disk.history c.write_mending.new.disk) is only stands,
-      summary_is image c.in_ok-mending.mending planned c.in_ok-mirrors.mirrors c.in_ok-mirrors.ensures.count,
-    )
-
-pub returns-clause-unwritten : goal.returns-clause-unwritten
-returns-clause-unwritten g c = λ tells none.
-    c.in_ok-mirrors.ensures.unwritten tells none ∙ g.met.D.Disk.kept_history _ _ tells c.plan.ensures.kept
-
-pub returns-in_err-mending-clause-only : goal.returns-in_err-mending-clause-only
-returns-in_err-mending-clause-only g c = λ tells.
-    subst (λ (h : History). WritesOnly (IsMend (reads (g.D.Disk.history c.args.disk.now))) (g.D.Disk.history c.args.disk.now) h) (sym (g.met.D.Disk.kept_history _ _ tells c.plan.ensures.kept))
-    (writes_none (IsMend (reads (g.D.Disk.history c.args.disk.now))) (g.D.Disk.history c.args.disk.now))
+returns-clause-crash g c = λ tells.
+    synced_then IsLeftByRecover _ _ _ (c.in_ok-sync.ensures.effect tells) (first_goes_on _ _ _ (c.recover_settled.ensures.order tells)) (c.recover_settled.ensures.crash tells)
 
 pub returns-clause-only : goal.returns-clause-only
-returns-clause-only g c = λ tells.
-    let same : g.D.Disk.history c.plan.new.src ≡ g.D.Disk.history c.args.disk.now = g.met.D.Disk.kept_history _ _ tells c.plan.ensures.kept in
-    let planned = c.in_ok-mending.ensures.planned tells _ (g.met.D.Disk.open_blocks c.args.disk.now _ tells c.requires.«open») in
-    mends_only (reads (g.D.Disk.history c.args.disk.now)) c.in_ok-mending.mending planned (g.D.Disk.history c.args.disk.now) (g.D.Disk.history c.write_mending.new.disk)
-    (subst (λ (h : History). WritesOnly (IsGiven c.in_ok-mending.mending) h (g.D.Disk.history c.write_mending.new.disk)) same (c.write_mending.ensures.only tells))
+returns-clause-only g c = λ tells. called_only _ _ _ (c.in_ok-sync.ensures.effect tells) (c.recover_settled.ensures.order tells)
 
-pub returns-in_err-mirrors-clause-only : goal.returns-in_err-mirrors-clause-only
-returns-in_err-mirrors-clause-only g c = λ tells.
-    let same : g.D.Disk.history c.plan.new.src ≡ g.D.Disk.history c.args.disk.now = g.met.D.Disk.kept_history _ _ tells c.plan.ensures.kept in
-    let planned = c.in_ok-mending.ensures.planned tells _ (g.met.D.Disk.open_blocks c.args.disk.now _ tells c.requires.«open») in
-    mends_only (reads (g.D.Disk.history c.args.disk.now)) c.in_ok-mending.mending planned (g.D.Disk.history c.args.disk.now) (g.D.Disk.history c.write_mending.new.disk)
-    (subst (λ (h : History). WritesOnly (IsGiven c.in_ok-mending.mending) h (g.D.Disk.history c.write_mending.new.disk)) same (c.write_mending.ensures.only tells))
+pub returns-clause-order : goal.returns-clause-order
+returns-clause-order g c = λ tells.
+    inr (subst (λ (h : History). RewritesFirst (IsMend (reads h)) h (g.D.Disk.history c.recover_settled.new.disk)) (c.in_ok-sync.ensures.effect tells) (c.recover_settled.ensures.order tells))
+
+pub returns-clause-recovered : goal.returns-clause-recovered
+returns-clause-recovered g c = λ tells image is. c.recover_settled.ensures.recovered tells image (ap reads (c.in_ok-sync.ensures.effect tells) ∙ is)
+
+pub returns-clause-unwritten : goal.returns-clause-unwritten
+returns-clause-unwritten g c = λ tells.
+    subst (λ (h : History). IfOk c.recover_settled.result (λ (told : RecoverSummary). told.mirrors ≡ 0 → g.D.Disk.history c.recover_settled.new.disk ≡ h)) (c.in_ok-sync.ensures.effect tells)
+    (c.recover_settled.ensures.unwritten tells)
+
+pub returns-clause-settled : goal.returns-clause-settled
+returns-clause-settled g c = λ tells.
+    settled_told c.recover_settled.result _ _ _ (c.in_ok-sync.ensures.effect tells) (c.recover_settled.ensures.unwritten tells) (c.recover_settled.ensures.settled tells)
+
+pub returns-clause-refused : goal.returns-clause-refused
+returns-clause-refused g c = λ tells.
+    subst (λ (h : History). IfErr c.recover_settled.result (λ e. e ≢ answer.Fault → g.D.Disk.history c.recover_settled.new.disk ≡ h)) (c.in_ok-sync.ensures.effect tells)
+    (c.recover_settled.ensures.refused tells)

@@ -1,7 +1,4 @@
-use Rattle.std.proofs.Common.{sym, subst}
-use Rattle.reiser_bitmap.proofs.outside.Phases.{on_ok, sync_reads}
-use Rattle.reiser_bitmap.proofs.outside.Writes.{one_sync, then_writes, weaker_writes}
-use Rattle.rollback_core.specs.Writing.{AreWiped}
+use Rattle.rollback_core.proofs.Imports.{sym, subst, on_ok, sync_reads, one_sync, then_writes, weaker_writes, AreWiped}
 use Rattle.rollback_core.proofs.Phases.{both_wiped, first_wiping, second_wiping}
 use Rattle.rollback_core.proofs.restore.wipe_copies.Goals as goal
 

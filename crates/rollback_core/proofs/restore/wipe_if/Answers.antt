@@ -1,6 +1,4 @@
-use Rattle.std.proofs.Common.{◌≡◌, ◌<◌, true, length, refl, arith, rules}
-use Rattle.reiser_bitmap.specs.outside.History.{reads}
-use Rattle.reiser_bitmap.proofs.outside.Writes.{one_write}
+use Rattle.rollback_core.proofs.Imports.{◌≡◌, ◌<◌, true, length, refl, arith, rules, reads, one_write}
 use Rattle.rollback_core.proofs.Phases.{one_stands}
 use Rattle.rollback_core.proofs.restore.wipe_if.Goals as goal
 

@@ -1,17 +1,10 @@
-use Rattle.std.proofs.Common.{◌≡◌, ◌<◌, List, inl, inr, ⊎_elim, length, ◌∙◌, arith}
-use Rattle.reiser_bitmap.specs.outside.History.{IsBlock, reads}
-use Rattle.reiser_bitmap.specs.outside.Writes.{View, Writes, view}
-use Rattle.reiser_bitmap.proofs.outside.Phases.{left_then, on_ok}
-use Rattle.reiser_bitmap.proofs.outside.Writes.{then_writes, weaker_writes}
-use Rattle.rollback_core.specs.declared.way.Saved.{Saved}
-use Rattle.rollback_core.specs.declared.way.WayBack.{WayBack}
-use Rattle.rollback_core.specs.Writing.{IsPart, IsPlace, IsWiping}
+use Rattle.rollback_core.proofs.Imports.{◌≡◌, ◌<◌, List, inl, inr, ⊎_elim, length, ◌∙◌, arith, IsBlock, reads, View, Writes, view, left_then, on_ok, then_writes, weaker_writes, Saved, WayBack, IsWayBackPart, IsSavedPlace, IsWiping}
 use Rattle.rollback_core.proofs.Phases.{saved_crash, superblock_crash, superblock_stands, wiping_crash, wiping_stands, saved_here, saved_part, superblock_part, wiping_part, written_here}
 use Rattle.rollback_core.proofs.restore.write_back.Goals as goal
 
 -- the first two steps write parts
 written_parts : {D : Type 0} {d : View D} {a b c : D} (way : WayBack) (saved : List Saved) → saved ≡ way.reserved.items
-    → Writes d (λ b _. IsPlace saved b) a b → Writes d (IsBlock 16 way.superblock.bytes) b c → Writes d (IsPart way) a c
+    → Writes d (λ b _. IsSavedPlace saved b) a b → Writes d (IsBlock 16 way.superblock.bytes) b c → Writes d (IsWayBackPart way) a c
 written_parts way saved same first second =
     then_writes (weaker_writes (λ b bytes. saved_part way b bytes saved same) first) (weaker_writes (superblock_part way) second)
 
@@ -31,12 +24,12 @@ returns-clause-crash g c = λ tells settled image left.
     let long : 16 < length (reads (g.D.Disk.history c.write_reserved.new.disk)) = omega (arith, sizes, c.write_reserved.ensures.writes.size, c.requires.room.superblock) in
     let stands = superblock_stands c.args.way.now (g.D.Disk.history c.args.disk.now) (g.D.Disk.history c.write_reserved.new.disk) (g.D.Disk.history c.write_superblock.new.disk)
     c.requires.apart (saved_here _ _ _ _ c.as_slice.ensures.value (c.write_reserved.ensures.writes.only tells)) (written_here _ _ _ c.as_slice.ensures.value (c.in_ok-write_reserved.ensures.written tells)) long (c.in_ok-write_superblock.ensures.written tells) in
-    let parts : Writes (view g.D.BlockSource g.D.Disk) (IsPart c.args.way.now) c.args.disk.now c.write_superblock.new.disk = written_parts c.args.way.now _ c.as_slice.ensures.value c.write_reserved.ensures.writes c.write_superblock.ensures.writes in
+    let parts : Writes (view g.D.BlockSource g.D.Disk) (IsWayBackPart c.args.way.now) c.args.disk.now c.write_superblock.new.disk = written_parts c.args.way.now _ c.as_slice.ensures.value c.write_reserved.ensures.writes c.write_superblock.ensures.writes in
     ⊎_elim
     (λ early. superblock_crash c.args.way.now _ _ _ c.requires.apart settled (saved_here _ _ _ _ c.as_slice.ensures.value (c.write_reserved.ensures.writes.only tells))
     (c.in_ok-write_reserved.ensures.settled tells) (written_here _ _ _ c.as_slice.ensures.value (c.in_ok-write_reserved.ensures.written tells)) (c.write_superblock.ensures.writes.only tells) image early)
     (λ late. inr (wiping_crash c.args.way.now c.requires.apart _ _ _ (c.in_ok-write_superblock.ensures.settled tells) stands (c.wipe_copies.ensures.writes.only tells) image late))
-    (left_then (IsPart c.args.way.now) (IsWiping c.args.way.now)
+    (left_then (IsWayBackPart c.args.way.now) (IsWiping c.args.way.now)
     (g.D.Disk.history c.args.disk.now) (g.D.Disk.history c.write_superblock.new.disk) (g.D.Disk.history c.wipe_copies.new.disk)
     (parts.only tells)
     (c.wipe_copies.ensures.writes.only tells) image left)

@@ -1,8 +1,4 @@
-use Rattle.std.proofs.Common.{◌∙◌, sym, arith}
-use Rattle.std.proofs.lemmas.List.{take_all}
-use Rattle.reiser_bitmap.proofs.outside.Placing.{has_place, stand_all, stand_more}
-use Rattle.reiser_bitmap.proofs.outside.Writes.{one_sync, one_write, then_writes}
-use Rattle.rollback_core.specs.declared.way.Saved.{Saved}
+use Rattle.rollback_core.proofs.Imports.{◌∙◌, sym, arith, take_all, has_place, stand_all, stand_more, one_sync, one_write, then_writes, Saved}
 use Rattle.rollback_core.proofs.restore.write_reserved.Goals as goal
 
 pub returns-in_err-write-clause-writes : goal.returns-in_err-write-clause-writes

@@ -1,5 +1,4 @@
-use Rattle.std.proofs.Common.{refl}
-use Rattle.reiser_bitmap.proofs.outside.Writes.{one_sync, one_write, then_writes}
+use Rattle.rollback_core.proofs.Imports.{refl, one_sync, one_write, then_writes}
 use Rattle.rollback_core.proofs.restore.write_superblock.Goals as goal
 
 pub returns-in_err-write-clause-writes : goal.returns-in_err-write-clause-writes

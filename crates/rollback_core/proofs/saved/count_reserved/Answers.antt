@@ -1,6 +1,4 @@
-use Rattle.std.proofs.Common.{◌≡◌, ◌≤◌, ◌+◌, ℕ, List, Bool, filter, length, sym, ◌∙◌, ap, arith}
-use Rattle.std.proofs.lemmas.List.{length_push}
-use Rattle.reiser_bitmap.specs.vol_block.Volume.{is_reserved}
+use Rattle.rollback_core.proofs.Imports.{◌≡◌, ◌≤◌, ◌+◌, ℕ, List, Bool, filter, length, sym, ◌∙◌, ap, arith, length_push, is_reserved}
 use Rattle.rollback_core.proofs.Marked.{all_below, next_high, next_low, next_marked, passing_no, passing_yes, same_below, used_below}
 use Rattle.rollback_core.proofs.saved.count_reserved.Goals as goal
 use Rattle.rollback_core.proofs.saved.count_reserved.Goals.{then-is_reserved, else-is_reserved}

@@ -1,6 +1,4 @@
-use Rattle.std.proofs.Common.{◌-◌, ◌≡◌, ◌≤◌, ◌<◌, true, filter, length}
-use Rattle.reiser_bitmap.specs.vol_block.Volume.{is_reserved}
-use Rattle.reiser_bitmap.specs.Bits.{has}
+use Rattle.rollback_core.proofs.Imports.{◌-◌, ◌≡◌, ◌≤◌, ◌<◌, true, filter, length, is_reserved, has}
 use Rattle.rollback_core.proofs.Marked.{used_below}
 use Rattle.rollback_core.proofs.saved.count_reserved.Given as goal
 

@@ -1,9 +1,4 @@
-use Rattle.std.proofs.Common.{◌≡◌, ◌≢◌, ◌≤◌, ◌+◌, ◌==◌, ◌&&◌, [], ◌∷◌, ◌++◌, ℕ, List, Bool, true, not, All, map, filter, length, refl, sym, ◌∙◌, ap, subst, arith}
-use Rattle.std.proofs.lemmas.Bool.Decides.{nat_tests}
-use Rattle.reiser_bitmap.specs.outside.History.{block_at}
-use Rattle.reiser_bitmap.specs.vol_block.Volume.{is_reserved}
-use Rattle.reiser_bitmap.specs.Bits.{used_blocks}
-use Rattle.rollback_core.specs.declared.way.Saved.{Saved}
+use Rattle.rollback_core.proofs.Imports.{◌≡◌, ◌≢◌, ◌≤◌, ◌+◌, ◌==◌, ◌&&◌, [], ◌∷◌, ◌++◌, ℕ, List, Bool, true, not, All, map, filter, length, refl, sym, ◌∙◌, ap, subst, arith, nat_tests, block_at, is_reserved, used_blocks, Saved}
 use Rattle.rollback_core.proofs.Marked.{all_below, both_no, both_yes, each_marked, go_apart, next_high, next_low, next_marked, same_below, used_below}
 use Rattle.rollback_core.proofs.saved.read_reserved.Goals as goal
 use Rattle.rollback_core.proofs.saved.read_reserved.Goals.{then-is_saved+in_ok-save, else-is_saved}

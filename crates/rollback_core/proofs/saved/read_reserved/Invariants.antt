@@ -1,7 +1,4 @@
-use Rattle.std.proofs.Common.{◌-◌, ◌≡◌, ◌≤◌, ◌<◌, ◌==◌, not, true, All, map, filter, length}
-use Rattle.reiser_bitmap.specs.outside.History.{OverTold, block_at}
-use Rattle.reiser_bitmap.specs.vol_block.Volume.{is_reserved}
-use Rattle.reiser_bitmap.specs.Bits.{has}
+use Rattle.rollback_core.proofs.Imports.{◌-◌, ◌≡◌, ◌≤◌, ◌<◌, ◌==◌, not, true, All, map, filter, length, OverTold, block_at, is_reserved, has}
 use Rattle.rollback_core.proofs.Marked.{used_below}
 use Rattle.rollback_core.proofs.saved.read_reserved.Given as goal
 

@@ -1,4 +1,4 @@
-use Rattle.std.proofs.Common.{◌≡◌, ◌<◌, length}
+use Rattle.rollback_core_tests.proofs.Imports.{◌≡◌, ◌<◌, length}
 use Rattle.std.specs.List.{All}
 use Rattle.rollback_core_tests.proofs.images.a_moved_block_is_told.Given as goal
 

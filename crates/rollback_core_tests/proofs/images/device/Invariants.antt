@@ -1,4 +1,4 @@
-use Rattle.std.proofs.Common.{◌≡◌, None, length}
+use Rattle.rollback_core_tests.proofs.Imports.{◌≡◌, None, length}
 use Rattle.rollback_core_tests.proofs.images.device.Given as goal
 
 abbrev pub invariant-loop-n : goal.invariant-loop-n

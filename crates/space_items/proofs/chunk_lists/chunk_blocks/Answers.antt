@@ -1,4 +1,4 @@
-use Rattle.std.proofs.Common.{arith}
+use Rattle.space_items.proofs.Imports.{arith}
 use Rattle.space_items.proofs.ChunkLists.{blocks_more, blocks_more_le}
 use Rattle.space_items.proofs.chunk_lists.chunk_blocks.Goals as goal
 

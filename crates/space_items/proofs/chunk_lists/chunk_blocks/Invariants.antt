@@ -1,4 +1,4 @@
-use Rattle.std.proofs.Common.{◌≡◌, take}
+use Rattle.space_items.proofs.Imports.{◌≡◌, take}
 use Rattle.std.specs.List.{sum_by}
 use Rattle.space_items.proofs.chunk_lists.chunk_blocks.Given as goal
 

@@ -1,5 +1,4 @@
-use Rattle.std.proofs.Common.{arith}
-use Rattle.space_items.specs.Chunks.{chunk_item}
+use Rattle.space_items.proofs.Imports.{arith, chunk_item}
 use Rattle.space_items.proofs.ChunkLists.{mapped_more, mapped_all, chunk_blocks_fit, with_device}
 use Rattle.space_items.proofs.chunk_lists.chunks.Goals as goal
 

@@ -1,5 +1,4 @@
-use Rattle.std.proofs.Common.{◌≡◌, ◌++◌, map, take}
-use Rattle.space_items.specs.Chunks.{chunk_item}
+use Rattle.space_items.proofs.Imports.{◌≡◌, ◌++◌, map, take, chunk_item}
 use Rattle.space_items.proofs.chunk_lists.chunks.Given as goal
 
 abbrev pub invariant-loop-i : goal.invariant-loop-i

@@ -1,5 +1,4 @@
-use Rattle.std.proofs.Common.{[], arith}
-use Rattle.space_items.specs.Chunks.{dev_extent_item}
+use Rattle.space_items.proofs.Imports.{[], arith, dev_extent_item}
 use Rattle.space_items.proofs.ChunkLists.{mapped_more, mapped_all}
 use Rattle.space_items.proofs.chunk_lists.devices.Goals as goal
 

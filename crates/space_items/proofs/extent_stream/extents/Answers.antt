@@ -1,33 +1,21 @@
-use Rattle.std.proofs.Common.{◌≡◌, ◌<◌, ◌≤◌, ◌∙◌, ℕ, ◌+◌, ◌^◌, List, [], ◌∷◌, map, refl, sym, ap, subst, sum_by, arith}
-use Rattle.std.specs.Prelude.{All}
-use Rattle.std.proofs.lemmas.List.Elements.{All-map}
+use Rattle.space_items.proofs.Imports.{◌≡◌, ◌<◌, ◌≤◌, ◌∙◌, ℕ, ◌+◌, ◌^◌, List, [], ◌∷◌, map, refl, sym, ap, subst, sum_by, arith, All, All-map, AreChunks, PlannedChunk, Piece, Plan, Item, group_item, node_item, piece_item, used_in, merged, IsSmallGroup, group_of, item_of_group, Group, TreeNode}
 use Rattle.btr_tree.proofs.btr_node.NodeBack.{size_within}
-use Rattle.unit_plan.specs.Chunks.{AreChunks}
-use Rattle.unit_plan.specs.declared.chunk.Chunk.{Chunk}
-use Rattle.unit_plan.specs.declared.piece.Piece.{Piece}
-use Rattle.unit_plan.specs.declared.plan.Plan.{Plan}
-use Rattle.btr_tree.specs.btr_node.Leaf.{Item}
-use Rattle.space_items.specs.Extents.{group_item, node_item, piece_item, used_in}
-use Rattle.space_items.specs.Merging.{merged}
-use Rattle.space_items.specs.Stream.{IsSmallGroup, group_of, item_of_group}
-use Rattle.space_items.specs.declared.groups.Group.{Group}
-use Rattle.space_items.specs.declared.node.TreeNode.{TreeNode}
 use Rattle.space_items.proofs.Counting.{used_within}
 use Rattle.space_items.proofs.OneList.{chunks_one}
 use Rattle.space_items.proofs.extent_stream.extents.Goals as goal
 
-groups_small : (plan : Plan) (blocks : ℕ) (chunks : List Chunk) (f : Chunk → Group) → ((c : Chunk) → (f c).chunk ≡ c) → blocks ≤ 2 ^ 29 → AreChunks plan blocks chunks → All IsSmallGroup (map f chunks)
+groups_small : (plan : Plan) (blocks : ℕ) (chunks : List PlannedChunk) (f : PlannedChunk → Group) → ((c : PlannedChunk) → (f c).chunk ≡ c) → blocks ≤ 2 ^ 29 → AreChunks plan blocks chunks → All IsSmallGroup (map f chunks)
 groups_small plan blocks chunks f same small are =
     All-map IsSmallGroup f chunks
     (λ k d inside.
     let c = are.each k d inside in
     let ends = c.ends in
-    record { small = subst (λ (x : Chunk). x.start + x.length ≤ 2 ^ 29) (sym (same _)) (omega (arith, ends, small)) })
+    record { small = subst (λ (x : PlannedChunk). x.start + x.length ≤ 2 ^ 29) (sym (same _)) (omega (arith, ends, small)) })
 
-items_of_groups : (pieces : List Piece) (nodes : List TreeNode) (nodesize : ℕ) (chunks : List Chunk) → map item_of_group (map (group_of pieces nodes nodesize) chunks) ≡ map (λ c. group_item (used_in pieces nodes nodesize c) c) chunks
+items_of_groups : (pieces : List Piece) (nodes : List TreeNode) (nodesize : ℕ) (chunks : List PlannedChunk) → map item_of_group (map (group_of pieces nodes nodesize) chunks) ≡ map (λ c. group_item (used_in pieces nodes nodesize c) c) chunks
 items_of_groups pieces nodes nodesize chunks = twice chunks
   where
-    twice : (cs : List Chunk) → map item_of_group (map (group_of pieces nodes nodesize) cs) ≡ map (λ c. group_item (used_in pieces nodes nodesize c) c) cs
+    twice : (cs : List PlannedChunk) → map item_of_group (map (group_of pieces nodes nodesize) cs) ≡ map (λ c. group_item (used_in pieces nodes nodesize c) c) cs
     twice [] = refl
     twice (c ∷ cs) = ap (λ (l : List Item). group_item (used_in pieces nodes nodesize c) c ∷ l) (twice cs)
 

@@ -1,7 +1,4 @@
-use Rattle.std.proofs.Common.{◌≡◌, ◌≤◌, ◌<◌, ℕ, ◌+◌, ◌*◌, ◌∙◌, List, Some, refl, sym, ap, arith}
-use Rattle.unit_plan.specs.declared.chunk.Chunk.{Chunk}
-use Rattle.space_items.specs.declared.node.TreeNode.{TreeNode}
-use Rattle.space_items.specs.declared.groups.Group.{Group}
+use Rattle.space_items.proofs.Imports.{◌≡◌, ◌≤◌, ◌<◌, ℕ, ◌+◌, ◌*◌, ◌∙◌, List, Some, refl, sym, ap, arith, PlannedChunk, TreeNode, Group}
 use Rattle.space_items.proofs.Counting.{counted_none, counted_in, counted_out, counted_stop, counted_within, lies_more, lies_weaker, node_place, nodes_fit, nodes_rise}
 use Rattle.space_items.proofs.groups.count_nodes.Goals.{then-get-group, else-get-group}
 use Rattle.space_items.proofs.groups.count_nodes.Goals as goal
@@ -43,10 +40,10 @@ loop-next-preserved c =
     let high : ℕ = 4096 * (c.args.group.now.chunk.start + c.args.group.now.chunk.length) in
     let same : c.get.result ≡ p = node_same c.get.result p (sym c.get.ensures ∙ c.get-in-loop-next.ensures) in
     let chunk = c.loop-next.invariant.chunk in
-    let end : c.end.result ≡ high = c.end.ensures ∙ ap (λ (k : Chunk). 4096 * (k.start + k.length)) chunk in
+    let end : c.end.result ≡ high = c.end.ensures ∙ ap (λ (k : PlannedChunk). 4096 * (k.start + k.length)) chunk in
     let place = ap node_place same in
     let below : node_place p < high = omega (arith, c.if-get-end.true, end, place) in
-    let start = ap (λ (k : Chunk). k.start) chunk in
+    let start = ap (λ (k : PlannedChunk). k.start) chunk in
     let lie = lies_more node_place size high all c.loop-next.next p c.loop-next.invariant.before c.get-in-loop-next.ensures below in
     elim c.if-get-group.branch [
       | then-get-group w ↦
@@ -73,7 +70,7 @@ returns-else-get-end-clause-used c =
     let size : TreeNode → ℕ = λ n. c.args.nodesize in
     let low : ℕ = 4096 * c.args.group.now.chunk.start in
     let high : ℕ = 4096 * (c.args.group.now.chunk.start + c.args.group.now.chunk.length) in
-    let end : c.end.result ≡ high = c.end.ensures ∙ ap (λ (k : Chunk). 4096 * (k.start + k.length)) c.loop-next.invariant.chunk in
+    let end : c.end.result ≡ high = c.end.ensures ∙ ap (λ (k : PlannedChunk). 4096 * (k.start + k.length)) c.loop-next.invariant.chunk in
     let above : high ≤ node_place c.get.result = omega (arith, c.if-get-end.false, end) in
     let all_of = counted_stop node_place size low high all c.loop-next.next c.get.result c.get.ensures above (nodes_rise all c.requires.nodes) in
     let used = c.loop-next.invariant.used in

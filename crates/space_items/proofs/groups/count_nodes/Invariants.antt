@@ -1,5 +1,4 @@
-use Rattle.std.proofs.Common.{◌≡◌, ◌+◌, ◌-◌, ◌*◌, length, take}
-use Rattle.space_items.specs.Stream.{LieBefore}
+use Rattle.space_items.proofs.Imports.{◌≡◌, ◌+◌, ◌-◌, ◌*◌, length, take, LieBefore}
 use Rattle.space_items.proofs.Counting.{counted}
 use Rattle.space_items.proofs.groups.count_nodes.Given as goal
 

@@ -1,8 +1,4 @@
-use Rattle.std.proofs.Common.{◌≡◌, ◌≤◌, ◌<◌, ℕ, ◌+◌, ◌*◌, ◌∙◌, List, Some, refl, sym, ap, arith}
-use Rattle.unit_plan.specs.declared.chunk.Chunk.{Chunk}
-use Rattle.unit_plan.specs.declared.piece.Piece.{Piece}
-use Rattle.space_items.specs.Stream.{IsSmallPiece}
-use Rattle.space_items.specs.declared.groups.Group.{Group}
+use Rattle.space_items.proofs.Imports.{◌≡◌, ◌≤◌, ◌<◌, ℕ, ◌+◌, ◌*◌, ◌∙◌, List, Some, refl, sym, ap, arith, PlannedChunk, Piece, IsSmallPiece, Group}
 use Rattle.space_items.proofs.Counting.{all_at, counted_none, counted_in, counted_out, counted_stop, counted_within, lies_more, lies_weaker, piece_bytes, piece_place, pieces_fit, pieces_rise}
 use Rattle.space_items.proofs.groups.count_pieces.Goals.{then-piece-group, else-piece-group}
 use Rattle.space_items.proofs.groups.count_pieces.Goals as goal
@@ -54,10 +50,10 @@ loop-next-preserved g c =
     let high : ℕ = 4096 * (c.args.group.now.chunk.start + c.args.group.now.chunk.length) in
     let same : c.get.result.now ≡ p = piece_same c.get.result.now p (sym c.get.ensures ∙ c.get-piece.ensures) in
     let chunk = c.loop-next.invariant.chunk in
-    let end : c.end.result ≡ high = c.end.ensures ∙ ap (λ (k : Chunk). 4096 * (k.start + k.length)) chunk in
+    let end : c.end.result ≡ high = c.end.ensures ∙ ap (λ (k : PlannedChunk). 4096 * (k.start + k.length)) chunk in
     let place = ap piece_place same in
     let below : piece_place p < high = omega (arith, c.if-get-end.true, end, place) in
-    let start = ap (λ (k : Chunk). k.start) chunk in
+    let start = ap (λ (k : PlannedChunk). k.start) chunk in
     let lie = lies_more piece_place piece_bytes high all c.loop-next.next p c.loop-next.invariant.before c.get-piece.ensures below in
     elim c.if-piece-group.branch [
       | then-piece-group w ↦
@@ -83,7 +79,7 @@ returns-else-get-end-clause-used g c =
     let all : List Piece = g.P.PieceList.pieces c.args.pieces.now in
     let low : ℕ = 4096 * c.args.group.now.chunk.start in
     let high : ℕ = 4096 * (c.args.group.now.chunk.start + c.args.group.now.chunk.length) in
-    let end : c.end.result ≡ high = c.end.ensures ∙ ap (λ (k : Chunk). 4096 * (k.start + k.length)) c.loop-next.invariant.chunk in
+    let end : c.end.result ≡ high = c.end.ensures ∙ ap (λ (k : PlannedChunk). 4096 * (k.start + k.length)) c.loop-next.invariant.chunk in
     let above : high ≤ piece_place c.get.result.now = omega (arith, c.if-get-end.false, end) in
     c.loop-next.invariant.used ∙ counted_stop piece_place piece_bytes low high all c.loop-next.next c.get.result.now c.get.ensures above (pieces_rise all c.requires.pieces)
 

@@ -1,4 +1,4 @@
-use Rattle.std.proofs.Common.{◌≡◌, ◌++◌, take}
+use Rattle.space_items.proofs.Imports.{◌≡◌, ◌++◌, take}
 use Rattle.space_items.proofs.own_count.add_all.Given as goal
 
 abbrev pub invariant-loop-node : goal.invariant-loop-node

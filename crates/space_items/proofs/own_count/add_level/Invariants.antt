@@ -1,5 +1,4 @@
-use Rattle.std.proofs.Common.{◌≡◌, ◌++◌, take}
-use Rattle.space_items.specs.Nodes.{nodes_at}
+use Rattle.space_items.proofs.Imports.{◌≡◌, ◌++◌, take, nodes_at}
 use Rattle.space_items.proofs.own_count.add_level.Given as goal
 
 abbrev pub invariant-loop-address : goal.invariant-loop-address

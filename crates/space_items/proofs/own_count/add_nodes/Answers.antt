@@ -1,10 +1,4 @@
-use Rattle.std.proofs.Common.{◌≡◌, ⊎_elim, ℕ, List, ◌++◌, ◌+◌, ◌-◌, ◌<◌, ◌≤◌, get_or, length, take, drop, arith, subst₂, sym, ◌∙◌, ap}
-use Rattle.std.proofs.lemmas.Bool.{cases_lt}
-use Rattle.std.proofs.lemmas.List.{get_or_past}
-use Rattle.btr_tree.specs.Counting.{Tally, Counted}
-use Rattle.btr_tree.specs.Packing.{leaves, tree_levels, fan_out}
-use Rattle.space_items.specs.Nodes.{nodes_at}
-use Rattle.space_items.specs.declared.node.TreeNode.{TreeNode}
+use Rattle.space_items.proofs.Imports.{◌≡◌, ⊎_elim, ℕ, List, ◌++◌, ◌+◌, ◌-◌, ◌<◌, ◌≤◌, get_or, length, take, drop, arith, subst₂, sym, ◌∙◌, ap, cases_lt, get_or_past, Tally, Counted, packed_leaves, tree_levels, fan_out, nodes_at, TreeNode}
 use Rattle.space_items.proofs.Levels.{IsAdding, adding_goes_on, adding_ends, adding_stops, has_room, tree_full, few_levels, upper}
 use Rattle.space_items.proofs.own_count.add_nodes.Goals as goal
 
@@ -16,7 +10,7 @@ not_past sizes level count is some =
     ⊎_elim (λ (more : level < length sizes). more) (λ (past : length sizes ≤ level). absurd (omega (arith, get_or_past sizes level 0 past, is, some))) (cases_lt level (length sizes))
 
 -- what the counter answers for a level
-answer : (tally : Tally) (lengths : List ℕ) (level count : ℕ) → Counted tally lengths → count ≡ get_or (tree_levels tally.nodesize (length (leaves tally.nodesize lengths))) level 0 → count ≡ get_or (levels tally) level 0
+answer : (tally : Tally) (lengths : List ℕ) (level count : ℕ) → Counted tally lengths → count ≡ get_or (tree_levels tally.nodesize (length (packed_leaves tally.nodesize lengths))) level 0 → count ≡ get_or (levels tally) level 0
 answer tally lengths level count counted is = is ∙ sym (ap (λ (n : ℕ). get_or (tree_levels tally.nodesize n) level 0) counted.count)
 
 goes_on : (owner first : ℕ) (slots given sizes : List ℕ) (old nodes new : List TreeNode) (level at count : ℕ) → IsAdding owner first slots sizes old nodes level at → count ≡ get_or sizes level 0 → 0 < count → given ≡ slots
@@ -28,7 +22,7 @@ goes_on owner first slots given sizes old nodes new level at count so_far is som
     subst₂ (λ ns (n : ℕ). IsAdding owner first slots sizes old ns (level + 1) (at + n)) (sym there) (sym is) on
 
 told : (tally : Tally) (owner : ℕ) (slots lengths : List ℕ) (old nodes : List TreeNode) → Counted tally lengths → nodes ≡ old ++ upper owner slots 0 0 (levels tally)
-    → nodes ≡ old ++ upper owner slots 0 0 (tree_levels tally.nodesize (length (leaves tally.nodesize lengths)))
+    → nodes ≡ old ++ upper owner slots 0 0 (tree_levels tally.nodesize (length (packed_leaves tally.nodesize lengths)))
 told tally owner slots lengths old nodes counted is = is ∙ ap (λ (n : ℕ). old ++ upper owner slots 0 0 (tree_levels tally.nodesize n)) counted.count
 
 pub slice_bounds-add_level-end : goal.slice_bounds-add_level-end

@@ -1,4 +1,4 @@
-use Rattle.btr_tree.specs.Packing.{tree_levels}
+use Rattle.space_items.proofs.Imports.{tree_levels}
 use Rattle.space_items.proofs.Levels.{IsAdding}
 use Rattle.space_items.proofs.own_count.add_nodes.Given as goal
 

@@ -1,8 +1,4 @@
-use Rattle.std.proofs.Common.{◌≡◌, ℕ, List, ◌++◌, ◌∷◌, [], length, arith, subst, ap}
-use Rattle.btr_tree.specs.Counting.{Counted}
-use Rattle.btr_tree.specs.Roots.{lengths_of}
-use Rattle.space_items.specs.Extents.{extent_items}
-use Rattle.space_items.specs.Stream.{extents_ahead, extent_standing}
+use Rattle.space_items.proofs.Imports.{◌≡◌, ℕ, List, ◌++◌, ◌∷◌, [], length, arith, subst, ap, Counted, lengths_of, extent_items, extents_ahead, extent_standing}
 use Rattle.space_items.proofs.ChunksExist.{the_chunks, are_the_chunks}
 use Rattle.space_items.proofs.OneList.{chunks_one}
 use Rattle.space_items.proofs.OwnBound.{roomy}

@@ -1,6 +1,4 @@
-use Rattle.std.proofs.Common.{length}
-use Rattle.space_items.specs.Extents.{extent_items}
-use Rattle.space_items.specs.Stream.{FitsExtents, extents_ahead}
+use Rattle.space_items.proofs.Imports.{length, extent_items, FitsExtents, extents_ahead}
 use Rattle.space_items.proofs.ChunksExist.{the_chunks}
 use Rattle.space_items.proofs.Tallying.{IsTallied}
 use Rattle.space_items.proofs.own_count.counted.Given as goal

@@ -1,8 +1,4 @@
-use Rattle.std.proofs.Common.{◌≡◌, ℕ, List, ◌+◌, ◌++◌, ◌-◌, length, take, drop, arith, subst, sym, ◌∙◌, ap}
-use Rattle.std.proofs.lemmas.Option.{get_or_from_slice_get}
-use Rattle.std.proofs.lemmas.List.{take_rest}
-use Rattle.space_items.specs.declared.node.TreeNode.{TreeNode}
-use Rattle.space_items.specs.Nodes.{merged_nodes}
+use Rattle.space_items.proofs.Imports.{◌≡◌, ℕ, List, ◌+◌, ◌++◌, ◌-◌, length, take, drop, arith, subst, sym, ◌∙◌, ap, get_or_from_slice_get, take_rest, TreeNode, merged_nodes}
 use Rattle.space_items.proofs.NodeMerge.{IsMerging, both_go_on, first_goes_on, second_goes_on, first_ends, second_ends}
 use Rattle.space_items.proofs.own_count.merged.Goals as goal
 use Rattle.space_items.proofs.own_count.merged.Goals.{then-loop-i-test+else-j-len, else-loop-i-test}

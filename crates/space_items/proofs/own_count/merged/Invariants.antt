@@ -1,4 +1,4 @@
-use Rattle.std.proofs.Common.{◌+◌, ◌-◌, length}
+use Rattle.space_items.proofs.Imports.{◌+◌, ◌-◌, length}
 use Rattle.space_items.proofs.NodeMerge.{IsMerging}
 use Rattle.space_items.proofs.own_count.merged.Given as goal
 

@@ -1,6 +1,4 @@
-use Rattle.std.proofs.Common.{ℕ, ◌-◌, ◌<◌, ◌≤◌, arith, subst, sym}
-use Rattle.space_items.specs.Nodes.{AreNodes}
-use Rattle.space_items.specs.Own.{IsOwnCount, own_bound}
+use Rattle.space_items.proofs.Imports.{ℕ, ◌-◌, ◌<◌, ◌≤◌, arith, subst, sym, AreNodes, IsOwnCount, own_bound}
 use Rattle.space_items.proofs.Ascending.{with_leaves}
 use Rattle.space_items.proofs.ChunksExist.{the_chunks, are_the_chunks}
 use Rattle.space_items.proofs.Describing.{counted_next, counting_ends, counting_goes_on, counting_rises}

@@ -1,5 +1,4 @@
-use Rattle.std.proofs.Common.{◌-◌}
-use Rattle.space_items.specs.Own.{own_bound}
+use Rattle.space_items.proofs.Imports.{◌-◌, own_bound}
 use Rattle.space_items.proofs.ChunksExist.{the_chunks}
 use Rattle.space_items.proofs.Describing.{IsCounting}
 use Rattle.space_items.proofs.own_count.own_nodes.Given as goal

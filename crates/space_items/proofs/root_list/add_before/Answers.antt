@@ -1,7 +1,4 @@
-use Rattle.std.proofs.Common.{arith, subst, sym}
-use Rattle.std.proofs.lemmas.Bool.{both_ways}
-use Rattle.btr_tree.specs.btr_keys.declared.key.Key.{Key}
-use Rattle.btr_tree.specs.btr_keys.Key.{IsBefore}
+use Rattle.space_items.proofs.Imports.{arith, subst, sym, both_ways, Key, IsBefore}
 use Rattle.space_items.proofs.Merging.{range_more, key_at, before_more}
 use Rattle.space_items.proofs.root_list.add_before.Goals as goal
 

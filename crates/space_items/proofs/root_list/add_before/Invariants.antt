@@ -1,7 +1,4 @@
-use Rattle.std.proofs.Common.{◌≡◌, ◌≤◌, ◌<◌, ◌-◌, ◌++◌, ℕ, length}
-use Rattle.std.specs.Prelude.{slice_range, slice_index_or}
-use Rattle.btr_tree.specs.btr_keys.Key.{IsBefore}
-use Rattle.btr_tree.specs.btr_node.Leaf.{Item}
+use Rattle.space_items.proofs.Imports.{◌≡◌, ◌≤◌, ◌<◌, ◌-◌, ◌++◌, ℕ, length, slice_range, slice_index_or, IsBefore, Item}
 use Rattle.space_items.proofs.root_list.add_before.Given as goal
 
 abbrev pub invariant-loop-next : goal.invariant-loop-next

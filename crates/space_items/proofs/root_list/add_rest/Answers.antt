@@ -1,5 +1,4 @@
-use Rattle.std.proofs.Common.{◌++◌, ◌∙◌, List, ap, arith}
-use Rattle.btr_tree.specs.btr_node.Leaf.{Item}
+use Rattle.space_items.proofs.Imports.{◌++◌, ◌∙◌, List, ap, arith, Item}
 use Rattle.space_items.proofs.Merging.{range_more, range_all}
 use Rattle.space_items.proofs.root_list.add_rest.Goals as goal
 

@@ -1,5 +1,4 @@
-use Rattle.std.proofs.Common.{◌≡◌, ◌++◌}
-use Rattle.std.specs.Prelude.{slice_range}
+use Rattle.space_items.proofs.Imports.{◌≡◌, ◌++◌, slice_range}
 use Rattle.space_items.proofs.root_list.add_rest.Given as goal
 
 abbrev pub invariant-loop-i : goal.invariant-loop-i

@@ -1,4 +1,4 @@
-use Rattle.std.proofs.Common.{refl}
+use Rattle.space_items.proofs.Imports.{refl}
 use Rattle.space_items.proofs.root_list.other_items.Goals as goal
 
 pub returns : goal.returns

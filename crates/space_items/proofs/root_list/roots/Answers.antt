@@ -1,5 +1,5 @@
 use Rattle.space_items.proofs.Rooting.{root_more}
-use Rattle.space_items.specs.Roots.{root_items}
+use Rattle.space_items.proofs.Imports.{root_items}
 use Rattle.space_items.proofs.root_list.roots.Goals as goal
 
 pub loop-i-preserved : goal.loop-i-preserved

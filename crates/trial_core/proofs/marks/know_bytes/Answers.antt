@@ -1,7 +1,4 @@
-use Rattle.std.proofs.Common.{◌≤◌, ◌+◌, ◌<◌, ℕ, List, length, inl, inr, sym, subst, arith}
-use Rattle.std.specs.Prelude.{slice_index}
-use Rattle.std.proofs.lemmas.Bool.{cases_lt}
-use Rattle.std.proofs.lemmas.List.{get_or_past}
+use Rattle.trial_core.proofs.Imports.{◌≤◌, ◌+◌, ◌<◌, ℕ, List, length, inl, inr, sym, subst, arith, slice_index, cases_lt, get_or_past}
 use Rattle.trial_core.proofs.marks.know_bytes.Goals as goal
 
 abbrev Below : List ℕ → ℕ → Type 0

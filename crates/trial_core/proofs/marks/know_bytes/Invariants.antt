@@ -1,5 +1,4 @@
-use Rattle.std.proofs.Common.{◌<◌, ℕ}
-use Rattle.std.specs.Prelude.{slice_index}
+use Rattle.trial_core.proofs.Imports.{◌<◌, ℕ, slice_index}
 use Rattle.trial_core.proofs.marks.know_bytes.Given as goal
 
 abbrev pub invariant-loop-i : goal.invariant-loop-i

@@ -1,10 +1,5 @@
-use Rattle.std.proofs.Common.{◌≡◌, ◌<◌, ℕ, true, filter}
-use Rattle.std.specs.Prelude.{slice_index}
-use Rattle.std.specs.List.{range_with_len}
-use Rattle.fs_rows.specs.Marker.{Marks}
-use Rattle.reiser_bitmap.specs.outside.History.{OverTold, block_at}
-use Rattle.reiser_bitmap.specs.Bits.{has}
-use Rattle.trial_core.specs.Parts.{numbered}
+use Rattle.trial_core.proofs.Imports.{◌≡◌, ◌<◌, ℕ, true, slice_index, range_with_len, Marks, OverTold, block_at, has, numbered}
+use Rattle.std.proofs.Common.{filter}
 use Rattle.trial_core.proofs.marks.read_mark.Given as goal
 
 abbrev pub invariant-loop-b : goal.invariant-loop-b

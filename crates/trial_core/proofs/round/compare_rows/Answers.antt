@@ -1,4 +1,4 @@
-use Rattle.std.proofs.Common.{◌≡◌, inr, sym, ◌∙◌, true≢false}
+use Rattle.trial_core.proofs.Imports.{◌≡◌, inr, sym, ◌∙◌, true≢false}
 use Rattle.trial_core.proofs.Rounds.{listed_once}
 use Rattle.trial_core.proofs.round.compare_rows.Goals as goal
 

@@ -1,10 +1,5 @@
-use Rattle.std.proofs.Common.{sym, subst}
-use Rattle.convert_core.specs.Answers.{RefusesConvert}
-use Rattle.convert_core.specs.Converted.{IsConverted}
-use Rattle.reiser_bitmap.specs.outside.History.{Image, reads}
-use Rattle.convert_core.specs.command_answers.declared.answer.Answer.{Answer}
+use Rattle.trial_core.proofs.Imports.{sym, subst, RefusesConvert, IsConverted, Image, reads, Answer, LeavesRound, RefusesRound, synced_now, first_goes_on}
 use Rattle.convert_options.specs.declared.options.Options.{Options}
-use Rattle.trial_core.specs.Answers.{LeavesRound, RefusesRound}
 use Rattle.trial_core.proofs.Refusing.{convert_leaves, convert_refused}
 use Rattle.trial_core.proofs.round.convert.Goals as goal
 
@@ -21,5 +16,11 @@ returns-in-Err-clause-told g c = λ tells image is accepted.
 
 pub returns-in-Err-clause-leaves : goal.returns-in-Err-clause-leaves
 returns-in-Err-clause-leaves g c = λ tells.
-    subst (λ (e : Answer). LeavesRound (g.D.Disk.history c.args.disk.now) (g.D.Disk.history c.convert.new.disk) e) (sym c.step_answer.ensures)
-    (convert_leaves (g.D.Disk.history c.args.disk.now) (g.D.Disk.history c.convert.new.disk) c.in-Err.answer (c.in-Err.ensures.refused tells))
+    subst (λ (e : Answer). LeavesRound (synced_now (g.D.Disk.history c.args.disk.now)) (g.D.Disk.history c.convert.new.disk) e) (sym c.step_answer.ensures)
+    (convert_leaves (synced_now (g.D.Disk.history c.args.disk.now)) (g.D.Disk.history c.convert.new.disk) c.in-Err.answer (c.in-Err.ensures.refused tells))
+
+pub returns-in-Ok-clause-grows : goal.returns-in-Ok-clause-grows
+returns-in-Ok-clause-grows g c = λ tells. first_goes_on _ _ (c.convert.ensures.crash tells).first
+
+pub returns-in-Err-clause-grows : goal.returns-in-Err-clause-grows
+returns-in-Err-clause-grows g c = λ tells. first_goes_on _ _ (c.convert.ensures.crash tells).first

@@ -1,8 +1,4 @@
-use Rattle.std.proofs.Common.{◌≡◌, refl, sym, ◌∙◌, ap, subst}
-use Rattle.std.proofs.lemmas.Result.{err_from_is_err_and}
-use Rattle.reiser_bitmap.specs.outside.History.{History, reads}
-use Rattle.convert_core.specs.command_answers.declared.answer.Answer.{Answer}
-use Rattle.trial_core.specs.Answers.{LeavesRound, RefusesRound}
+use Rattle.trial_core.proofs.Imports.{◌≡◌, refl, sym, ◌∙◌, ap, subst, err_from_is_err_and, History, reads, Answer, LeavesRound, RefusesRound, GoesOn, synced_now, stays_on, then_goes_on}
 use Rattle.trial_core.proofs.Refusing.{stop_refuses}
 use Rattle.trial_core.proofs.Rounds.{round}
 use Rattle.trial_core.proofs.round.go_round.Goals as goal
@@ -27,7 +23,7 @@ returns-in_err-go_there-clause-leaves g c = λ tells.
     let new : History = g.D.Disk.history c.go_there.new.disk in
     let same : g.D.Disk.history c.read.new.src ≡ old = g.met.D.Disk.kept_history _ _ tells c.read.ensures.kept in
     let err = err_from_is_err_and c.from_residual-in_err-go_there.result c.from_residual-in_err-go_there.ensures.1 in
-    rw err.1 (subst (λ (e : Answer). LeavesRound old new e) (sym err.2) (subst (λ (h : History). LeavesRound h new c.in_err-go_there.field-0.0) same (c.in_err-go_there.ensures.leaves tells)))
+    rw err.1 (subst (λ (e : Answer). LeavesRound (synced_now old) new e) (sym err.2) (subst (λ (h : History). LeavesRound (synced_now h) new c.in_err-go_there.field-0.0) same (c.in_err-go_there.ensures.leaves tells)))
 
 pub returns-in_err-go_back-clause-told : goal.returns-in_err-go_back-clause-told
 returns-in_err-go_back-clause-told g c = λ tells image is accepted.
@@ -46,3 +42,20 @@ returns-clause-told g c = λ tells image is accepted.
     let there = c.in_ok-go_there.ensures.told tells image (ap reads same ∙ is) accepted known in
     let back = c.in_ok-go_back.ensures.told tells _ refl image known there.2 in
     round c.args.ids.now c.args.now image _ _ c.in_ok-known.known c.summary_of.result known there.0 there.1 back.0 back.1 c.summary_of.ensures
+
+pub returns-in_err-known-clause-grows : goal.returns-in_err-known-clause-grows
+returns-in_err-known-clause-grows g c = λ tells. stays_on _ _ (g.met.D.Disk.kept_history _ _ tells c.read.ensures.kept)
+
+pub returns-in_err-go_there-clause-grows : goal.returns-in_err-go_there-clause-grows
+returns-in_err-go_there-clause-grows g c = λ tells.
+    subst (λ (h : History). GoesOn h (g.D.Disk.history c.go_there.new.disk)) (g.met.D.Disk.kept_history _ _ tells c.read.ensures.kept) (c.go_there.ensures.grows tells)
+
+pub returns-in_err-go_back-clause-grows : goal.returns-in_err-go_back-clause-grows
+returns-in_err-go_back-clause-grows g c = λ tells.
+    subst (λ (h : History). GoesOn h (g.D.Disk.history c.go_back.new.disk)) (g.met.D.Disk.kept_history _ _ tells c.read.ensures.kept)
+    (then_goes_on _ _ _ (c.go_there.ensures.grows tells) (c.go_back.ensures.grows tells))
+
+pub returns-clause-grows : goal.returns-clause-grows
+returns-clause-grows g c = λ tells.
+    subst (λ (h : History). GoesOn h (g.D.Disk.history c.go_back.new.disk)) (g.met.D.Disk.kept_history _ _ tells c.read.ensures.kept)
+    (then_goes_on _ _ _ (c.go_there.ensures.grows tells) (c.go_back.ensures.grows tells))

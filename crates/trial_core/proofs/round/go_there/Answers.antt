@@ -1,7 +1,4 @@
-use Rattle.std.proofs.Common.{◌≡◌, sym, ◌∙◌, subst}
-use Rattle.std.proofs.lemmas.Result.{err_from_is_err_and}
-use Rattle.convert_core.specs.command_answers.declared.answer.Answer.{Answer}
-use Rattle.trial_core.specs.Answers.{LeavesRound, RefusesRound}
+use Rattle.trial_core.proofs.Imports.{◌≡◌, sym, ◌∙◌, subst, err_from_is_err_and, Answer, LeavesRound, RefusesRound, synced_now, stays_on, then_goes_on}
 use Rattle.trial_core.proofs.Rounds.{reading_leaves, there}
 use Rattle.trial_core.proofs.round.go_there.Goals as goal
 
@@ -13,7 +10,7 @@ returns-in_err-convert-clause-told g c = λ tells image is accepted known.
 pub returns-in_err-convert-clause-leaves : goal.returns-in_err-convert-clause-leaves
 returns-in_err-convert-clause-leaves g c = λ tells.
     let err = err_from_is_err_and c.from_residual.result c.from_residual.ensures.1 in
-    rw err.1 (subst (λ (e : Answer). LeavesRound (g.D.Disk.history c.args.disk.now) (g.D.Disk.history c.convert.new.disk) e) (sym err.2) (c.in_err-convert.ensures.leaves tells))
+    rw err.1 (subst (λ (e : Answer). LeavesRound (synced_now (g.D.Disk.history c.args.disk.now)) (g.D.Disk.history c.convert.new.disk) e) (sym err.2) (c.in_err-convert.ensures.leaves tells))
 
 pub returns-clause-told : goal.returns-clause-told
 returns-clause-told g c = λ tells image is accepted known.
@@ -24,3 +21,6 @@ returns-clause-told g c = λ tells image is accepted known.
 
 pub returns-clause-leaves : goal.returns-clause-leaves
 returns-clause-leaves g c = λ tells. reading_leaves _ _ c.compare_rows.result c.compare_rows.ensures.answers
+
+pub returns-clause-grows : goal.returns-clause-grows
+returns-clause-grows g c = λ tells. then_goes_on _ _ _ (c.convert.ensures.grows tells) (stays_on _ _ (g.met.D.Disk.kept_history _ _ tells c.compare_rows.ensures.kept))

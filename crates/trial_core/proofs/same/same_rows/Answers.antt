@@ -1,6 +1,4 @@
-use Rattle.std.proofs.Common.{◌≤◌, ◌<◌, length, refl, sym, ◌∙◌, arith}
-use Rattle.std.proofs.lemmas.List.{take_more_same, take_all}
-use Rattle.fs_rows.specs.declared.row.Row.{Row}
+use Rattle.trial_core.proofs.Imports.{◌≤◌, ◌<◌, length, refl, sym, ◌∙◌, arith, take_more_same, take_all, Row}
 use Rattle.trial_core.proofs.Reading.{got}
 use Rattle.trial_core.proofs.same.same_rows.Goals as goal
 

@@ -1,4 +1,4 @@
-use Rattle.std.proofs.Common.{◌≡◌, length, take}
+use Rattle.trial_core.proofs.Imports.{◌≡◌, length, take}
 use Rattle.trial_core.proofs.same.same_rows.Given as goal
 
 abbrev pub invariant-loop-i : goal.invariant-loop-i

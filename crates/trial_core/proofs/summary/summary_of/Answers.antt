@@ -1,10 +1,5 @@
-use Rattle.std.proofs.Common.{◌≡◌, ◌+◌, ◌<◌, ℕ, List, length, map, take, get_or, refl, sym, ◌∙◌, ap, arith}
-use Rattle.std.specs.Prelude.{min, sum}
-use Rattle.std.proofs.lemmas.List.{take_all}
+use Rattle.trial_core.proofs.Imports.{◌≡◌, ◌+◌, ◌<◌, ℕ, List, length, map, take, get_or, refl, sym, ◌∙◌, ap, arith, min, sum, take_all, Row, counted, TrialSummary}
 use Rattle.std.proofs.lemmas.List.Sums.{sum-map, sum_by_more}
-use Rattle.fs_rows.specs.declared.row.Row.{Row}
-use Rattle.trial_core.specs.Parts.{counted}
-use Rattle.trial_core.specs.declared.summary.TrialSummary.{TrialSummary}
 use Rattle.trial_core.proofs.Reading.{got}
 use Rattle.trial_core.proofs.summary.summary_of.Goals as goal
 

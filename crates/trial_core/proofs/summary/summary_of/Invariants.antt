@@ -1,6 +1,4 @@
-use Rattle.std.proofs.Common.{◌≡◌, ◌-◌, ◌^◌, map, take}
-use Rattle.std.specs.Prelude.{min, sum}
-use Rattle.trial_core.specs.Parts.{counted}
+use Rattle.trial_core.proofs.Imports.{◌≡◌, ◌-◌, ◌^◌, map, take, min, sum, counted}
 use Rattle.trial_core.proofs.summary.summary_of.Given as goal
 
 abbrev pub invariant-loop-i : goal.invariant-loop-i

@@ -1,45 +1,16 @@
-use Rattle.std.proofs.Common.{◌≡◌, refl, sym, ◌∙◌, subst}
-use Rattle.std.specs.Result.{MatchResult}
-use Rattle.std.proofs.lemmas.Result.{err_from_is_err_and}
-use Rattle.reiser_bitmap.specs.outside.History.{History, Image, reads}
-use Rattle.convert_core.specs.command_answers.declared.answer.Answer.{Answer}
-use Rattle.trial_core.specs.Answers.{RefusesTrial}
-use Rattle.trial_core.specs.Trial.{IsMade, IsTried, summary}
-use Rattle.trial_core.proofs.Tried.{leaves_result, make_refuses, scratch_refuses, tried_result}
+use Rattle.trial_core.proofs.Imports.{◌∙◌, inl, ap, subst, IfErr, History, reads, synced_first, LeavesRefused}
 use Rattle.trial_core.proofs.whole.trial.Goals as goal
 
-pub returns-in_err-check_scratch-clause-tried : goal.returns-in_err-check_scratch-clause-tried
-returns-in_err-check_scratch-clause-tried g c = λ tells image is.
-    let blocks = g.met.D.Disk.open_blocks c.args.disk.now _ tells c.requires.«open» in
-    let err = err_from_is_err_and c.from_residual.result c.from_residual.ensures.1 in
-    rw err.1 (subst (λ (e : Answer). RefusesTrial c.args.number image e) (sym err.2) (scratch_refuses c.args.number image _ (c.in_err-check_scratch.ensures.found tells image (blocks ∙ is))))
+pub returns-in_err-sync-clause-first : goal.returns-in_err-sync-clause-first
+returns-in_err-sync-clause-first g c = λ tells. inl (c.in_err-sync.ensures.effect tells)
 
-pub returns-in_err-make_sample-clause-tried : goal.returns-in_err-make_sample-clause-tried
-returns-in_err-make_sample-clause-tried g c = λ tells image is.
-    let blocks = g.met.D.Disk.open_blocks c.args.disk.now _ tells c.requires.«open» in
-    let scratch = c.in_ok-check_scratch.ensures.found tells image (blocks ∙ is) in
-    let err = err_from_is_err_and c.from_residual-in_err-make_sample.result c.from_residual-in_err-make_sample.ensures.1 in
-    rw err.1 (subst (λ (e : Answer). RefusesTrial c.args.number image e) (sym err.2) (make_refuses c.args.number image _ scratch c.in_err-make_sample.ensures.answers))
+pub returns-clause-first : goal.returns-clause-first
+returns-clause-first g c = λ tells. synced_first _ _ _ (c.in_ok-sync.ensures.effect tells) (c.trial_settled.ensures.grows tells)
 
 pub returns-clause-tried : goal.returns-clause-tried
-returns-clause-tried g c = λ tells image is.
-    let old : History = g.D.Disk.history c.args.disk.now in
-    let mid : History = g.D.Disk.history c.make_sample.new.disk in
-    let new : History = g.D.Disk.history c.go_round.new.disk in
-    let same : g.D.Disk.history c.check_scratch.new.src ≡ old = g.met.D.Disk.kept_history _ _ tells c.check_scratch.ensures.kept in
-    let scratch = c.in_ok-check_scratch.ensures.found tells (reads old) (g.met.D.Disk.open_blocks c.args.disk.now _ tells c.requires.«open») in
-    let made = subst (λ (h : History). IsMade c.args.number h mid) same (c.in_ok-make_sample.ensures.made tells) in
-    subst (λ (disk : Image). MatchResult c.go_round.result (λ told. IsTried c.args.number c.args.ids.now c.args.now disk (reads new) × (told ≡ summary c.args.number)) (RefusesTrial c.args.number disk)) is
-    (tried_result c.args.number c.args.ids.now c.args.now old mid new scratch c.in_ok-make_sample.ensures.enough made c.rows_are_one.ensures c.go_round.result
-    (c.go_round.ensures.told tells (reads mid) refl made.described.accepted))
+returns-clause-tried g c = λ tells image is. c.trial_settled.ensures.tried tells image (ap reads (c.in_ok-sync.ensures.effect tells) ∙ is)
 
 pub returns-clause-leaves : goal.returns-clause-leaves
 returns-clause-leaves g c = λ tells.
-    let old : History = g.D.Disk.history c.args.disk.now in
-    let mid : History = g.D.Disk.history c.make_sample.new.disk in
-    let new : History = g.D.Disk.history c.go_round.new.disk in
-    let same : g.D.Disk.history c.check_scratch.new.src ≡ old = g.met.D.Disk.kept_history _ _ tells c.check_scratch.ensures.kept in
-    let scratch = c.in_ok-check_scratch.ensures.found tells (reads old) (g.met.D.Disk.open_blocks c.args.disk.now _ tells c.requires.«open») in
-    let made = subst (λ (h : History). IsMade c.args.number h mid) same (c.in_ok-make_sample.ensures.made tells) in
-    leaves_result c.args.number c.args.ids.now c.args.now old mid new scratch c.in_ok-make_sample.ensures.enough made c.go_round.result
-    (c.go_round.ensures.told tells (reads mid) refl made.described.accepted) (c.go_round.ensures.leaves tells)
+    subst (λ (h : History). IfErr c.trial_settled.result (LeavesRefused c.args.number h (g.D.Disk.history c.trial_settled.new.disk))) (c.in_ok-sync.ensures.effect tells)
+    (c.trial_settled.ensures.leaves tells)

@@ -1,8 +1,5 @@
-use Rattle.std.proofs.Common.{◌≡◌, ℕ, max, List, ◌∙◌, ap, refl, arith}
-use Rattle.std.specs.List.{fold}
-use Rattle.reiser_bitmap.specs.Runs.{free_runs}
-use Rattle.reiser_bitmap.specs.declared.runs.Run.{Run}
-use Rattle.unit_plan.specs.Choice.{longest_run, lowest_long}
+use Rattle.unit_plan.proofs.Imports.{◌≡◌, ℕ, List, ◌∙◌, ap, refl, arith, fold, free_runs, Run, longest_run, lowest_long}
+use Rattle.std.proofs.Common.{max}
 use Rattle.unit_plan.proofs.Enough.{IsLowest, lowest_is}
 use Rattle.unit_plan.proofs.choice.choose.Goals as goal
 use Rattle.unit_plan.proofs.choice.choose.Goals.{then-free-total-via-then-free-total, then-free-total-via-else-free-total+then-longest_run-need}

@@ -1,5 +1,4 @@
-use Rattle.std.proofs.Common.{◌≡◌, ◌+◌, ◌-◌, ◌++◌, ◌∷◌, [], sym, ◌∙◌, ap, arith}
-use Rattle.std.specs.List.{range_with_len}
+use Rattle.unit_plan.proofs.Imports.{◌≡◌, ◌+◌, ◌-◌, ◌++◌, ◌∷◌, [], sym, ◌∙◌, ap, arith, range_with_len}
 use Rattle.unit_plan.proofs.Lists.{range_more}
 use Rattle.unit_plan.proofs.choice.consecutive.Goals as goal
 

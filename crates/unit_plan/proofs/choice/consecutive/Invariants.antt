@@ -1,5 +1,4 @@
-use Rattle.std.proofs.Common.{◌≡◌, ◌-◌}
-use Rattle.std.specs.List.{range_with_len}
+use Rattle.unit_plan.proofs.Imports.{◌≡◌, ◌-◌, range_with_len}
 use Rattle.unit_plan.proofs.choice.consecutive.Given as goal
 
 abbrev pub invariant-loop-u : goal.invariant-loop-u

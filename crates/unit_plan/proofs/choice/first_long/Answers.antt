@@ -1,10 +1,4 @@
-use Rattle.std.proofs.Common.{◌≡◌, true, false, take, get_or, sym, ◌∙◌, ap, arith}
-use Rattle.std.specs.List.{filter}
-use Rattle.std.proofs.lemmas.Bool.{le-leb, lt-leb}
-use Rattle.std.proofs.lemmas.List.{take_all}
-use Rattle.std.proofs.lemmas.Option.{get_or_from_slice_get}
-use Rattle.reiser_bitmap.specs.declared.runs.Run.{Run}
-use Rattle.unit_plan.specs.Choice.{is_long, lowest_long}
+use Rattle.unit_plan.proofs.Imports.{◌≡◌, true, false, take, get_or, sym, ◌∙◌, ap, arith, filter, le-leb, lt-leb, take_all, get_or_from_slice_get, Run, is_long, lowest_long}
 use Rattle.unit_plan.proofs.Lists.{first_passes, none_passes_more}
 use Rattle.unit_plan.proofs.choice.first_long.Goals as goal
 

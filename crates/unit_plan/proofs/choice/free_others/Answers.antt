@@ -1,8 +1,4 @@
-use Rattle.std.proofs.Common.{◌≡◌, ℕ, ◌+◌, ◌/◌, ◌++◌, ◌∷◌, [], true, List, length, take, drop, cond, leb, ltb, ◌-◌, ◌&&◌, refl, sym, ◌∙◌, ap, arith}
-use Rattle.std.specs.List.{filter, range_with_len}
-use Rattle.std.proofs.lemmas.List.{take_all, drop_all}
-use Rattle.reiser_bitmap.proofs.Ranges.{filter_more_yes, filter_more_no, count_more_yes}
-use Rattle.unit_plan.specs.Choice.{is_other, others}
+use Rattle.unit_plan.proofs.Imports.{◌≡◌, ℕ, ◌+◌, ◌/◌, ◌++◌, ◌∷◌, [], true, List, length, take, drop, cond, leb, ltb, ◌-◌, ◌&&◌, refl, sym, ◌∙◌, ap, arith, filter, range_with_len, take_all, drop_all, filter_more_yes, filter_more_no, count_more_yes, is_other, others}
 use Rattle.unit_plan.proofs.Lists.{window, window-push}
 use Rattle.unit_plan.proofs.choice.free_others.Goals as goal
 

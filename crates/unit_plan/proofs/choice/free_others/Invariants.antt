@@ -1,6 +1,4 @@
-use Rattle.std.proofs.Common.{◌≡◌, ◌≤◌, length}
-use Rattle.std.specs.List.{filter, range_with_len}
-use Rattle.unit_plan.specs.Choice.{is_other}
+use Rattle.unit_plan.proofs.Imports.{◌≡◌, ◌≤◌, length, filter, range_with_len, is_other}
 use Rattle.unit_plan.proofs.Lists.{window}
 use Rattle.unit_plan.proofs.choice.free_others.Given as goal
 

@@ -1,10 +1,5 @@
-use Rattle.std.proofs.Common.{◌≡◌, ℕ, take, get_or, nat_cmp, sym, ◌∙◌, ap, arith, rules}
-use Rattle.std.specs.Prelude.{max}
-use Rattle.std.specs.List.{fold}
+use Rattle.unit_plan.proofs.Imports.{◌≡◌, ℕ, take, get_or, nat_cmp, sym, ◌∙◌, ap, arith, rules, max, fold, fold_more, get_or_from_slice_get, Run}
 use Rattle.std.specs.Ordering.{ord_max}
-use Rattle.std.proofs.lemmas.List.Sums.{fold_more}
-use Rattle.std.proofs.lemmas.Option.{get_or_from_slice_get}
-use Rattle.reiser_bitmap.specs.declared.runs.Run.{Run}
 use Rattle.unit_plan.proofs.choice.longest.Goals as goal
 
 larger : (a b : ℕ) → ord_max nat_cmp a b ≡ max a b

@@ -1,6 +1,4 @@
-use Rattle.std.proofs.Common.{◌≡◌, take}
-use Rattle.std.specs.Prelude.{max}
-use Rattle.std.specs.List.{fold}
+use Rattle.unit_plan.proofs.Imports.{◌≡◌, take, max, fold}
 use Rattle.unit_plan.proofs.choice.longest.Given as goal
 
 abbrev pub invariant-loop-i : goal.invariant-loop-i

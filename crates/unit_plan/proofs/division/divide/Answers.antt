@@ -1,6 +1,4 @@
-use Rattle.std.proofs.Common.{◌≡◌, ◌+◌, ◌-◌, arith, subst}
-use Rattle.std.proofs.lemmas.Bool.{both_ways}
-use Rattle.unit_plan.specs.Roles.{role_in}
+use Rattle.unit_plan.proofs.Imports.{◌≡◌, ◌+◌, ◌-◌, arith, subst, both_ways, role_in}
 use Rattle.unit_plan.proofs.Dividing.{begun, goes_on, ended, divided}
 use Rattle.unit_plan.proofs.Told.{role_inside}
 use Rattle.unit_plan.proofs.division.divide.Goals as goal

@@ -1,5 +1,4 @@
-use Rattle.unit_plan.specs.Dividing.{AreBegun}
-use Rattle.unit_plan.specs.Roles.{role_in}
+use Rattle.unit_plan.proofs.Imports.{AreBegun, role_in}
 use Rattle.unit_plan.proofs.division.divide.Given as goal
 
 abbrev pub invariant-loop-u : goal.invariant-loop-u

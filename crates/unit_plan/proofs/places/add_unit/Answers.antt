@@ -1,4 +1,4 @@
-use Rattle.std.proofs.Common.{◌≡◌, ◌+◌, ◌*◌, ◌++◌, ◌∷◌, [], ◌∙◌, ap}
+use Rattle.unit_plan.proofs.Imports.{◌≡◌, ◌+◌, ◌*◌, ◌++◌, ◌∷◌, [], ◌∙◌, ap}
 use Rattle.unit_plan.proofs.Placing.{place_more}
 use Rattle.unit_plan.proofs.places.add_unit.Goals as goal
 

@@ -1,5 +1,4 @@
-use Rattle.std.proofs.Common.{◌≡◌, ◌+◌, ◌*◌, ◌++◌, map}
-use Rattle.std.specs.List.{range_with_len}
+use Rattle.unit_plan.proofs.Imports.{◌≡◌, ◌+◌, ◌*◌, ◌++◌, map, range_with_len}
 use Rattle.unit_plan.proofs.places.add_unit.Given as goal
 
 abbrev pub invariant-loop-k : goal.invariant-loop-k

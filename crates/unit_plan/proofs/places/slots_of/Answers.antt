@@ -1,7 +1,4 @@
-use Rattle.std.proofs.Common.{◌≡◌, ℕ, ◌+◌, ◌*◌, ◌^◌, ◌<◌, ◌++◌, length, map, get_or, sym, ◌∙◌, ap, subst, arith}
-use Rattle.std.specs.List.{range_with_len}
-use Rattle.std.proofs.lemmas.Option.{get_or_from_slice_get}
-use Rattle.unit_plan.specs.Places.{places_in, node_places}
+use Rattle.unit_plan.proofs.Imports.{◌≡◌, ℕ, ◌+◌, ◌*◌, ◌^◌, ◌<◌, ◌++◌, length, map, get_or, sym, ◌∙◌, ap, subst, arith, range_with_len, get_or_from_slice_get, places_in, node_places}
 use Rattle.unit_plan.proofs.Placing.{places_none, places_more}
 use Rattle.unit_plan.proofs.places.slots_of.Goals as goal
 

@@ -1,5 +1,4 @@
-use Rattle.std.proofs.Common.{◌≡◌, take}
-use Rattle.unit_plan.specs.Places.{node_places}
+use Rattle.unit_plan.proofs.Imports.{◌≡◌, take, node_places}
 use Rattle.unit_plan.proofs.places.slots_of.Given as goal
 
 abbrev pub invariant-loop-i : goal.invariant-loop-i

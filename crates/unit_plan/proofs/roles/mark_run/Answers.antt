@@ -1,6 +1,4 @@
-use Rattle.std.proofs.Common.{◌≡◌, ℕ, ◌+◌, ◌<◌, true, length, refl, ◌∙◌, ap, arith}
-use Rattle.std.proofs.lemmas.List.{length-set}
-use Rattle.reiser_bitmap.specs.Bits.{has}
+use Rattle.unit_plan.proofs.Imports.{◌≡◌, ℕ, ◌+◌, ◌<◌, true, length, refl, ◌∙◌, ap, arith, length-set, has}
 use Rattle.unit_plan.proofs.Sets.{marks_run, run_none}
 use Rattle.unit_plan.proofs.roles.mark_run.Goals as goal
 

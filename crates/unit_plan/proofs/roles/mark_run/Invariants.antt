@@ -1,5 +1,4 @@
-use Rattle.std.proofs.Common.{◌≡◌, ℕ, ◌&&◌, ◌||◌, leb, ltb, length}
-use Rattle.reiser_bitmap.specs.Bits.{has}
+use Rattle.unit_plan.proofs.Imports.{◌≡◌, ℕ, ◌&&◌, ◌||◌, leb, ltb, length, has}
 use Rattle.unit_plan.proofs.roles.mark_run.Given as goal
 
 abbrev pub invariant-loop-u : goal.invariant-loop-u

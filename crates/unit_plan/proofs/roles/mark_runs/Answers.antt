@@ -1,6 +1,4 @@
-use Rattle.std.proofs.Common.{◌≡◌, ℕ, ◌+◌, ◌<◌, length, get_or, ◌∙◌, ap, subst, arith}
-use Rattle.std.proofs.lemmas.Option.{get_or_from_slice_get}
-use Rattle.reiser_bitmap.specs.declared.runs.Run.{Run}
+use Rattle.unit_plan.proofs.Imports.{◌≡◌, ℕ, ◌+◌, ◌<◌, length, get_or, ◌∙◌, ap, subst, arith, get_or_from_slice_get, Run}
 use Rattle.unit_plan.proofs.Sets.{marks_runs}
 use Rattle.unit_plan.proofs.roles.mark_runs.Goals as goal
 

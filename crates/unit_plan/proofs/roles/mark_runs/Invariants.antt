@@ -1,6 +1,4 @@
-use Rattle.std.proofs.Common.{◌≡◌, ℕ, ◌||◌, length, take}
-use Rattle.reiser_bitmap.specs.Bits.{has}
-use Rattle.unit_plan.specs.Chunks.{is_in_runs}
+use Rattle.unit_plan.proofs.Imports.{◌≡◌, ℕ, ◌||◌, length, take, has, is_in_runs}
 use Rattle.unit_plan.proofs.roles.mark_runs.Given as goal
 
 abbrev pub invariant-loop-i : goal.invariant-loop-i

@@ -1,4 +1,4 @@
-use Rattle.std.proofs.Common.{refl}
+use Rattle.vol_block.proofs.Imports.{refl}
 use Rattle.vol_block.proofs.Fronts.{front_of_field}
 use Rattle.vol_block.proofs.field.put_field.Goals as goal
 

@@ -1,4 +1,4 @@
-use Rattle.std.proofs.Common.{arith}
+use Rattle.vol_block.proofs.Imports.{arith}
 use Rattle.vol_block.specs.declared.field.Field.TheVariants.{U8}
 use Rattle.vol_block.proofs.Fronts.{fields_bytes_more, fields_width_more, room_for_field}
 use Rattle.vol_block.proofs.field.put_fields.Goals as goal

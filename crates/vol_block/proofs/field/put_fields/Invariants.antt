@@ -1,5 +1,4 @@
-use Rattle.std.proofs.Common.{◌≡◌, take}
-use Rattle.vol_block.specs.Field.{fields_width, fields_bytes}
+use Rattle.vol_block.proofs.Imports.{◌≡◌, take, fields_width, fields_bytes}
 use Rattle.vol_block.proofs.field.put_fields.Given as goal
 
 abbrev pub invariant-loop-field : goal.invariant-loop-field

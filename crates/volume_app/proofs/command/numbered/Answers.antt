@@ -1,4 +1,4 @@
-use Rattle.std.proofs.Common.{arith}
+use Rattle.volume_app.proofs.Imports.{arith}
 use Rattle.volume_app.proofs.Counts.{too_few, too_many}
 use Rattle.volume_app.proofs.command.numbered.Goals as goal
 use Rattle.volume_app.proofs.command.numbered.Goals.{in_default-via-then-words-lt1, in_default-via-else-words-lt1+else-words-lt2}

@@ -1,14 +1,16 @@
-use Rattle.std.proofs.Common.{inl, subst}
-use Rattle.reiser_volume.specs.outside.History.{History, IsSettled, LeftSince, clock, reads}
-use Rattle.reiser_volume.proofs.outside.Phases.{left_unwritten}
-use Rattle.convert_core.specs.Converted.{IsEither}
+use Rattle.volume_app.proofs.Imports.{◌≡◌, subst, IfErr, IsEither, Fault, Memory, CrashesSynced, synced_now, uncalled, History, reads}
+use Rattle.std.proofs.Common.{◌≢◌}
 use Rattle.volume_app.proofs.converting.convert.Goals as goal
 
 pub returns-clause-crash : goal.returns-clause-crash
-returns-clause-crash g c = λ tells settled image left.
-    subst (λ (h : History). IsSettled h → LeftSince (clock h) (g.D.Disk.history c.convert.new.disk) image → IsEither c.args.options.now c.args.ids.now c.args.now (reads h) image)
-    (c.open.ensures.unchanged tells) (λ settled left. c.convert.ensures.crash tells settled image left) settled left
+returns-clause-crash g c = λ tells.
+    subst (λ (h : History). CrashesSynced h (g.D.Disk.history c.convert.new.disk) (IsEither c.args.options.now c.args.ids.now c.args.now (reads h)))
+    (c.open.ensures.unchanged tells) (c.convert.ensures.crash tells)
 
 pub returns-in_err-open-clause-crash : goal.returns-in_err-open-clause-crash
-returns-in_err-open-clause-crash g c = λ tells settled image left.
-    inl (left_unwritten _ _ settled (c.open.ensures.unchanged tells) image left)
+returns-in_err-open-clause-crash g c = λ tells. uncalled _ _ _ (c.open.ensures.unchanged tells)
+
+pub returns-clause-refused : goal.returns-clause-refused
+returns-clause-refused g c = λ tells.
+    subst (λ (h : History). IfErr c.convert.result (λ e. e ≢ Fault → e ≢ Memory → g.D.Disk.history c.convert.new.disk ≡ synced_now h))
+    (c.open.ensures.unchanged tells) (c.convert.ensures.refused tells)

@@ -1,5 +1,4 @@
-use Rattle.std.proofs.Common.{◌≡◌, ◌∙◌, ap}
-use Rattle.reiser_volume.specs.outside.History.{History, reads}
+use Rattle.volume_app.proofs.Imports.{◌≡◌, ◌∙◌, ap, History, reads}
 use Rattle.volume_app.proofs.format.open_format.Goals as goal
 
 pub returns-clause-found : goal.returns-clause-found

@@ -1,5 +1,4 @@
-use Rattle.std.proofs.Common.{refl}
-use Rattle.convert_core.proofs.command_answers.Handed.{btrfs_cause, handed_on}
+use Rattle.volume_app.proofs.Imports.{refl, btrfs_cause, handed_on}
 use Rattle.volume_app.proofs.Inspecting.{btrfs_inspected, btrfs_refused, btrfs_known}
 use Rattle.volume_app.proofs.inspect.inspect_btrfs.Goals as goal
 

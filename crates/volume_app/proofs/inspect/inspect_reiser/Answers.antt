@@ -1,5 +1,4 @@
-use Rattle.std.proofs.Common.{refl}
-use Rattle.convert_core.proofs.command_answers.Handed.{handed_on, volume_cause}
+use Rattle.volume_app.proofs.Imports.{refl, handed_on, volume_cause}
 use Rattle.volume_app.proofs.Inspecting.{reiser_inspected, reiser_refused, reiser_known}
 use Rattle.volume_app.proofs.inspect.inspect_reiser.Goals as goal
 

@@ -1,4 +1,4 @@
-use Rattle.volume_app.specs.Inspect.{inspect_meaning, inspected_text}
+use Rattle.volume_app.proofs.Imports.{inspect_meaning, inspected_text}
 use Rattle.volume_app.proofs.Performing.{failed, ok_kept, performed, reading_leaves}
 use Rattle.volume_app.proofs.inspect.inspect_volume.Goals as goal
 

@@ -1,5 +1,4 @@
-use Rattle.fs_rows.specs.Text.{rows_text}
-use Rattle.volume_app.specs.Listing.{list_meaning}
+use Rattle.volume_app.proofs.Imports.{rows_text, list_meaning}
 use Rattle.volume_app.proofs.Listing.{listed_text}
 use Rattle.volume_app.proofs.Performing.{failed, ok_kept, performed, reading_leaves}
 use Rattle.volume_app.proofs.list.list_volume.Goals as goal

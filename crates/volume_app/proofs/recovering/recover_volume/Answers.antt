@@ -1,7 +1,6 @@
-use Rattle.std.proofs.Common.{ap, inr}
-use Rattle.volume_app.specs.Recovering.{recover_meaning, recover_text}
+use Rattle.volume_app.proofs.Imports.{ap, inr, turned, reads, recover_meaning, recover_text}
 use Rattle.volume_app.proofs.Outcomes.{no_fault_by, refusal_by}
-use Rattle.volume_app.proofs.Performing.{failed, ok_kept, performed, printed_lacks, printed_starves, recovered_keeps, unwritten}
+use Rattle.volume_app.proofs.Performing.{failed, ok_kept, performed, printed_lacks, printed_starves, recovered_keeps, only_synced}
 use Rattle.volume_app.proofs.Trees.{recovered_whole, recovery_left_whole}
 use Rattle.volume_app.proofs.recovering.recover_volume.Goals as goal
 
@@ -16,8 +15,9 @@ returns-in-Ok g c =
       lacking = λ told is. absurd (printed_lacks c.print_recovered.result is);
       starved = λ told is. absurd (printed_starves c.print_recovered.result is);
       changed = λ told is. recovered_whole c.recovery_keeps.ensures c.recovery_opens.ensures c.spare_blocks_decide_nothing.ensures _ _ (c.in-Ok.ensures.right told).0;
-      settled = λ told settled is. c.in-Ok.ensures.settled told settled;
-      crash = λ told settled image left. recovery_left_whole c.recovery_keeps.ensures c.recovery_opens.ensures c.spare_blocks_decide_nothing.ensures _ image (c.recover.ensures.crash told settled image left);
+      settled = λ told writes is. c.in-Ok.ensures.settled told;
+      crash = λ told. turned _ _ _ _ (λ image left. recovery_left_whole c.recovery_keeps.ensures c.recovery_opens.ensures c.spare_blocks_decide_nothing.ensures _ image left) (c.recover.ensures.crash told);
+      order = c.recover.ensures.order;
     })
     (ok_kept c.in-Ok.told _ _ c.in-Ok.ensures.cause) c.print_recovered.ensures.taken c.print_recovered.ensures.cause)
 
@@ -26,10 +26,11 @@ returns-in-Err g c =
     failed recover_meaning _ _ _ _ _ _ _ _ _ c.in-Err.answer (λ told. c.in-Err.ensures.right (told tt)) c.in-Err.ensures.known (λ is. tt)
     (record {
       unchanged = λ told keeps. c.in-Err.ensures.refused told (no_fault_by c.in-Err.answer keeps);
-      lacking = λ told is. unwritten _ _ (c.in-Err.ensures.refused told (refusal_by c.in-Err.answer (inr (inr is))).0);
-      starved = λ told is. (unwritten _ _ (c.in-Err.ensures.refused told (no_fault_by c.in-Err.answer (inr (inr is))))).0;
+      lacking = λ told is. only_synced _ _ (c.in-Err.ensures.refused told (refusal_by c.in-Err.answer (inr (inr is))).0);
+      starved = λ told is. ap reads (c.in-Err.ensures.refused told (no_fault_by c.in-Err.answer (inr (inr is))));
       changed = λ told is. absurd is;
-      settled = λ told settled is. absurd is;
-      crash = λ told settled image left. recovery_left_whole c.recovery_keeps.ensures c.recovery_opens.ensures c.spare_blocks_decide_nothing.ensures _ image (c.recover.ensures.crash told settled image left);
+      settled = λ told writes is. absurd is;
+      crash = λ told. turned _ _ _ _ (λ image left. recovery_left_whole c.recovery_keeps.ensures c.recovery_opens.ensures c.spare_blocks_decide_nothing.ensures _ image left) (c.recover.ensures.crash told);
+      order = c.recover.ensures.order;
     })
     c.in-Err.ensures.cause

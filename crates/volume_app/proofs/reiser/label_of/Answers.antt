@@ -1,7 +1,5 @@
-use Rattle.std.proofs.Common.{◌≡◌, ℕ, ◌<◌, ◌≤◌, true, false, List, length, get_or, take, nat_eq, sym, ap, arith}
+use Rattle.volume_app.proofs.Imports.{◌≡◌, ℕ, ◌<◌, ◌≤◌, true, false, List, length, get_or, take, nat_eq, sym, ap, arith, nat_tests, label_of}
 use Rattle.std.proofs.lemmas.List.Sums.{position_or_len_is}
-use Rattle.std.proofs.lemmas.Bool.Decides.{nat_tests}
-use Rattle.volume_app.specs.Reiser.{label_of}
 use Rattle.volume_app.proofs.reiser.label_of.Goals as goal
 use Rattle.volume_app.proofs.reiser.label_of.Goals.{then-loop-end-test+else-label-end-ne0, else-loop-end-test}
 

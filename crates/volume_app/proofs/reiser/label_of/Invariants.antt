@@ -1,4 +1,4 @@
-use Rattle.std.proofs.Common.{◌≡◌, ◌-◌, ◌<◌, ◌≤◌, ℕ, get_or}
+use Rattle.volume_app.proofs.Imports.{◌≡◌, ◌-◌, ◌<◌, ◌≤◌, ℕ, get_or}
 use Rattle.volume_app.proofs.reiser.label_of.Given as goal
 
 abbrev pub invariant-loop-end : goal.invariant-loop-end

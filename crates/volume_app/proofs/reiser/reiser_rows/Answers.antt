@@ -1,7 +1,4 @@
-use Rattle.std.proofs.Common.{◌∙◌}
-use Rattle.std.proofs.lemmas.Result.{MatchResult-weaker}
-use Rattle.convert_core.proofs.command_answers.Handed.{handed_on}
-use Rattle.reiser_volume.proofs.Answering.{rules_pass}
+use Rattle.volume_app.proofs.Imports.{◌∙◌, MatchResult-weaker, handed_on, rules_pass}
 use Rattle.volume_app.proofs.reiser.reiser_rows.Goals as goal
 
 pub returns-in_err-volume-clause-rows : goal.returns-in_err-volume-clause-rows

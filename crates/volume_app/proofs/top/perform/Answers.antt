@@ -1,14 +1,6 @@
-use Rattle.std.proofs.Common.{◌≡◌, ◌∙◌, sym, ap, subst, map, string_bytes, Some, None}
+use Rattle.volume_app.proofs.Imports.{◌≡◌, ◌∙◌, sym, ap, subst, map, string_bytes, Some, None, command, convert, help, inspect, list, recover, rollback, seen, trial, version, convert_meaning, inspect_meaning, list_meaning, Knows, recover_meaning, rollback_meaning, trial_meaning}
 use Rattle.volume_app.specs.declared.command.Command.{Command}
-use Rattle.volume_app.specs.Command.{command, convert, help, inspect, list, recover, rollback, seen, trial, version}
-use Rattle.volume_app.specs.Converting.{convert_meaning}
-use Rattle.volume_app.specs.Inspect.{inspect_meaning}
-use Rattle.volume_app.specs.Listing.{list_meaning}
-use Rattle.volume_app.specs.Outcome.{Knows}
-use Rattle.volume_app.specs.Recovering.{recover_meaning}
-use Rattle.volume_app.specs.RollingBack.{rollback_meaning}
 use Rattle.volume_app.specs.Texts.{help_text, version_text}
-use Rattle.volume_app.specs.Trying.{trial_meaning}
 use Rattle.volume_app.proofs.Performing.{no_words, said, some_is_not}
 use Rattle.volume_app.proofs.top.perform.Goals as goal
 

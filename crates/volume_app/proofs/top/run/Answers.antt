@@ -1,7 +1,4 @@
-use Rattle.std.proofs.Common.{◌≡◌, ◌⊎◌, ℕ, map, string_bytes, subst}
-use Rattle.reiser_volume.specs.outside.History.{reads}
-use Rattle.volume_app.specs.Command.{command}
-use Rattle.volume_app.specs.Outcome.{meaning}
+use Rattle.volume_app.proofs.Imports.{◌≡◌, ◌⊎◌, ℕ, map, string_bytes, subst, reads, command, meaning}
 use Rattle.volume_app.proofs.Outcomes.{done_by, done_or_memory, reported_by}
 use Rattle.volume_app.proofs.Promise.{keeps_promise}
 use Rattle.volume_app.proofs.top.run.Goals as goal
@@ -25,9 +22,12 @@ returns-clause-changed g c = λ tells is.
 pub returns-clause-crash : goal.returns-clause-crash
 returns-clause-crash g c = c.perform-ending.ensures.performs.crash
 
+pub returns-clause-order : goal.returns-clause-order
+returns-clause-order g c = c.perform-ending.ensures.performs.order
+
 pub returns-clause-settled : goal.returns-clause-settled
-returns-clause-settled g c = λ tells settled is.
-    c.perform-ending.ensures.performs.settled tells settled (done_by c.perform-ending.result (subst (λ (n : ℕ). (n ≡ 0) ⊎ (n ≡ 5)) c.status.ensures is))
+returns-clause-settled g c = λ tells writes is.
+    c.perform-ending.ensures.performs.settled tells writes (done_by c.perform-ending.result (subst (λ (n : ℕ). (n ≡ 0) ⊎ (n ≡ 5)) c.status.ensures is))
 
 pub returns-clause-ends : goal.returns-clause-ends
 returns-clause-ends g c = record {

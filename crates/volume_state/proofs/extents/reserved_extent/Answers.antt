@@ -1,8 +1,4 @@
-use Rattle.std.proofs.Common.{ℕ, List, subst}
-use Rattle.btr_reader_walk.specs.Walks.{found}
-use Rattle.btr_reader_walk.specs.declared.map.MapRange.{MapRange}
-use Rattle.volume_state.specs.Reserved.{IsMapApart}
-use Rattle.volume_state.specs.Using.{HoldsExtent, TellsReserved}
+use Rattle.volume_state.proofs.Imports.{ℕ, List, subst, found, MapRange, IsMapApart, HoldsExtent, TellsReserved}
 use Rattle.volume_state.proofs.extents.reserved_extent.Goals as goal
 
 pub returns-clause-told : goal.returns-clause-told

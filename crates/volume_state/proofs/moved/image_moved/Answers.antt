@@ -1,6 +1,4 @@
-use Rattle.std.proofs.Common.{◌≡◌, ◌≤◌, ◌+◌, ℕ, false, sym, subst, arith}
-use Rattle.reiser_bitmap.specs.vol_block.Volume.{is_reserved}
-use Rattle.btr_reader.specs.Pieces.{map_place}
+use Rattle.volume_state.proofs.Imports.{◌≡◌, ◌≤◌, ◌+◌, ℕ, false, sym, subst, arith, is_reserved, map_place}
 use Rattle.volume_state.proofs.Moving.{next_high, next_low, next_marked, none_between, placed_next}
 use Rattle.volume_state.proofs.moved.image_moved.Goals as goal
 

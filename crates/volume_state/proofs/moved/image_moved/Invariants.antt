@@ -1,7 +1,4 @@
-use Rattle.std.proofs.Common.{◌-◌, ◌≡◌, ◌≤◌, ◌<◌, ℕ, Some, true, length}
-use Rattle.btr_reader.specs.Pieces.{map_place}
-use Rattle.volume_state.specs.Moved.{IsOld}
-use Rattle.reiser_bitmap.specs.Bits.{has}
+use Rattle.volume_state.proofs.Imports.{◌-◌, ◌≡◌, ◌≤◌, ◌<◌, ℕ, Some, true, length, map_place, IsOld, has}
 use Rattle.volume_state.proofs.moved.image_moved.Given as goal
 
 abbrev pub invariant-loop-block : goal.invariant-loop-block

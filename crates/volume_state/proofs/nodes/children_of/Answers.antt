@@ -1,15 +1,11 @@
-use Rattle.std.proofs.Common.{◌<◌, [], ◌∷◌, ◌++◌, map, take, length, List, sym, ◌∙◌, ap, rules}
-use Rattle.std.proofs.lemmas.List.{map_more}
-use Rattle.btr_node.specs.declared.child.Child.{Child}
-use Rattle.btr_reader_walk.specs.Node.{child_pointer}
-use Rattle.btr_reader_walk.specs.declared.tree.Pointer.{Pointer}
+use Rattle.volume_state.proofs.Imports.{◌<◌, [], ◌∷◌, ◌++◌, map, take, length, List, sym, ◌∙◌, ap, rules, map_more, Child, child_pointer, NodePointer}
 use Rattle.volume_state.proofs.nodes.children_of.Goals as goal
 
 pub loop-i-preserved : goal.loop-i-preserved
 loop-i-preserved c =
-    let f : Child → Pointer = child_pointer c.args.level in
+    let f : Child → NodePointer = child_pointer c.args.level in
     let within : c.loop-i.i < length c.args.view.now = search rules in
     c.in_ok-push.ensures.items
-    ∙ (ap (λ (z : List Pointer). z ++ f c.child-child.result ∷ []) c.loop-i.invariant
+    ∙ (ap (λ (z : List NodePointer). z ++ f c.child-child.result ∷ []) c.loop-i.invariant
     ∙ (ap (λ (x : Child). map f (take c.loop-i.i c.args.view.now) ++ f x ∷ []) (c.child-child.ensures c.child-child.result)
     ∙ sym (map_more f c.args.view.now c.loop-i.i c.child-child.result within)))

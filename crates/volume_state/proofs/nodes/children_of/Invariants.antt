@@ -1,5 +1,4 @@
-use Rattle.std.proofs.Common.{◌≡◌, map, take}
-use Rattle.btr_reader_walk.specs.Node.{child_pointer}
+use Rattle.volume_state.proofs.Imports.{◌≡◌, map, take, child_pointer}
 use Rattle.volume_state.proofs.nodes.children_of.Given as goal
 
 abbrev pub invariant-loop-i : goal.invariant-loop-i

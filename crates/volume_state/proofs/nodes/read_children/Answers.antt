@@ -1,12 +1,5 @@
-use Rattle.std.proofs.Common.{◌≡◌, ℕ, true, List, length, Contains, sym, ◌∙◌, ap, subst}
-use Rattle.std.proofs.lemmas.Result.{err_from_is_err_and}
-use Rattle.reiser_bitmap.specs.outside.History.{Image}
-use Rattle.btr_node.specs.Rules.{inner_damages}
+use Rattle.volume_state.proofs.Imports.{◌≡◌, ℕ, true, List, length, Contains, sym, ◌∙◌, ap, subst, err_from_is_err_and, Image, inner_damages, is_mapped, node_at, IsAmong, NodePointer, own_faults}
 use Rattle.btr_node.specs.declared.expect.Expect.{Expect}
-use Rattle.btr_reader_walk.specs.Map.{is_mapped, node_at}
-use Rattle.btr_reader_walk.specs.Walks.{IsAmong}
-use Rattle.btr_reader_walk.specs.declared.tree.Pointer.{Pointer}
-use Rattle.volume_state.specs.Nodes.{own_faults}
 use Rattle.volume_state.proofs.Faults.{child_lower, inner_among, inner_sound, unread_among}
 use Rattle.volume_state.proofs.nodes.read_children.Goals as goal
 
@@ -19,7 +12,7 @@ returns-in_err-read_node-clause-sound g c = λ tells image is.
 
 pub returns-in-Ok-clause-lower : goal.returns-in-Ok-clause-lower
 returns-in-Ok-clause-lower g c = λ p among.
-    child_lower c.args.node.now.level c.in-Ok.view p c.requires.inner (subst (λ (xs : List Pointer). Contains xs p) c.in_ok-children-in-Ok.ensures among)
+    child_lower c.args.node.now.level c.in-Ok.view p c.requires.inner (subst (λ (xs : List NodePointer). Contains xs p) c.in_ok-children-in-Ok.ensures among)
 
 pub returns-in-Ok-clause-sound : goal.returns-in-Ok-clause-sound
 returns-in-Ok-clause-sound g c = λ tells image is.

@@ -1,5 +1,4 @@
-use Rattle.std.proofs.Common.{◌≤◌, ◌<◌, ℕ, subst}
-use Rattle.volume_state.specs.Reserved.{TellsBetween}
+use Rattle.volume_state.proofs.Imports.{◌≤◌, ◌<◌, ℕ, subst, TellsBetween}
 use Rattle.volume_state.proofs.Lying.{in_one}
 use Rattle.volume_state.proofs.reserved.reserved_between.Goals as goal
 

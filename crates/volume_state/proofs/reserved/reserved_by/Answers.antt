@@ -1,8 +1,5 @@
-use Rattle.std.proofs.Common.{arith}
-use Rattle.volume_state.proofs.Lying.{by_range}
+use Rattle.volume_state.proofs.Lying.{by_copies}
 use Rattle.volume_state.proofs.reserved.reserved_by.Goals as goal
 
-pub returns : goal.returns
-returns c =
-    by_range c.args.range.now c.args.address c.args.count c.args.blocks c.max-first.result c.min-end.result (omega (arith, c.if-first-end.false)) (omega arith) (omega arith) (omega arith) (omega arith)
-    (λ x from own. omega (arith, from, own)) (λ x below inside. omega (arith, below, inside)) c.reserved_between.result c.reserved_between.ensures
+pub returns-in-None : goal.returns-in-None
+returns-in-None c = by_copies c.args.range.now c.args.address c.args.count c.args.blocks c.reserved_by_second.result (rw c.in-None.is at c.reserved_by_copy.ensures) c.reserved_by_second.ensures

@@ -1,4 +1,4 @@
-use Rattle.std.proofs.Common.{take}
+use Rattle.volume_state.proofs.Imports.{take}
 use Rattle.volume_state.proofs.Lying.{LieNowhere}
 use Rattle.volume_state.proofs.reserved.reserved_in.Given as goal
 

@@ -1,16 +1,4 @@
-use Rattle.std.proofs.Common.{◌≡◌, List, Option, None, Some, Ok, sym, ◌∙◌, subst}
-use Rattle.std.proofs.lemmas.Result.{err_from_is_err_and}
-use Rattle.btr_reader.specs.Image.{entry_refusals}
-use Rattle.btr_reader.specs.Opening.{tree_of}
-use Rattle.btr_reader.specs.Parts.{way_refusals}
-use Rattle.btr_reader.specs.Reading.{FindsSaved}
-use Rattle.btr_reader.specs.Rows.{roots_on}
-use Rattle.btr_reader_walk.specs.Walks.{IsAmong, found, wrong}
-use Rattle.btr_reader_walk.specs.declared.map.MapRange.{MapRange}
-use Rattle.btr_reader_walk.specs.declared.tree.Tree.{Tree}
-use Rattle.volume_state.specs.Reserved.{IsMapApart}
-use Rattle.volume_state.specs.Using.{HoldsPartOf, TellsReserved}
-use Rattle.btr_reader.proofs.Stages.{file_tree_refused, saved_refused}
+use Rattle.volume_state.proofs.Imports.{◌≡◌, List, Option, None, Some, Ok, sym, ◌∙◌, subst, err_from_is_err_and, FS_TREE, entry_refusals, tree_of, way_refusals, FindsSaved, roots_on, IsAmong, found, wrong, MapRange, Tree, IsMapApart, HoldsPartOf, TellsReserved, file_tree_refused, saved_refused}
 use Rattle.volume_state.proofs.Telling.{alone_told, both_told, file_among, file_of, file_told, files_told, match_so, no_file, no_trees, other_among, other_of, way_among}
 use Rattle.volume_state.proofs.using.reserved_file.Goals as goal
 
@@ -65,7 +53,7 @@ returns-in-Some-3-clause-told g c = λ tells image is on apart.
     let finds =
     subst (λ (t : Tree). FindsSaved c.args.volume.now.sup (roots_on image c.args.volume.now.sup c.args.volume.now.ranges.items) (entry_refusals image c.args.volume.now.ranges.items t) (found image c.args.volume.now.ranges.items t) (Ok c.in_ok-tree-2.field-0)) (sym file.tree)
     (c.in_ok-tree-2.ensures.finds tells image here _ on.roots) in
-    let other = other_of image c.args.volume.now.sup c.args.volume.now.ranges.items file.i file.p file.is file.at c.in-Some-3.tree (subst (λ (o : Option Tree). FindsSaved c.args.volume.now.sup (roots_on image c.args.volume.now.sup c.args.volume.now.ranges.items) (entry_refusals image c.args.volume.now.ranges.items (tree_of c.args.volume.now.sup 5 file.p)) (found image c.args.volume.now.ranges.items (tree_of c.args.volume.now.sup 5 file.p)) (Ok o)) c.in-Some-3.is finds) in
+    let other = other_of image c.args.volume.now.sup c.args.volume.now.ranges.items file.i file.p file.is file.at c.in-Some-3.tree (subst (λ (o : Option Tree). FindsSaved c.args.volume.now.sup (roots_on image c.args.volume.now.sup c.args.volume.now.ranges.items) (entry_refusals image c.args.volume.now.ranges.items (tree_of c.args.volume.now.sup FS_TREE file.p)) (found image c.args.volume.now.ranges.items (tree_of c.args.volume.now.sup FS_TREE file.p)) (Ok o)) c.in-Some-3.is finds) in
     let there : g.S.BlockSource.blocks c.saved_tree.new.src ≡ image = g.met.S.BlockSource.kept_blocks c.reserved_part.new.src c.saved_tree.new.src tells c.in_ok-tree-2.ensures.kept ∙ here in
     match_so c.reserved_part-in-Some-3.result _ _ _ _
     (λ o second. files_told image c.args.volume.now.sup c.args.volume.now.ranges.items on.opened c.args.blocks o (both_told image c.args.volume.now.sup c.args.volume.now.ranges.items file.i file.p file.is file.at c.args.blocks c.in-Some-3.tree o other none
@@ -87,5 +75,5 @@ returns-in-None-2-clause-told g c = λ tells image is on apart.
     let finds =
     subst (λ (t : Tree). FindsSaved c.args.volume.now.sup (roots_on image c.args.volume.now.sup c.args.volume.now.ranges.items) (entry_refusals image c.args.volume.now.ranges.items t) (found image c.args.volume.now.ranges.items t) (Ok c.in_ok-tree-2.field-0)) (sym file.tree)
     (c.in_ok-tree-2.ensures.finds tells image here _ on.roots) in
-    let none_there = subst (λ (o : Option Tree). FindsSaved c.args.volume.now.sup (roots_on image c.args.volume.now.sup c.args.volume.now.ranges.items) (entry_refusals image c.args.volume.now.ranges.items (tree_of c.args.volume.now.sup 5 file.p)) (found image c.args.volume.now.ranges.items (tree_of c.args.volume.now.sup 5 file.p)) (Ok o)) c.in-None-2.is finds in
+    let none_there = subst (λ (o : Option Tree). FindsSaved c.args.volume.now.sup (roots_on image c.args.volume.now.sup c.args.volume.now.ranges.items) (entry_refusals image c.args.volume.now.ranges.items (tree_of c.args.volume.now.sup FS_TREE file.p)) (found image c.args.volume.now.ranges.items (tree_of c.args.volume.now.sup FS_TREE file.p)) (Ok o)) c.in-None-2.is finds in
     files_told image c.args.volume.now.sup c.args.volume.now.ranges.items on.opened c.args.blocks None (alone_told image c.args.volume.now.sup c.args.volume.now.ranges.items file.i file.p file.is file.at c.args.blocks none_there none)

@@ -1,5 +1,4 @@
-use Rattle.std.proofs.Common.{◌≡◌, subst, ◌∙◌}
-use Rattle.volume_state.specs.Using.{HoldsNodeOf, TellsReserved}
+use Rattle.volume_state.proofs.Imports.{◌≡◌, subst, ◌∙◌, HoldsNodeOf, TellsReserved}
 use Rattle.volume_state.proofs.Telling.{match_so, part_told}
 use Rattle.volume_state.proofs.using.reserved_part.Goals as goal
 

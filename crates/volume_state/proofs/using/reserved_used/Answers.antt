@@ -1,12 +1,5 @@
-use Rattle.std.proofs.Common.{◌≡◌, List, sym, ◌∙◌, subst}
-use Rattle.std.proofs.lemmas.Result.{err_from_is_err_and}
+use Rattle.volume_state.proofs.Imports.{◌≡◌, List, sym, ◌∙◌, subst, err_from_is_err_and, chunk_tree, root_tree, IsAmong, wrong, MapRange, Tree, IsMapApart, HoldsNodeOf, RefusesUse, TellsReserved}
 use Rattle.btr_reader.proofs.MapApart.{opened_apart}
-use Rattle.btr_reader.specs.Opening.{chunk_tree, root_tree}
-use Rattle.btr_reader_walk.specs.Walks.{IsAmong, wrong}
-use Rattle.btr_reader_walk.specs.declared.map.MapRange.{MapRange}
-use Rattle.btr_reader_walk.specs.declared.tree.Tree.{Tree}
-use Rattle.volume_state.specs.Reserved.{IsMapApart}
-use Rattle.volume_state.specs.Using.{HoldsNodeOf, RefusesUse, TellsReserved}
 use Rattle.volume_state.proofs.InUse.{all_told, chunk_used, chunks_sound, log_refused, none_refused, root_used, roots_sound, way_refused}
 use Rattle.volume_state.proofs.Telling.{match_so}
 use Rattle.volume_state.proofs.using.reserved_used.Goals as goal

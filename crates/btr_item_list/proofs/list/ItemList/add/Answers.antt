@@ -1,5 +1,4 @@
-use Rattle.std.proofs.Common.{rules, ◌++◌, ◌∷◌, [], List, ap, ◌∙◌}
-use Rattle.btr_node.specs.Leaf.{Item}
+use Rattle.btr_item_list.proofs.Imports.{rules, ◌++◌, ◌∷◌, [], List, ap, ◌∙◌, Item}
 use Rattle.btr_item_list.proofs.Bodies.{item_added}
 use Rattle.btr_item_list.proofs.list.ItemList.add.Goals as goal
 

@@ -1,5 +1,4 @@
-use Rattle.std.proofs.Common.{◌≡◌, ◌++◌, List, subst, OnOk}
-use Rattle.btr_node.specs.Leaf.{Item}
+use Rattle.btr_item_list.proofs.Imports.{◌≡◌, ◌++◌, List, subst, OnOk, Item}
 use Rattle.btr_item_list.proofs.Joining.{order_again, joined_again}
 use Rattle.btr_item_list.proofs.list.ItemList.add_joined.Goals as goal
 

@@ -1,4 +1,4 @@
-use Rattle.std.proofs.Common.{◌∙◌}
+use Rattle.btr_item_list.proofs.Imports.{◌∙◌}
 use Rattle.btr_item_list.proofs.Joining.{run_added}
 use Rattle.btr_item_list.proofs.list.ItemList.add_runs.Goals as goal
 

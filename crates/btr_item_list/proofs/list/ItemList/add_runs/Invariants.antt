@@ -1,5 +1,4 @@
-use Rattle.std.proofs.Common.{◌≡◌, ◌≤◌, ◌++◌, ◌-◌, length, drop}
-use Rattle.btr_item_list.specs.Lists.{joined}
+use Rattle.btr_item_list.proofs.Imports.{◌≡◌, ◌≤◌, ◌++◌, ◌-◌, length, drop, joined}
 use Rattle.btr_item_list.proofs.list.ItemList.add_runs.Given as goal
 
 abbrev pub invariant-loop-next : goal.invariant-loop-next

@@ -1,6 +1,4 @@
-use Rattle.std.proofs.Common.{◌++◌, List, ap, ◌∙◌, arith}
-use Rattle.std.proofs.lemmas.List.{take_all}
-use Rattle.btr_node.specs.Leaf.{Item}
+use Rattle.btr_item_list.proofs.Imports.{◌++◌, List, ap, ◌∙◌, arith, take_all, Item}
 use Rattle.btr_item_list.proofs.Joining.{appended_more}
 use Rattle.btr_item_list.proofs.list.ItemList.append.Goals as goal
 

@@ -1,4 +1,4 @@
-use Rattle.std.proofs.Common.{◌≡◌, ◌++◌, take}
+use Rattle.btr_item_list.proofs.Imports.{◌≡◌, ◌++◌, take}
 use Rattle.btr_item_list.proofs.list.ItemList.append.Given as goal
 
 abbrev pub invariant-loop-i : goal.invariant-loop-i

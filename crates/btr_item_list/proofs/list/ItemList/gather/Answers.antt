@@ -1,4 +1,4 @@
-use Rattle.std.proofs.Common.{arith}
+use Rattle.btr_item_list.proofs.Imports.{arith}
 use Rattle.btr_item_list.proofs.Joining.{gathered}
 use Rattle.btr_item_list.proofs.list.ItemList.gather.Goals as goal
 

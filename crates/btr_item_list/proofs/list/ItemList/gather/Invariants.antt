@@ -1,6 +1,4 @@
-use Rattle.std.proofs.Common.{◌≡◌}
-use Rattle.std.specs.Prelude.{slice_range}
-use Rattle.std.specs.List.{flat_map}
+use Rattle.btr_item_list.proofs.Imports.{◌≡◌, slice_range, flat_map}
 use Rattle.btr_item_list.proofs.list.ItemList.gather.Given as goal
 
 abbrev pub invariant-loop-i : goal.invariant-loop-i

@@ -1,7 +1,4 @@
-use Rattle.std.proofs.Common.{◌≡◌, ◌≤◌, ◌<◌, ◌-◌, ℕ, length}
-use Rattle.std.specs.Prelude.{slice_index_or}
-use Rattle.btr_node.specs.Leaf.{Item}
-use Rattle.btr_item_list.specs.Lists.{offset_of}
+use Rattle.btr_item_list.proofs.Imports.{◌≡◌, ◌≤◌, ◌<◌, ◌-◌, ℕ, length, slice_index_or, Item, offset_of}
 use Rattle.btr_item_list.proofs.list.ItemList.run_end.Given as goal
 
 abbrev pub invariant-loop-end : goal.invariant-loop-end

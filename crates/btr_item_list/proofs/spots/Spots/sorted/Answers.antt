@@ -1,6 +1,4 @@
-use Rattle.std.proofs.Common.{rules}
-use Rattle.std.proofs.lemmas.List.Sorted.{answers_always}
-use Rattle.btr_item_list.specs.declared.spot.Spot.{Spot}
+use Rattle.btr_item_list.proofs.Imports.{rules, answers_always, Spot}
 use Rattle.btr_item_list.proofs.Runs.{sort_is}
 use Rattle.btr_item_list.proofs.spots.Spots.sorted.Goals as goal
 

@@ -1,6 +1,4 @@
-use Rattle.std.proofs.Common.{◌≡◌, ◌+◌, ◌-◌, ℕ, ap, sym, ◌∙◌, get_or-drop, arith, take, drop}
-use Rattle.btr_keys.specs.Key.{key_layout}
-use Rattle.btr_keys.specs.DirEntry.{dir_entry_head}
+use Rattle.btr_keys.proofs.Imports.{◌≡◌, ◌+◌, ◌-◌, ℕ, ap, sym, ◌∙◌, get_or-drop, arith, take, drop, key_layout, dir_entry_head}
 use Rattle.btr_keys.proofs.dir_entry.DirEntry.front.Goals as goal
 
 pub returns : goal.returns

@@ -1,5 +1,4 @@
-use Rattle.std.proofs.Common.{Some, ap, sym, ◌∙◌, lit<}
-use Rattle.btr_keys.specs.DirEntry.{dir_entry_front}
+use Rattle.btr_keys.proofs.Imports.{Some, ap, sym, ◌∙◌, lit<, dir_entry_front}
 use Rattle.btr_keys.proofs.Starts.{start_within, record_at}
 use Rattle.btr_keys.proofs.dir_entry.DirItems.get.Goals as goal
 

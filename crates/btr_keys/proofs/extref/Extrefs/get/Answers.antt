@@ -1,5 +1,4 @@
-use Rattle.std.proofs.Common.{Some, ap, sym, ◌∙◌, lit<}
-use Rattle.btr_keys.specs.Extref.{extref_front}
+use Rattle.btr_keys.proofs.Imports.{Some, ap, sym, ◌∙◌, lit<, extref_front}
 use Rattle.btr_keys.proofs.Starts.{start_within, record_at}
 use Rattle.btr_keys.proofs.extref.Extrefs.get.Goals as goal
 

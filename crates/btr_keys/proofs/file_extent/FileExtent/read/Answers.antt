@@ -1,8 +1,4 @@
-use Rattle.std.proofs.Common.{◌≡◌, ◌∙◌, ℕ, Bool, cond, None, Option, drop, ap, sym, get_or-drop, slice_index_or}
-use Rattle.std.proofs.lemmas.Bool.{le-ltb}
-use Rattle.std.proofs.lemmas.List.{take_rest}
-use Rattle.std.specs.Option.{option_map}
-use Rattle.btr_keys.specs.FileExtent.{file_extent_head, file_extent_value, file_extent_of, make_file_extent, content_of}
+use Rattle.btr_keys.proofs.Imports.{◌≡◌, ◌∙◌, ℕ, Bool, cond, None, Option, drop, ap, sym, get_or-drop, slice_index_or, le-ltb, take_rest, option_map, file_extent_head, file_extent_value, file_extent_of, make_file_extent, content_of}
 use Rattle.btr_keys.proofs.file_extent.FileExtent.read.Goals as goal
 
 pub returns : goal.returns

@@ -1,5 +1,4 @@
-use Rattle.btr_keys.specs.Stamp.{stamp_layout}
-use Rattle.btr_keys.specs.Inode.{inode_layout}
+use Rattle.btr_keys.proofs.Imports.{stamp_layout, inode_layout}
 use Rattle.btr_keys.proofs.inode.Inode.first.Goals as goal
 
 pub returns : goal.returns

@@ -1,5 +1,4 @@
-use Rattle.std.proofs.Common.{Some, ap, sym, ◌∙◌, lit<}
-use Rattle.btr_keys.specs.InodeRef.{inode_ref_front}
+use Rattle.btr_keys.proofs.Imports.{Some, ap, sym, ◌∙◌, lit<, inode_ref_front}
 use Rattle.btr_keys.proofs.Starts.{start_within, record_at}
 use Rattle.btr_keys.proofs.inode_ref.InodeRefs.get.Goals as goal
 

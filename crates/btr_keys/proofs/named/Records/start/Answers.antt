@@ -1,5 +1,4 @@
-use Rattle.std.proofs.Common.{◌≤◌, ◌+◌, length, ap, ◌∙◌, Some, arith}
-use Rattle.vol_block.specs.Volume.{field}
+use Rattle.btr_keys.proofs.Imports.{◌≤◌, ◌+◌, length, ap, ◌∙◌, Some, arith, field}
 use Rattle.btr_keys.proofs.Starts.{named_whole}
 use Rattle.btr_keys.proofs.named.Records.start.Goals as goal
 

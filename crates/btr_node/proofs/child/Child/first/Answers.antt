@@ -1,5 +1,4 @@
-use Rattle.btr_keys.specs.Key.{key_layout}
-use Rattle.btr_node.specs.Inner.{child_layout}
+use Rattle.btr_node.proofs.Imports.{key_layout, child_layout}
 use Rattle.btr_node.proofs.child.Child.first.Goals as goal
 
 pub returns : goal.returns

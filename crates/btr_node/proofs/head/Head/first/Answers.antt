@@ -1,6 +1,4 @@
-use Rattle.std.proofs.Common.{sym}
-use Rattle.std.proofs.lemmas.List.{get_or-drop}
-use Rattle.btr_node.specs.Head.{head_layout}
+use Rattle.btr_node.proofs.Imports.{sym, get_or-drop, head_layout}
 use Rattle.btr_node.proofs.head.Head.first.Goals as goal
 
 pub returns : goal.returns

@@ -1,7 +1,5 @@
-use Rattle.std.proofs.Common.{ap, ◌∙◌}
-use Rattle.std.proofs.lemmas.List.{take_rest}
-use Rattle.btr_node.specs.Head.{head_layout}
+use Rattle.btr_node.proofs.Imports.{ap, ◌∙◌, take_rest, CSUM_SIZE, head_layout}
 use Rattle.btr_node.proofs.head.Head.of.Goals as goal
 
 pub returns : goal.returns
-returns c = c.first.ensures ∙ ap head_layout.read (take_rest c.args.bytes.now 32)
+returns c = c.first.ensures ∙ ap head_layout.read (take_rest c.args.bytes.now CSUM_SIZE)

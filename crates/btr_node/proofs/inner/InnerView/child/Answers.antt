@@ -1,5 +1,4 @@
-use Rattle.std.proofs.Common.{◌<◌, get_or, length, sym, ap, ◌∙◌, arith}
-use Rattle.btr_node.specs.Head.{count}
+use Rattle.btr_node.proofs.Imports.{◌<◌, get_or, length, sym, ap, ◌∙◌, arith, nritems}
 use Rattle.btr_node.proofs.Inners.{length-children_in, child_there}
 use Rattle.btr_node.proofs.inner.InnerView.child.Goals as goal
 
@@ -8,5 +7,5 @@ child_at-requires-clause-within c = omega (arith, length-children_in c.self.insi
 
 pub returns : goal.returns
 returns c = λ other.
-    let within : c.args.i < count c.self.inside.bytes.now = omega (arith, length-children_in c.self.inside.bytes.now, ap length c.self.view_is, c.requires) in
+    let within : c.args.i < nritems c.self.inside.bytes.now = omega (arith, length-children_in c.self.inside.bytes.now, ap length c.self.view_is, c.requires) in
     c.child_at.ensures ∙ sym (child_there c.self.inside.bytes.now c.args.i within other) ∙ ap (λ children. get_or children c.args.i other) c.self.view_is

@@ -1,5 +1,4 @@
-use Rattle.std.proofs.Common.{length, sym, ap, ◌∙◌}
-use Rattle.btr_node.specs.declared.head.Head.{Head}
+use Rattle.btr_node.proofs.Imports.{length, sym, ap, ◌∙◌, Head}
 use Rattle.btr_node.proofs.Inners.{length-children_in}
 use Rattle.btr_node.proofs.inner.InnerView.count.Goals as goal
 

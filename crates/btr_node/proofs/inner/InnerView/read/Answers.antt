@@ -1,7 +1,4 @@
-use Rattle.std.proofs.Common.{refl, sym}
-use Rattle.btr_node.specs.Inner.{has_inner_head, has_inner_layout, has_inner_order}
-use Rattle.btr_node.specs.Rules.{inner_damages}
-use Rattle.btr_node.specs.Sum.{has_sum}
+use Rattle.btr_node.proofs.Imports.{refl, sym, has_inner_head, has_inner_layout, has_inner_order, inner_damages, has_sum}
 use Rattle.btr_node.proofs.Breaks.{breaks_sum, breaks_head, breaks_layout, breaks_order, breaks_none, sum_decides}
 use Rattle.btr_node.proofs.Inners.{inner_head_decides, inner_layout_decides}
 use Rattle.btr_node.proofs.inner.InnerView.read.Goals as goal

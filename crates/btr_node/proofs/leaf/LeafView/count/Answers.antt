@@ -1,6 +1,5 @@
-use Rattle.std.proofs.Common.{length, sym, ap, ◌∙◌}
+use Rattle.btr_node.proofs.Imports.{length, sym, ap, ◌∙◌, Head}
 use Rattle.btr_node.proofs.Leaves.{length-items_in}
-use Rattle.btr_node.specs.declared.head.Head.{Head}
 use Rattle.btr_node.proofs.leaf.LeafView.count.Goals as goal
 
 pub returns : goal.returns

@@ -1,7 +1,4 @@
-use Rattle.std.proofs.Common.{◌<◌, get_or, length, sym, ap, ◌∙◌, arith}
-use Rattle.btr_node.specs.Head.{count}
-use Rattle.btr_node.specs.Leaf.{Item}
-use Rattle.btr_node.specs.declared.item.ItemHead.{ItemHead}
+use Rattle.btr_node.proofs.Imports.{◌<◌, get_or, length, sym, ap, ◌∙◌, arith, nritems, Item, BtrItemHead}
 use Rattle.btr_node.proofs.Leaves.{length-items_in, item_at}
 use Rattle.btr_node.proofs.leaf.LeafView.key.Goals as goal
 
@@ -10,6 +7,6 @@ head_at-requires-clause-within c = omega (arith, length-items_in c.self.inside.b
 
 pub returns : goal.returns
 returns c = λ other.
-    let within : c.args.i < count c.self.inside.bytes.now = omega (arith, length-items_in c.self.inside.bytes.now, ap length c.self.view_is, c.requires) in
-    ap (λ (head : ItemHead). head.key) c.head_at.ensures
+    let within : c.args.i < nritems c.self.inside.bytes.now = omega (arith, length-items_in c.self.inside.bytes.now, ap length c.self.view_is, c.requires) in
+    ap (λ (head : BtrItemHead). head.key) c.head_at.ensures
     ∙ ap (λ (item : Item). item.0) (sym (item_at c.self.inside.bytes.now c.args.i within other) ∙ ap (λ items. get_or items c.args.i other) c.self.view_is)

@@ -1,8 +1,4 @@
-use Rattle.std.proofs.Common.{refl, sym}
-use Rattle.std.proofs.lemmas.Bool.Decides.{not_from_Decides}
-use Rattle.btr_node.specs.Leaf.{IsLeaf, has_leaf_head, has_leaf_layout, has_leaf_order}
-use Rattle.btr_node.specs.Rules.{leaf_damages}
-use Rattle.btr_node.specs.Sum.{has_sum}
+use Rattle.btr_node.proofs.Imports.{refl, sym, not_from_Decides, IsBtrfsLeaf, has_leaf_head, has_leaf_layout, has_leaf_order, leaf_damages, has_sum}
 use Rattle.btr_node.proofs.Breaks.{breaks_sum, breaks_head, breaks_layout, breaks_order, breaks_none, sum_decides, leaf_head_decides}
 use Rattle.btr_node.proofs.Leaves.{leaf_layout_decides}
 use Rattle.btr_node.proofs.leaf.LeafView.read.Goals as goal
@@ -23,7 +19,7 @@ returns-then-not-has_layout-clause-fails c = not_from_Decides _ (leaf_layout_dec
 
 pub returns-then-not-has_layout-clause-grammar : goal.returns-then-not-has_layout-clause-grammar
 returns-then-not-has_layout-clause-grammar c =
-    (λ h. absurd (cc), λ (leaf : IsLeaf c.args.want.now c.args.bytes.now). absurd (not_from_Decides _ (leaf_layout_decides c.args.bytes.now) (sym c.if-not-has_layout.ensures) leaf.layout))
+    (λ h. absurd (cc), λ (leaf : IsBtrfsLeaf c.args.want.now c.args.bytes.now). absurd (not_from_Decides _ (leaf_layout_decides c.args.bytes.now) (sym c.if-not-has_layout.ensures) leaf.layout))
 
 pub returns-then-not-has_layout-clause-damages : goal.returns-then-not-has_layout-clause-damages
 unfolding leaf_damages

@@ -1,7 +1,4 @@
-use Rattle.std.proofs.Common.{refl, subst, length, ap, ◌∙◌, arith}
-use Rattle.btr_node.specs.Draft.{IsDraft, node_bytes}
-use Rattle.btr_node.specs.Inner.{children_in}
-use Rattle.btr_node.specs.Leaf.{items_in}
+use Rattle.btr_node.proofs.Imports.{refl, subst, length, ap, ◌∙◌, arith, IsDraft, node_bytes, children_in, items_in}
 use Rattle.btr_node.proofs.Holding.{room_of, finish_steps, sealed_is}
 use Rattle.btr_node.proofs.NodeBack.{length-node_bytes, leaf_back, leaf_items, inner_back, inner_children}
 use Rattle.btr_node.proofs.writer.NodeWriter.finish.Goals as goal

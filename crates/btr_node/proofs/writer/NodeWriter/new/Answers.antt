@@ -1,6 +1,5 @@
-use Rattle.std.proofs.Common.{◌-◌, false, ap, refl, arith}
+use Rattle.btr_node.proofs.Imports.{◌-◌, false, ap, refl, arith, HEADER_SIZE, Expect}
 use Rattle.csum_kinds.specs.declared.kind.SumKind.TheVariants.{Crc32c}
-use Rattle.btr_node.specs.declared.expect.Expect.{Expect}
 use Rattle.btr_node.proofs.Holding.{start_steps, head_spelled}
 use Rattle.btr_node.proofs.NodeBack.{size_within}
 use Rattle.btr_node.proofs.Putting.{zeros}
@@ -13,13 +12,13 @@ pub invariant_of-result : goal.invariant_of-result
 invariant_of-result c =
     let size = size_within c.args.nodesize c.requires in
     let spelled = head_spelled c.args.nodesize false nothing (zeros 16) refl (omega arith) refl (omega arith) (omega arith) (omega arith) in
-    (start_steps c.in_ok-zeroed.field-0.items c.args.nodesize (c.args.nodesize - 101) false nothing (zeros 16) c.in_ok-zeroed.ensures c.requires (omega (arith, size.0)) spelled).holds
+    (start_steps c.in_ok-zeroed.field-0.items c.args.nodesize (c.args.nodesize - HEADER_SIZE) false nothing (zeros 16) c.in_ok-zeroed.ensures c.requires (omega (arith, size.0)) spelled).holds
 
 pub returns : goal.returns
 returns c =
     let size = size_within c.args.nodesize c.requires in
     let spelled = head_spelled c.args.nodesize false nothing (zeros 16) refl (omega arith) refl (omega arith) (omega arith) (omega arith) in
-    let is = (start_steps c.in_ok-zeroed.field-0.items c.args.nodesize (c.args.nodesize - 101) false nothing (zeros 16) c.in_ok-zeroed.ensures c.requires (omega (arith, size.0)) spelled).is in
+    let is = (start_steps c.in_ok-zeroed.field-0.items c.args.nodesize (c.args.nodesize - HEADER_SIZE) false nothing (zeros 16) c.in_ok-zeroed.ensures c.requires (omega (arith, size.0)) spelled).is in
     record {
       size = ap (λ d. d.nodesize) is;
       idle = refl;

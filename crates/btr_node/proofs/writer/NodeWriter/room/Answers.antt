@@ -1,5 +1,4 @@
-use Rattle.std.proofs.Common.{ap, ◌∙◌, arith}
-use Rattle.btr_node.specs.Draft.{room}
+use Rattle.btr_node.proofs.Imports.{ap, ◌∙◌, arith, room}
 use Rattle.btr_node.proofs.Holding.{room_of}
 use Rattle.btr_node.proofs.writer.NodeWriter.room.Goals as goal
 

@@ -1,7 +1,4 @@
-use Rattle.std.proofs.Common.{sym, subst}
-use Rattle.std.proofs.lemmas.Result.{err_from_is_err_and}
-use Rattle.btr_reader.specs.Made.{RefusesTree}
-use Rattle.btr_reader.specs.Rows.{roots_on}
+use Rattle.btr_reader.proofs.Imports.{sym, subst, err_from_is_err_and, RefusesTree, roots_on}
 use Rattle.btr_reader.proofs.Answered.{not_found}
 use Rattle.btr_reader.proofs.volume.Btrfs.file_tree.Goals as goal
 

@@ -1,7 +1,4 @@
-use Rattle.std.proofs.Common.{◌≡◌, length, ap, sym, subst, ◌∙◌, refl, arith}
-use Rattle.std.proofs.lemmas.Result.{err_from_is_err_and}
-use Rattle.btr_super.specs.declared.superblock.Super.{Super}
-use Rattle.btr_reader.specs.Parts.{RefusesBtrfsRows, has_log}
+use Rattle.btr_reader.proofs.Imports.{◌≡◌, length, ap, sym, subst, ◌∙◌, refl, arith, err_from_is_err_and, Super, RefusesBtrfsRows, has_log}
 use Rattle.btr_reader.proofs.PartsRead.{no_log, opening_refuses, read_here, one_log, super_answer, super_refuses, rows_listed}
 use Rattle.btr_reader.proofs.volume.Btrfs.list.Goals as goal
 

@@ -1,8 +1,4 @@
-use Rattle.std.proofs.Common.{nat_eq}
-use Rattle.indexmap.specs.IndexSet.{contains}
-use Rattle.btr_reader_names.specs.Roots.{has_root}
-use Rattle.fs_paths.specs.Links.{same_node}
-use Rattle.btr_reader.specs.Rows.{roots_on}
+use Rattle.btr_reader.proofs.Imports.{nat_eq, contains, has_root, same_node, roots_on}
 use Rattle.btr_reader.proofs.Answered.{checked_by}
 use Rattle.btr_reader.proofs.volume.Btrfs.named.Goals as goal
 

@@ -1,6 +1,4 @@
-use Rattle.std.proofs.Common.{◌≡◌, length, ap, sym, subst, ◌∙◌}
-use Rattle.std.proofs.lemmas.Result.{err_from_is_err_and}
-use Rattle.btr_reader.specs.Opening.{IsAmong, opening_refusals}
+use Rattle.btr_reader.proofs.Imports.{◌≡◌, length, ap, sym, subst, ◌∙◌, err_from_is_err_and, IsAmong, opening_refusals}
 use Rattle.btr_reader.proofs.PartsRead.{super_answer}
 use Rattle.btr_reader.proofs.Opens.{super_refused}
 use Rattle.btr_reader.proofs.volume.Btrfs.open_by.Goals as goal

@@ -1,6 +1,4 @@
-use Rattle.std.proofs.Common.{◌≡◌, length, ◌∙◌, sym, ap, subst}
-use Rattle.std.proofs.lemmas.Result.{err_from_is_err_and}
-use Rattle.btr_reader.specs.Opening.{IsAmong, opening_refusals}
+use Rattle.btr_reader.proofs.Imports.{◌≡◌, length, ◌∙◌, sym, ap, subst, err_from_is_err_and, IsAmong, opening_refusals}
 use Rattle.btr_reader.proofs.Opens.{boot_refused, chunks_here, ranges_here, chunks_refused, root_refused, opened, root_items}
 use Rattle.btr_reader.proofs.volume.Btrfs.open_with.Goals as goal
 

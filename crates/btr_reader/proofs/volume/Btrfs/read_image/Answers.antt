@@ -1,8 +1,4 @@
-use Rattle.std.proofs.Common.{sym, ◌∙◌, subst}
-use Rattle.std.proofs.lemmas.Result.{err_from_is_err_and}
-use Rattle.btr_reader.specs.Image.{image_refusals}
-use Rattle.btr_reader.specs.Opening.{IsAmong}
-use Rattle.btr_reader.specs.Rows.{roots_on}
+use Rattle.btr_reader.proofs.Imports.{sym, ◌∙◌, subst, err_from_is_err_and, image_refusals, IsAmong, roots_on}
 use Rattle.btr_reader.proofs.Stages.{file_tree_refused, none_saved, saved_refused, top_read}
 use Rattle.btr_reader.proofs.volume.Btrfs.read_image.Goals as goal
 

@@ -1,7 +1,4 @@
-use Rattle.std.proofs.Common.{refl, sym, ◌∙◌, subst}
-use Rattle.std.proofs.lemmas.Result.{err_from_is_err_and}
-use Rattle.btr_reader.specs.Image.{saved_refusals}
-use Rattle.btr_reader.specs.Opening.{IsAmong}
+use Rattle.btr_reader.proofs.Imports.{refl, sym, ◌∙◌, subst, err_from_is_err_and, saved_refusals, IsAmong}
 use Rattle.btr_reader.proofs.Stages.{saved_entry_refused, saved_read}
 use Rattle.btr_reader.proofs.volume.Btrfs.read_saved.Goals as goal
 

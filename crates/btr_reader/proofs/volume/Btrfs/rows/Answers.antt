@@ -1,6 +1,4 @@
-use Rattle.std.proofs.Common.{◌≡◌, sym, subst, arith}
-use Rattle.std.proofs.lemmas.Result.{err_from_is_err_and}
-use Rattle.btr_reader.specs.Made.{RefusesRows}
+use Rattle.btr_reader.proofs.Imports.{◌≡◌, sym, subst, arith, err_from_is_err_and, RefusesRows}
 use Rattle.btr_reader.proofs.Answered.{tree_or_log, without_log}
 use Rattle.btr_reader.proofs.MapBlocks.{opened_in_blocks}
 use Rattle.btr_reader.proofs.volume.Btrfs.rows.Goals as goal

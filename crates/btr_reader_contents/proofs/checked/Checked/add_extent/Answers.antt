@@ -1,15 +1,5 @@
-use Rattle.std.proofs.Common.{◌≡◌, ℕ, ◌+◌, true, [], ◌∷◌, ◌++◌, Some, None, Contains, sym, ◌∙◌, ap, subst, arith}
-use Rattle.std.specs.Option.{option_map}
-use Rattle.std.proofs.lemmas.Result.{err_from_is_err_and}
-use Rattle.btr_reader_walk.specs.refusals.declared.refusal.BtrRefusal.TheVariants.{BadBtrfs}
-use Rattle.btr_reader_walk.specs.refusals.declared.rule.BtrRule.TheVariants.{Body}
-use Rattle.btr_reader_walk.specs.btr_keys.FileExtent.{FileExtentValue, file_extent_of, file_extent_value}
-use Rattle.btr_reader_walk.specs.btr_keys.declared.key.Key.{Key}
-use Rattle.btr_reader_contents.specs.Extents.{extent_length, extents_of, is_extent_of, refusals_at}
-use Rattle.btr_reader_contents.specs.declared.extents.Reach.{Reach}
+use Rattle.btr_reader_contents.proofs.Imports.{◌≡◌, ℕ, ◌+◌, true, [], ◌∷◌, ◌++◌, Some, None, Contains, sym, ◌∙◌, ap, subst, arith, option_map, err_from_is_err_and, BadBtrfs, Body, FileExtentValue, file_extent_of, file_extent_value, Key, extent_length, extents_of, is_extent_of, refusals_at, Reach, HasChecked, RefusesExtents}
 use Rattle.btr_reader_contents.proofs.ExtentAdding.{reach_more}
-use Rattle.btr_reader_contents.specs.Checked.{HasChecked}
-use Rattle.btr_reader_contents.specs.Contents.{RefusesExtents}
 use Rattle.btr_reader_contents.proofs.Gathered.{own_extent, wanted_extent}
 use Rattle.btr_reader_contents.proofs.SoundExtents.{extent_breaks, more_checked}
 use Rattle.btr_reader_contents.proofs.checked.Checked.add_extent.Goals as goal

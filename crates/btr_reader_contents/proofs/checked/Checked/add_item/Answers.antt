@@ -1,4 +1,4 @@
-use Rattle.std.proofs.Common.{sym, ◌∙◌}
+use Rattle.btr_reader_contents.proofs.Imports.{sym, ◌∙◌}
 use Rattle.btr_reader_contents.proofs.SoundExtents.{skipped}
 use Rattle.btr_reader_contents.proofs.checked.Checked.add_item.Goals as goal
 

@@ -1,4 +1,4 @@
-use Rattle.std.proofs.Common.{arith}
+use Rattle.btr_reader_contents.proofs.Imports.{arith}
 use Rattle.btr_reader_contents.proofs.SoundExtents.{next_taken, same_taken}
 use Rattle.btr_reader_contents.proofs.checked.Checked.take_up.Goals as goal
 

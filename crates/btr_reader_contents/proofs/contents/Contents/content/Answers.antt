@@ -1,6 +1,4 @@
-use Rattle.std.proofs.Common.{◌≡◌, IfOk, sym, subst}
-use Rattle.fs_rows.specs.declared.content.Content.{Content}
-use Rattle.btr_reader_contents.specs.Contents.{TellsContent}
+use Rattle.btr_reader_contents.proofs.Imports.{◌≡◌, IfOk, sym, subst, Content, TellsContent}
 use Rattle.btr_reader_contents.proofs.contents.Contents.content.Goals as goal
 
 pub returns-in-None : goal.returns-in-None

@@ -1,18 +1,4 @@
-use Rattle.std.proofs.Common.{◌≡◌, ℕ, List, [], ◌∷◌, ◌++◌, Option, nat_eq, sym, ◌∙◌, ap, subst, refl}
-use Rattle.std.proofs.lemmas.Result.{err_from_is_err_and}
-use Rattle.btr_reader_walk.specs.outside.History.{Image}
-use Rattle.indexmap.specs.IndexMap.{get}
-use Rattle.indexmap.specs.IndexSet.{contains}
-use Rattle.fs_paths.specs.Links.{same_node}
-use Rattle.btr_reader_walk.specs.declared.map.MapRange.{MapRange}
-use Rattle.btr_reader_walk.specs.declared.tree.Tree.{Tree}
-use Rattle.btr_reader_walk.specs.Events.{TreeItem}
-use Rattle.btr_reader_walk.specs.Walks.{Blames, LieOn, found, wrong}
-use Rattle.btr_reader_walk.proofs.Walking.{given_first}
-use Rattle.btr_reader_names.specs.Table.{HasNoted}
-use Rattle.btr_reader_contents.specs.declared.wanted.Wanted.{Wanted}
-use Rattle.btr_reader_contents.specs.Contents.{wanted_at, HasContents, RefusesContents}
-use Rattle.btr_reader_contents.specs.Gathering.{HasGathered, last_inode}
+use Rattle.btr_reader_contents.proofs.Imports.{◌≡◌, ℕ, List, [], ◌∷◌, ◌++◌, Option, nat_eq, sym, ◌∙◌, ap, subst, refl, err_from_is_err_and, Image, get, contains, same_node, MapRange, Tree, TreeItem, Blames, LieOn, found, wrong, given_first, HasNotedNames, Wanted, wanted_at, HasContents, RefusesContents, HasGathered, last_inode}
 use Rattle.btr_reader_contents.proofs.Gathered.{refuses_all, refuses_tree}
 use Rattle.btr_reader_contents.proofs.Orders.{next_inode, now_last}
 use Rattle.btr_reader_contents.proofs.contents.Contents.read.Goals as goal
@@ -30,7 +16,7 @@ pub returns-in_err-advance-clause-refused : goal.returns-in_err-advance-clause-r
 returns-in_err-advance-clause-refused g c = λ tells image is blocks noted.
     let here : Image = g.S.BlockSource.blocks c.args.src.now in
     let ranges : List MapRange = c.args.ranges.now in
-    let told = c.loop-walker.invariant.walks tells blocks (subst (λ (m : Image). HasNoted c.args.names.now (found m ranges c.args.tree)) (sym is) noted) in
+    let told = c.loop-walker.invariant.walks tells blocks (subst (λ (m : Image). HasNotedNames c.args.names.now (found m ranges c.args.tree)) (sym is) noted) in
     let same = g.met.S.BlockSource.kept_blocks c.args.src.now c.loop-walker.src tells c.loop-walker.invariant.kept in
     let blames = c.in_err-advance.ensures.comes tells here same told.0 told.1 in
     let err = err_from_is_err_and c.from_residual-in_err-advance.result c.from_residual-in_err-advance.ensures.1 in
@@ -70,7 +56,7 @@ returns-in_err-add_item-clause-refused g c = λ tells image is blocks noted.
     let before = c.loop-walker.invariant in
     let here : Image = g.S.BlockSource.blocks c.args.src.now in
     let ranges : List MapRange = c.args.ranges.now in
-    let whole = subst (λ (m : Image). HasNoted c.args.names.now (found m ranges c.args.tree)) (sym is) noted in
+    let whole = subst (λ (m : Image). HasNotedNames c.args.names.now (found m ranges c.args.tree)) (sym is) noted in
     let told = before.walks tells blocks whole in
     let same = g.met.S.BlockSource.kept_blocks c.args.src.now c.loop-walker.src tells before.kept in
     let after = g.met.S.BlockSource.kept_blocks c.args.src.now c.advance.new.src tells (g.met.S.BlockSource.kept_trans _ _ _ before.kept c.advance.ensures.kept) in
@@ -93,7 +79,7 @@ returns-clause-contents g c = λ tells image is blocks noted.
     let before = c.loop-walker.invariant in
     let here : Image = g.S.BlockSource.blocks c.args.src.now in
     let ranges : List MapRange = c.args.ranges.now in
-    let told = before.walks tells blocks (subst (λ (m : Image). HasNoted c.args.names.now (found m ranges c.args.tree)) (sym is) noted) in
+    let told = before.walks tells blocks (subst (λ (m : Image). HasNotedNames c.args.names.now (found m ranges c.args.tree)) (sym is) noted) in
     let same = g.met.S.BlockSource.kept_blocks c.args.src.now c.loop-walker.src tells before.kept in
     let end = rw c.if-branch.false at (c.in_ok-advance.ensures.comes tells here same told.0 told.1) in
     let all : told.0 ≡ found here ranges c.args.tree = end.1.all ∙ ap (λ (t : Tree). found here ranges t) before.tree in

@@ -1,13 +1,4 @@
-use Rattle.std.proofs.Common.{◌≡◌, List, false, nat_eq, IsTrue}
-use Rattle.indexmap.specs.IndexMap.{get}
-use Rattle.indexmap.specs.IndexSet.{contains}
-use Rattle.fs_paths.specs.Links.{same_node}
-use Rattle.btr_reader_walk.specs.Events.{TreeItem}
-use Rattle.btr_reader_walk.specs.Walks.{Walks, fuel, found}
-use Rattle.btr_reader_contents.specs.Blocks.{AreInBlocks}
-use Rattle.btr_reader_names.specs.Table.{HasNoted}
-use Rattle.btr_reader_contents.specs.Contents.{wanted_at}
-use Rattle.btr_reader_contents.specs.Gathering.{HasGathered, last_inode}
+use Rattle.btr_reader_contents.proofs.Imports.{◌≡◌, List, false, nat_eq, IsTrue, get, contains, same_node, TreeItem, Walks, fuel, found, AreInBlocks, HasNotedNames, wanted_at, HasGathered, last_inode}
 use Rattle.btr_reader_contents.proofs.contents.Contents.read.Given as goal
 
 abbrev pub invariant-loop-walker : goal.invariant-loop-walker
@@ -17,7 +8,7 @@ invariant-loop-walker g l = record {
   tree : l.walker.tree ≡ l.fn.tree;
   fresh : l.walker.spent ≡ false;
   walks :
-      IsTrue g.S.BlockSource.tells → AreInBlocks l.ranges → HasNoted l.names (found (g.S.BlockSource.blocks l.fn.src) l.ranges l.fn.tree)
+      IsTrue g.S.BlockSource.tells → AreInBlocks l.ranges → HasNotedNames l.names (found (g.S.BlockSource.blocks l.fn.src) l.ranges l.fn.tree)
       → (given : List TreeItem) × Walks l.walker (g.S.BlockSource.blocks l.fn.src) l.ranges given
       × HasGathered (wanted_at (contains same_node l.named) (found (g.S.BlockSource.blocks l.fn.src) l.ranges l.fn.tree)) (g.S.BlockSource.blocks l.fn.src) l.ranges given (last_inode given) (λ ino. get nat_eq l.gathering.done ino) l.gathering.hand;
 }

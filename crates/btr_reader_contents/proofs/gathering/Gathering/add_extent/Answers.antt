@@ -1,10 +1,4 @@
-use Rattle.std.proofs.Common.{◌≡◌, nat_eq, Option, [], ◌∷◌, ◌++◌, ap, sym, subst, ◌∙◌}
-use Rattle.std.proofs.lemmas.Result.{err_from_is_err_and}
-use Rattle.btr_reader_walk.specs.btr_keys.declared.key.Key.{Key}
-use Rattle.indexmap.specs.IndexMap.{get}
-use Rattle.btr_reader_contents.specs.declared.hand.Hand.{Hand}
-use Rattle.btr_reader_contents.specs.Contents.{RefusesExtents}
-use Rattle.btr_reader_contents.specs.Gathering.{HasGathered}
+use Rattle.btr_reader_contents.proofs.Imports.{◌≡◌, nat_eq, Option, [], ◌∷◌, ◌++◌, ap, sym, subst, ◌∙◌, err_from_is_err_and, Key, get, Hand, RefusesExtents, HasGathered}
 use Rattle.btr_reader_contents.proofs.Gathered.{wanted_extent, own_extent, hand_added}
 use Rattle.btr_reader_contents.proofs.gathering.Gathering.add_extent.Goals as goal
 

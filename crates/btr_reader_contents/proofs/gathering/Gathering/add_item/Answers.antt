@@ -1,5 +1,4 @@
-use Rattle.std.proofs.Common.{nat_eq, sym, ◌∙◌}
-use Rattle.indexmap.specs.IndexMap.{get}
+use Rattle.btr_reader_contents.proofs.Imports.{nat_eq, sym, ◌∙◌, get}
 use Rattle.btr_reader_contents.proofs.Gathered.{pass_over}
 use Rattle.btr_reader_contents.proofs.gathering.Gathering.add_item.Goals as goal
 

@@ -1,7 +1,4 @@
-use Rattle.std.proofs.Common.{Option, nat_eq, subst}
-use Rattle.indexmap.specs.IndexMap.{get}
-use Rattle.btr_reader_contents.specs.declared.hand.Hand.{Hand}
-use Rattle.btr_reader_contents.specs.Gathering.{HasGathered}
+use Rattle.btr_reader_contents.proofs.Imports.{Option, nat_eq, subst, get, Hand, HasGathered}
 use Rattle.btr_reader_contents.proofs.Gathered.{last_finished}
 use Rattle.btr_reader_contents.proofs.gathering.Gathering.finish.Goals as goal
 

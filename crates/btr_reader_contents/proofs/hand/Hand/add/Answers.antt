@@ -1,10 +1,4 @@
-use Rattle.std.proofs.Common.{List, [], ◌∷◌, ◌++◌, ap, sym, subst, ◌∙◌}
-use Rattle.std.proofs.lemmas.Result.{err_from_is_err_and}
-use Rattle.btr_reader_walk.specs.btr_keys.declared.key.Key.{Key}
-use Rattle.btr_reader_walk.specs.Events.{TreeItem}
-use Rattle.btr_reader_contents.specs.Extents.{extents_of}
-use Rattle.btr_reader_contents.specs.States.{MarksExtents}
-use Rattle.btr_reader_contents.specs.Contents.{RefusesExtents}
+use Rattle.btr_reader_contents.proofs.Imports.{List, [], ◌∷◌, ◌++◌, ap, sym, subst, ◌∙◌, err_from_is_err_and, Key, TreeItem, extents_of, MarksExtents, RefusesExtents}
 use Rattle.btr_reader_contents.proofs.ExtentLists.{extents_of-one}
 use Rattle.btr_reader_contents.proofs.Gathered.{hand_refuses}
 use Rattle.btr_reader_contents.proofs.hand.Hand.add.Goals as goal

@@ -1,6 +1,4 @@
-use Rattle.std.proofs.Common.{List, sym, subst}
-use Rattle.btr_reader_walk.specs.Events.{TreeItem}
-use Rattle.btr_reader_contents.specs.States.{MarksExtents}
+use Rattle.btr_reader_contents.proofs.Imports.{List, sym, subst, TreeItem, MarksExtents}
 use Rattle.btr_reader_contents.proofs.hand.Hand.new.Goals as goal
 
 pub returns-clause-holds : goal.returns-clause-holds

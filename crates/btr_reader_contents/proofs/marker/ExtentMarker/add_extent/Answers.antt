@@ -1,12 +1,4 @@
-use Rattle.std.proofs.Common.{◌+◌, ◌-◌, ◌*◌, ◌≤◌, ◌++◌, ◌∷◌, [], ℕ, min, sym, ap, subst, ◌∙◌, arith}
-use Rattle.std.proofs.lemmas.Result.{err_from_is_err_and}
-use Rattle.btr_reader_walk.specs.btr_keys.FileExtent.{FileExtentValue, file_extent_of, file_extent_value}
-use Rattle.btr_reader_walk.specs.Walks.{Blames}
-use Rattle.fs_rows.specs.Held.{HoldsBytes}
-use Rattle.btr_reader_contents.specs.declared.extents.Reach.{Reach}
-use Rattle.btr_reader_contents.specs.Bytes.{content}
-use Rattle.btr_reader_contents.specs.Extents.{extent_length, content_byte, extents_end, extents_refusals}
-use Rattle.btr_reader_contents.specs.Parts.{Appends}
+use Rattle.btr_reader_contents.proofs.Imports.{◌+◌, ◌-◌, ◌*◌, ◌≤◌, ◌++◌, ◌∷◌, [], ℕ, min, sym, ap, subst, ◌∙◌, arith, err_from_is_err_and, FileExtentValue, file_extent_of, file_extent_value, Blames, HoldsBytes, Reach, content, extent_length, content_byte, extents_end, extents_refusals, Appends}
 use Rattle.btr_reader_contents.proofs.ExtentAdding.{extent_refused, reach_more, begins_behind, is_straight}
 use Rattle.btr_reader_contents.proofs.ExtentContents.{extent_appends}
 use Rattle.btr_reader_contents.proofs.marker.ExtentMarker.add_extent.Goals as goal

@@ -1,6 +1,4 @@
-use Rattle.std.proofs.Common.{◌∙◌, sym, ap}
-use Rattle.fs_rows.specs.Mark.{mark_of_bytes}
-use Rattle.btr_reader_contents.specs.Extents.{extents_of, file_byte}
+use Rattle.btr_reader_contents.proofs.Imports.{◌∙◌, sym, ap, mark_of_bytes, extents_of, file_byte}
 use Rattle.btr_reader_contents.proofs.Marks.{file_is}
 use Rattle.btr_reader_contents.proofs.marker.ExtentMarker.finish.Goals as goal
 

@@ -1,5 +1,4 @@
-use Rattle.std.proofs.Common.{[], refl, arith}
-use Rattle.btr_reader_contents.specs.Bytes.{content}
+use Rattle.btr_reader_contents.proofs.Imports.{[], refl, arith, content}
 use Rattle.btr_reader_contents.proofs.ExtentContents.{empty_content}
 use Rattle.btr_reader_contents.proofs.marker.ExtentMarker.new.Goals as goal
 

@@ -1,5 +1,4 @@
-use Rattle.std.proofs.Common.{◌∙◌, sym}
-use Rattle.btr_reader_contents.specs.Extents.{extents_of, file_byte}
+use Rattle.btr_reader_contents.proofs.Imports.{◌∙◌, sym, extents_of, file_byte}
 use Rattle.btr_reader_contents.proofs.Marks.{file_is}
 use Rattle.btr_reader_contents.proofs.marker.ExtentMarker.target.Goals as goal
 

@@ -1,5 +1,4 @@
-use Rattle.std.proofs.Common.{◌≡◌, ◌-◌, ℕ, List, get_or, ◌∙◌, ap}
-use Rattle.btr_node.specs.Leaf.{Item, items_in}
+use Rattle.btr_reader_walk.proofs.Imports.{◌≡◌, ◌-◌, ℕ, List, get_or, ◌∙◌, ap, Item, items_in}
 use Rattle.btr_reader_walk.proofs.walker.TreeWalker.body.Goals as goal
 
 pub returns : goal.returns

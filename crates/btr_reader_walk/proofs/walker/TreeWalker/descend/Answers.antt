@@ -1,10 +1,4 @@
-use Rattle.std.proofs.Common.{ℕ, Contains, length, refl, sym, ◌∙◌, ap, subst}
-use Rattle.std.proofs.lemmas.Result.{err_from_is_err_and}
-use Rattle.btr_node.specs.outside.History.{Image}
-use Rattle.btr_reader_walk.specs.declared.tree.Tree.{Tree}
-use Rattle.btr_reader_walk.specs.declared.walker.TreeWalker.{TreeWalker}
-use Rattle.btr_reader_walk.specs.Map.{is_mapped, node_at}
-use Rattle.btr_reader_walk.specs.Walks.{wrong, Blames}
+use Rattle.btr_reader_walk.proofs.Imports.{ℕ, Contains, length, refl, sym, ◌∙◌, ap, subst, err_from_is_err_and, Image, Tree, TreeWalker, is_mapped, node_at, wrong, Blames}
 use Rattle.btr_reader_walk.proofs.Opening.{rebuffered, read_blamed}
 use Rattle.btr_reader_walk.proofs.walker.TreeWalker.descend.Goals as goal
 

@@ -1,8 +1,4 @@
-use Rattle.std.proofs.Common.{◌≡◌, ◌≤◌, ◌+◌, ◌-◌, ◌*◌, ◌++◌, ℕ, List, length, refl, sym, ◌∙◌, ap, subst, arith, OnOk}
-use Rattle.btr_node.specs.Inner.{children_in}
-use Rattle.btr_node.specs.declared.child.Child.{Child}
-use Rattle.btr_reader_walk.specs.Events.{may_be_bare}
-use Rattle.btr_reader_walk.specs.Stack.{fan_out}
+use Rattle.btr_reader_walk.proofs.Imports.{◌≡◌, ◌≤◌, ◌+◌, ◌-◌, ◌*◌, ◌++◌, ℕ, List, length, refl, sym, ◌∙◌, ap, subst, arith, OnOk, children_in, Child, may_be_bare, fan_out}
 use Rattle.btr_reader_walk.proofs.Opening.{seen_breaks, seen_blamed, stack_after, inner_lighter}
 use Rattle.btr_reader_walk.proofs.Stacks.{turned}
 use Rattle.btr_reader_walk.proofs.Walking.{inner_opened}

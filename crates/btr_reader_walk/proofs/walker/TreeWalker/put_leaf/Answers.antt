@@ -1,5 +1,4 @@
-use Rattle.std.proofs.Common.{◌≤◌, ℕ, List, length, refl, sym, ◌∙◌, ap, arith}
-use Rattle.btr_node.specs.Leaf.{items_in}
+use Rattle.btr_reader_walk.proofs.Imports.{◌≤◌, ℕ, List, length, refl, sym, ◌∙◌, ap, arith, items_in}
 use Rattle.btr_reader_walk.proofs.Opening.{seen_breaks, seen_blamed, few_items, leaf_lighter}
 use Rattle.btr_reader_walk.proofs.Walking.{leaf_opened}
 use Rattle.btr_reader_walk.proofs.walker.TreeWalker.put_leaf.Goals as goal

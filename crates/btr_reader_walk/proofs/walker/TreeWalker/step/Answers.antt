@@ -1,8 +1,4 @@
-use Rattle.std.proofs.Common.{false, sym, ◌∙◌, subst, Contains}
-use Rattle.std.proofs.lemmas.Result.{err_from_is_err_and}
-use Rattle.btr_node.specs.outside.History.{Image}
-use Rattle.btr_reader_walk.specs.declared.tree.Tree.{Tree}
-use Rattle.btr_reader_walk.specs.Walks.{Walks, Moves, Blames, wrong}
+use Rattle.btr_reader_walk.proofs.Imports.{false, sym, ◌∙◌, subst, Contains, err_from_is_err_and, Image, Tree, Walks, Moves, Blames, wrong}
 use Rattle.btr_reader_walk.proofs.walker.TreeWalker.step.Goals as goal
 
 pub returns-then-not-branch-clause-comes : goal.returns-then-not-branch-clause-comes

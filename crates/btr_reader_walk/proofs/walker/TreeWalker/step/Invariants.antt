@@ -1,7 +1,4 @@
-use Rattle.std.proofs.Common.{◌≡◌, ◌≤◌, List, IsTrue}
-use Rattle.btr_node.specs.outside.History.{Image}
-use Rattle.btr_reader_walk.specs.Events.{TreeItem}
-use Rattle.btr_reader_walk.specs.Walks.{Walks, fuel}
+use Rattle.btr_reader_walk.proofs.Imports.{◌≡◌, ◌≤◌, List, IsTrue, Image, TreeItem, Walks, fuel}
 use Rattle.btr_reader_walk.proofs.walker.TreeWalker.step.Given as goal
 
 abbrev pub invariant-loop-self : goal.invariant-loop-self

@@ -1,9 +1,4 @@
-use Rattle.std.proofs.Common.{◌≡◌, ◌<◌, ◌+◌, ℕ, List, [], length, get_or, Some, refl, sym, ◌∙◌, ap, arith}
-use Rattle.std.proofs.lemmas.List.{get_or_default}
-use Rattle.btr_node.specs.btr_keys.declared.key.Key.{Key}
-use Rattle.btr_node.specs.Leaf.{Item, items_in}
-use Rattle.btr_reader_walk.specs.declared.walker.TreeWalker.{TreeWalker}
-use Rattle.btr_reader_walk.specs.Tree.{is_above}
+use Rattle.btr_reader_walk.proofs.Imports.{◌≡◌, ◌<◌, ◌+◌, ℕ, List, [], length, get_or, Some, refl, sym, ◌∙◌, ap, arith, get_or_default, Key, Item, items_in, TreeWalker, is_above}
 use Rattle.btr_reader_walk.proofs.Opening.{few_items}
 use Rattle.btr_reader_walk.proofs.Walking.{order_blamed, item_taken}
 use Rattle.btr_reader_walk.proofs.walker.TreeWalker.take_item.Goals as goal

@@ -1,5 +1,4 @@
-use Rattle.btr_space_items.specs.Chunk.{chunk_layout}
-use Rattle.btr_space_items.specs.Stripe.{stripe_layout}
+use Rattle.btr_space_items.proofs.Imports.{chunk_layout, stripe_layout}
 use Rattle.btr_space_items.proofs.chunk.Chunk.first.Goals as goal
 
 pub returns : goal.returns

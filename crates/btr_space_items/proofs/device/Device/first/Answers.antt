@@ -1,5 +1,4 @@
-use Rattle.std.proofs.Common.{sym, get_or-drop}
-use Rattle.btr_space_items.specs.Device.{device_layout}
+use Rattle.btr_space_items.proofs.Imports.{sym, get_or-drop, device_layout}
 use Rattle.btr_space_items.proofs.device.Device.first.Goals as goal
 
 pub returns : goal.returns

@@ -1,8 +1,4 @@
-use Rattle.std.proofs.Common.{sym, get_or-drop}
-use Rattle.btr_space_items.specs.RootItem.{root_item_layout}
-use Rattle.btr_keys.specs.Inode.{inode_layout}
-use Rattle.btr_keys.specs.Stamp.{stamp_layout}
-use Rattle.btr_keys.specs.Key.{key_layout}
+use Rattle.btr_space_items.proofs.Imports.{sym, get_or-drop, root_item_layout, inode_layout, stamp_layout, key_layout}
 use Rattle.btr_space_items.proofs.root_item.RootItem.first.Goals as goal
 
 pub returns : goal.returns

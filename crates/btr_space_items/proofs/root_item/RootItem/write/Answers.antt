@@ -1,5 +1,4 @@
-use Rattle.std.proofs.Common.{◌∙◌, refl}
-use Rattle.btr_space_items.specs.RootItem.{root_item_layout}
+use Rattle.btr_space_items.proofs.Imports.{◌∙◌, refl, root_item_layout}
 use Rattle.btr_space_items.proofs.root_item.RootItem.write.Goals as goal
 
 pub returns : goal.returns

@@ -1,4 +1,4 @@
-use Rattle.btr_space_items.specs.Stripe.{stripe_layout}
+use Rattle.btr_space_items.proofs.Imports.{stripe_layout}
 use Rattle.btr_space_items.proofs.stripe.Stripe.first.Goals as goal
 
 pub returns : goal.returns

@@ -1,8 +1,4 @@
-use Rattle.std.proofs.Common.{ℕ, List, ap, sym, ◌∙◌, take, get_or-drop, slice_index}
-use Rattle.std.proofs.lemmas.List.{drop-drop}
-use Rattle.byteorder.specs.Endian.{little_number}
-use Rattle.btr_space_items.specs.Device.{device_layout}
-use Rattle.btr_super.specs.Super.{super_layout}
+use Rattle.btr_super.proofs.Imports.{ℕ, List, ap, sym, ◌∙◌, take, get_or-drop, slice_index, drop-drop, little_number, device_layout, super_layout}
 use Rattle.btr_super.proofs.superblock.Super.first.Goals as goal
 
 pub returns : goal.returns
@@ -37,6 +33,7 @@ returns c = λ i. record {
   label = (c.array_at-2.ensures ∙ ap (take 256) (sym (drop-drop 267 32 c.args.bytes.now))) i;
   cache_generation = (c.u64_at-16.ensures ∙ ap (little_number 8) (sym (drop-drop 523 32 c.args.bytes.now))) i;
   uuid_tree_generation = (c.u64_at-17.ensures ∙ ap (little_number 8) (sym (drop-drop 531 32 c.args.bytes.now))) i;
-  sys_chunk_array = (c.array_at-3.ensures ∙ ap (take 2048) (sym (drop-drop 779 32 c.args.bytes.now))) i;
-  backup_roots = (c.array_at-4.ensures ∙ ap (take 672) (sym (drop-drop 2827 32 c.args.bytes.now))) i;
+  metadata_uuid = (c.array_at-3.ensures ∙ ap (take 16) (sym (drop-drop 539 32 c.args.bytes.now))) i;
+  sys_chunk_array = (c.array_at-4.ensures ∙ ap (take 2048) (sym (drop-drop 779 32 c.args.bytes.now))) i;
+  backup_roots = (c.array_at-5.ensures ∙ ap (take 672) (sym (drop-drop 2827 32 c.args.bytes.now))) i;
 }

@@ -1,5 +1,4 @@
-use Rattle.std.proofs.Common.{◌∙◌, refl}
-use Rattle.btr_super.specs.Super.{super_layout}
+use Rattle.btr_super.proofs.Imports.{◌∙◌, refl, super_layout}
 use Rattle.btr_super.proofs.superblock.Super.put.Goals as goal
 
 pub returns : goal.returns

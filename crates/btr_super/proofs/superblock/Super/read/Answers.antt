@@ -1,9 +1,5 @@
-use Rattle.std.proofs.Common.{◌≡◌, List, Err, Ok, ◌∙◌, ap, sym}
+use Rattle.btr_super.proofs.Imports.{◌≡◌, List, Err, Ok, ◌∙◌, ap, sym, BtrRefusal, Super, super_in, block_rules, field_rules, super_of, failing, unless_refused, super_refusals}
 use Rattle.std.proofs.lemmas.Result.{err_from_is_err_and}
-use Rattle.refusals.specs.declared.refusal.BtrRefusal.{BtrRefusal}
-use Rattle.btr_super.specs.declared.superblock.Super.{Super}
-use Rattle.btr_super.specs.Super.{super_in}
-use Rattle.btr_super.specs.Rules.{block_rules, field_rules, super_of, failing, unless_refused, super_refusals}
 use Rattle.btr_super.proofs.Answers.{first_refuses, others_decide, same_refusal, none_refused, ok_where_none}
 use Rattle.btr_super.proofs.superblock.Super.read.Goals as goal
 

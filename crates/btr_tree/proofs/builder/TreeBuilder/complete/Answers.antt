@@ -1,9 +1,4 @@
-use Rattle.std.proofs.Common.{◌≡◌, ◌<◌, length, refl, sym, ◌∙◌, ap, subst}
-use Rattle.btr_node.specs.outside.History.{reads}
-use Rattle.btr_tree.specs.Building.{Goes, taken}
-use Rattle.btr_tree.specs.Builder.{Building, Standing}
-use Rattle.btr_tree.specs.Counting.{nodes_above}
-use Rattle.btr_tree.specs.Roots.{HasForest, IsClimbed, IsCompleted}
+use Rattle.btr_tree.proofs.Imports.{◌≡◌, ◌<◌, length, refl, sym, ◌∙◌, ap, subst, reads, Goes, taken, Building, Standing, nodes_above, HasForest, IsClimbed, IsCompleted}
 use Rattle.btr_tree.proofs.Closing.{if_ok_map, closed_taken, closed_has, closed_short, completed_goes, empty_short}
 use Rattle.btr_tree.proofs.Fronts.{taken_from}
 use Rattle.btr_tree.proofs.builder.TreeBuilder.complete.Goals as goal

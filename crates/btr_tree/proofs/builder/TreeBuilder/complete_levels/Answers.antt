@@ -1,8 +1,4 @@
-use Rattle.std.proofs.Common.{take, subst}
-use Rattle.btr_node.specs.outside.History.{WritesOnly}
-use Rattle.btr_tree.specs.Building.{taken}
-use Rattle.btr_tree.specs.Builder.{Building}
-use Rattle.btr_tree.specs.Writing.{IsInSlots}
+use Rattle.btr_tree.proofs.Imports.{take, subst, WritesOnly, taken, Building, IsInSlots}
 use Rattle.btr_tree.proofs.builder.TreeBuilder.complete_levels.Goals as goal
 
 pub returns-clause-only : goal.returns-clause-only

@@ -1,6 +1,4 @@
-use Rattle.std.proofs.Common.{sym, ap, subst}
-use Rattle.btr_tree.specs.Building.{Made}
-use Rattle.btr_tree.specs.Builder.{Building}
+use Rattle.btr_tree.proofs.Imports.{sym, ap, subst, Made, Building}
 use Rattle.btr_tree.proofs.Fronts.{TakenOnly}
 use Rattle.btr_tree.proofs.builder.TreeBuilder.finish.Goals as goal
 

@@ -1,10 +1,4 @@
-use Rattle.std.proofs.Common.{◌++◌, ◌∷◌, [], List, Result, Ok, Err, sym, ap, subst}
-use Rattle.std.specs.Prelude.{OnOk}
-use Rattle.btr_node.specs.outside.History.{reads}
-use Rattle.btr_node.specs.Leaf.{Item}
-use Rattle.btr_tree.specs.Building.{Made}
-use Rattle.btr_tree.specs.Builder.{Building, Holds, IsReady, Stands, all_made, told_nodes}
-use Rattle.btr_tree.specs.declared.builder.TreeBuilder.TheInside.{Inside}
+use Rattle.btr_tree.proofs.Imports.{◌++◌, ◌∷◌, [], List, Result, Ok, Err, sym, ap, subst, OnOk, reads, Item, Made, Building, Holds, IsReady, Stands, all_made, told_nodes, Inside}
 use Rattle.btr_tree.proofs.Fronts.{TakenOnly}
 use Rattle.btr_tree.proofs.Standing.{standing_spent}
 use Rattle.btr_tree.proofs.builder.TreeBuilder.push.Goals as goal

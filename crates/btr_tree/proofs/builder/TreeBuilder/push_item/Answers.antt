@@ -1,10 +1,4 @@
-use Rattle.std.proofs.Common.{◌<◌, ◌≤◌, List, ◌++◌, ◌∷◌, [], Err, IsTrue, length, take, sym, ap, subst}
-use Rattle.btr_node.specs.outside.History.{reads, WritesOnly}
-use Rattle.btr_node.specs.Leaf.{Item}
-use Rattle.btr_tree.specs.Building.{taken}
-use Rattle.btr_tree.specs.Builder.{Building, Holds, pushed_on, leaves_of}
-use Rattle.btr_tree.specs.Writing.{IsInSlots}
-use Rattle.btr_tree.specs.declared.builder.TreeBuilder.TheInside.{Inside}
+use Rattle.btr_tree.proofs.Imports.{◌<◌, ◌≤◌, List, ◌++◌, ◌∷◌, [], Err, IsTrue, length, take, sym, ap, subst, reads, WritesOnly, Item, taken, Building, Holds, pushed_on, leaves_of, IsInSlots, Inside}
 use Rattle.btr_tree.proofs.Answering.{answer_back}
 use Rattle.btr_tree.proofs.Fronts.{later_then, taken_more}
 use Rattle.btr_tree.proofs.Going.{HasFront, front_told, told_front, room_holds, room_short, holds_fit, later_fit, put_holds, put_front}

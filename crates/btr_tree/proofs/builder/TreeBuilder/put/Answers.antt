@@ -1,12 +1,4 @@
-use Rattle.std.proofs.Common.{◌≡◌, ℕ, ◌+◌, ◌<◌, ◌≤◌, ◌++◌, ◌∷◌, [], Result, Ok, Err, length, sym, ◌∙◌, ap, subst, arith}
-use Rattle.std.specs.Prelude.{OnOk}
-use Rattle.btr_node.specs.Draft.{room}
-use Rattle.btr_node.specs.Leaf.{keys_of}
-use Rattle.btr_node.specs.Order.{Ascends}
-use Rattle.btr_node.specs.declared.child.Child.{Child}
-use Rattle.btr_tree.specs.Building.{taken}
-use Rattle.btr_tree.specs.Builder.{Building, HasPut, leaf_closed, leaf_begun, IsNextTaken}
-use Rattle.btr_tree.specs.declared.builder.TreeBuilder.TheInside.{Inside}
+use Rattle.btr_tree.proofs.Imports.{◌≡◌, ℕ, ◌+◌, ◌<◌, ◌≤◌, ◌++◌, ◌∷◌, [], Result, Ok, Err, length, sym, ◌∙◌, ap, subst, arith, OnOk, ITEM_SIZE, room, keys_of, Ascends, Child, taken, Building, HasPut, leaf_closed, leaf_begun, IsNextTaken, Inside}
 use Rattle.btr_tree.proofs.Holding.{put_first, put_fits, put_next, first_short, next_short}
 use Rattle.btr_tree.proofs.builder.TreeBuilder.put.Goals as goal
 
@@ -39,7 +31,7 @@ pub returns-clause-put : goal.returns-clause-put
 returns-clause-put c =
     let b : Building = c.args.self.now in
     let child : Child = c.in-Some.child in
-    let full : room b.made.draft < 25 + length c.args.body.now = omega (arith, c.if-body-room.false, c.room.ensures, ap (λ (x : Building). room x.made.draft) c.self.view_is) in
+    let full : room b.made.draft < ITEM_SIZE + length c.args.body.now = omega (arith, c.if-body-room.false, c.room.ensures, ap (λ (x : Building). room x.made.draft) c.self.view_is) in
     let closed : c.close_leaf.new.self ≡ leaf_closed b child = c.in_ok-close_leaf.ensures.ok in
     on_ok_map c.put_first-2.result
     ((a : ℕ) × IsNextTaken c.close_leaf.new.self.made a × (c.put_first-2.new.self ≡ leaf_begun c.close_leaf.new.self a c.args.key c.args.body.now)) (HasPut b c.put_first-2.new.self (c.args.key, c.args.body.now))
@@ -53,6 +45,6 @@ pub returns-clause-out : goal.returns-clause-out
 returns-clause-out c = λ items holds is.
     let b : Building = c.args.self.now in
     let child : Child = c.in-Some.child in
-    let full : room b.made.draft < 25 + length c.args.body.now = omega (arith, c.if-body-room.false, c.room.ensures, ap (λ (x : Building). room x.made.draft) c.self.view_is) in
+    let full : room b.made.draft < ITEM_SIZE + length c.args.body.now = omega (arith, c.if-body-room.false, c.room.ensures, ap (λ (x : Building). room x.made.draft) c.self.view_is) in
     next_short b child c.args.key c.args.body.now items holds (sym (ap (λ (x : Building). x.hand) c.self.view_is) ∙ c.in-Some.is) full
     (subst (λ (x : Building). length x.made.slots ≤ taken x.made) c.in_ok-close_leaf.ensures.ok (c.put_first-2.ensures.out is))

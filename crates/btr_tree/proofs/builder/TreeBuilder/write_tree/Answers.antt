@@ -1,11 +1,5 @@
-use Rattle.std.proofs.Common.{◌≡◌, List, IsTrue, sym, ap, subst}
-use Rattle.btr_node.specs.outside.History.{reads}
-use Rattle.btr_node.specs.Leaf.{Item}
-use Rattle.btr_tree.specs.Building.{Made, Goes, IsLater}
-use Rattle.btr_tree.specs.Builder.{Building, Holds, HasTree, pushed_on}
-use Rattle.btr_tree.specs.Roots.{IsFinished, MeetsNodes}
-use Rattle.btr_tree.specs.declared.builder.TreeBuilder.TheInside.{Inside}
-use Rattle.btr_tree.proofs.Finishing.{Makes, makes_goes, finished, finished_tree, finished_nodes}
+use Rattle.btr_tree.proofs.Imports.{◌≡◌, List, IsTrue, sym, ap, subst, reads, Item, Made, Goes, IsLater, Building, Holds, HasTree, HasWhole, pushed_on, IsFinished, MeetsNodes, Inside}
+use Rattle.btr_tree.proofs.Finishing.{Makes, makes_goes, finished, finished_tree, finished_nodes, finished_whole}
 use Rattle.btr_tree.proofs.Fronts.{TakenOnly, later_then, taken_then}
 use Rattle.btr_tree.proofs.Going.{HasFront, front_told}
 use Rattle.btr_tree.proofs.builder.TreeBuilder.write_tree.Goals as goal
@@ -85,3 +79,10 @@ returns-clause-finished g c = λ items holds.
     subst (λ (x : Building). IsFinished x (record (seen c.self-2.inside) { made = c.flush.new.self }) c.in_ok-root.root items) c.self.view_is
     (finished g.D.BlockSource.tells (reads (g.D.Disk.history c.args.disk.now)) (reads (g.D.Disk.history c.flush.new.disk)) (seen c.self.inside) (seen c.self-2.inside) c.flush.new.self c.in_ok-root.root
     (goes_all g c) (ap (λ (m : Made). m.nodes) c.in_ok-flush.ensures.flushed) items (subst (λ (x : Building). Holds x items) (sym c.self.view_is) holds))
+
+pub returns-clause-whole : goal.returns-clause-whole
+returns-clause-whole g c = λ tells.
+    let items : List Item = pushed_on c.args.self.now (reads (g.D.Disk.history c.args.disk.now)) in
+    subst (λ (x : Building). HasWhole (reads (g.D.Disk.history c.flush.new.disk)) x.made c.in_ok-root.root.address c.in_ok-root.root.level) c.self.view_is
+    (finished_whole g.D.BlockSource.tells (reads (g.D.Disk.history c.args.disk.now)) (reads (g.D.Disk.history c.flush.new.disk)) (seen c.self.inside) (seen c.self-2.inside) c.flush.new.self c.in_ok-root.root
+    (goes_all g c) (ap (λ (m : Made). m.nodes) c.in_ok-flush.ensures.flushed) tells items (front_before g c tells))

@@ -1,6 +1,4 @@
-use Rattle.std.proofs.Common.{ℕ, ◌+◌, List, ◌++◌, ◌∷◌, [], subst, sym, zero-add}
-use Rattle.btr_tree.specs.Counting.{Tally, Counted}
-use Rattle.btr_tree.specs.Packing.{weight}
+use Rattle.btr_tree.proofs.Imports.{ℕ, ◌+◌, List, ◌++◌, ◌∷◌, [], subst, sym, zero-add, Tally, Counted, weight}
 use Rattle.btr_tree.specs.declared.counter.Counter.TheInside.{Inside}
 use Rattle.btr_tree.proofs.Groups.{counts_fit, counts_next}
 use Rattle.btr_tree.proofs.counter.Counter.add.Goals as goal

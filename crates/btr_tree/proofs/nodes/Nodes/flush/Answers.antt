@@ -1,6 +1,4 @@
-use Rattle.std.proofs.Common.{take, sym, subst}
-use Rattle.btr_node.specs.outside.History.{reads, WritesOnly}
-use Rattle.btr_tree.specs.Writing.{IsInSlots}
+use Rattle.btr_tree.proofs.Imports.{take, sym, subst, reads, WritesOnly, IsInSlots}
 use Rattle.btr_tree.proofs.Fronts.{goes_flushed, flushed_taken}
 use Rattle.btr_tree.proofs.nodes.Nodes.flush.Goals as goal
 

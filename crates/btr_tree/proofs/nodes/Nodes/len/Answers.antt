@@ -1,5 +1,4 @@
-use Rattle.std.proofs.Common.{◌+◌, sym, ◌∙◌, ap}
-use Rattle.btr_tree.specs.Building.{taken}
+use Rattle.btr_tree.proofs.Imports.{◌+◌, sym, ◌∙◌, ap, taken}
 use Rattle.btr_tree.proofs.PiecesOf.{length-pieces_of}
 use Rattle.btr_tree.proofs.nodes.Nodes.len.Goals as goal
 

@@ -1,5 +1,4 @@
-use Rattle.std.proofs.Common.{ℕ, ◌+◌, [], sym, ◌∙◌, ap}
-use Rattle.btr_tree.specs.Building.{Made, flushed}
+use Rattle.btr_tree.proofs.Imports.{ℕ, ◌+◌, [], sym, ◌∙◌, ap, Made, flushed}
 use Rattle.btr_tree.proofs.PiecesOf.{length-pieces_of}
 use Rattle.btr_tree.proofs.nodes.Nodes.let_go.Goals as goal
 

@@ -1,5 +1,4 @@
-use Rattle.std.proofs.Common.{length, ap, arith}
-use Rattle.btr_tree.specs.Building.{Made}
+use Rattle.btr_tree.proofs.Imports.{length, ap, arith, Made}
 use Rattle.btr_tree.proofs.PiecesOf.{length-pieces_of}
 use Rattle.btr_tree.proofs.nodes.Nodes.make_room.Goals as goal
 

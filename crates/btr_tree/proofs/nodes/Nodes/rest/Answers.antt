@@ -1,5 +1,4 @@
-use Rattle.std.proofs.Common.{ℕ, ◌+◌, drop, sym, ◌∙◌, ap}
-use Rattle.btr_tree.specs.Building.{Made, taken}
+use Rattle.btr_tree.proofs.Imports.{ℕ, ◌+◌, drop, sym, ◌∙◌, ap, Made, taken}
 use Rattle.btr_tree.proofs.PiecesOf.{length-pieces_of}
 use Rattle.btr_tree.proofs.nodes.Nodes.rest.Goals as goal
 

@@ -1,12 +1,12 @@
-use Rattle.std.proofs.Common.{◌≡◌, ℕ, suc, ◌+◌, ◌*◌, ◌<◌, ◌++◌, ◌∷◌, [], List, length, ◌∙◌, ap, arith, length-append}
-use Rattle.std.proofs.Math.Nat.{mul-suc}
-use Rattle.btr_node.specs.Draft.{Draft, node_bytes}
-use Rattle.btr_tree.specs.Building.{Made, pieces_of, taken, with_node}
+use Rattle.btr_tree.proofs.Imports.{◌≡◌, ℕ, suc, ◌+◌, ◌*◌, ◌<◌, ◌++◌, ◌∷◌, [], List, length, sym, ◌∙◌, ap, subst, arith, length-append, mul-suc, Draft, IsDraft, node_bytes, Made, pieces_of, taken, with_node}
 use Rattle.btr_tree.proofs.PiecesOf.{length-pieces_of, pieces_of-push}
 use Rattle.btr_tree.proofs.nodes.Nodes.seal.Goals as goal
 
 one_more : (n k : ℕ) → n * (k + 1) ≡ n * k + n
 one_more n k = let next : k + 1 ≡ suc k = omega arith in rw next (mul-suc n k)
+
+pub append_node-requires-clause-right : goal.append_node-requires-clause-right
+append_node-requires-clause-right c = c.self.invariant.right (ap (λ (m : Made). m.draft.started) c.self.view_is ∙ c.requires.started)
 
 pub invariant_of-self : goal.invariant_of-self
 invariant_of-self c =
@@ -26,6 +26,7 @@ invariant_of-self c =
       small = c.self.invariant.small;
       batch = omega (arith, held, nodes);
       room_is = omega (arith, c.self.invariant.room_is, c.append_node.ensures.room);
+      right = λ started. subst (λ (d : Draft). IsDraft d) (sym c.append_node.ensures.same) c.append_node.ensures.read.right;
     }
 
 pub returns-clause-made : goal.returns-clause-made

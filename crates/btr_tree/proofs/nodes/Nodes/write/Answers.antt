@@ -1,12 +1,6 @@
-use Rattle.std.proofs.Common.{◌≡◌, ℕ, ◌+◌, ◌-◌, ◌/◌, ◌<◌, List, [], ◌++◌, length, take, get_or, sym, ◌∙◌, ap, subst, arith, length-append}
+use Rattle.btr_tree.proofs.Imports.{◌≡◌, ℕ, ◌+◌, ◌-◌, ◌/◌, ◌<◌, List, [], ◌++◌, length, take, get_or, sym, ◌∙◌, ap, subst, arith, length-append, get_or_from_slice_get, block_at, reads, WritesOnly, writes_then, writes_weaker, identity, node_at, Made, AreSlots, pieces_of, slot, taken, IsInNode, IsInSlots, HoldBytes}
 use Rattle.std.proofs.Math.Seq.{get_or-append_right}
-use Rattle.std.proofs.lemmas.Option.{get_or_from_slice_get}
-use Rattle.btr_node.specs.outside.History.{block_at, reads, WritesOnly}
-use Rattle.btr_node.proofs.outside.Crash.{writes_then, writes_weaker}
 use Rattle.btr_node.proofs.outside.Phases.{reads_outside}
-use Rattle.btr_reader_walk.specs.Map.{identity, node_at}
-use Rattle.btr_tree.specs.Building.{Made, AreSlots, pieces_of, slot, taken}
-use Rattle.btr_tree.specs.Writing.{IsInNode, IsInSlots, HoldBytes}
 use Rattle.btr_tree.proofs.OnDisk.{stand_more, in_first, node_part, part_long, part_is}
 use Rattle.btr_tree.proofs.PiecesOf.{length-pieces_of}
 use Rattle.btr_tree.proofs.nodes.Nodes.write.Goals as goal

@@ -1,8 +1,4 @@
-use Rattle.std.proofs.Common.{◌≡◌, ℕ, ◌+◌, ◌<◌, List, [], ◌++◌, length, take, get_or, IsTrue}
-use Rattle.btr_node.specs.outside.History.{reads, WritesOnly}
-use Rattle.btr_reader_walk.specs.Map.{identity, node_at}
-use Rattle.btr_tree.specs.Building.{StandAt, slot, taken}
-use Rattle.btr_tree.specs.Writing.{IsInSlots}
+use Rattle.btr_tree.proofs.Imports.{◌≡◌, ℕ, ◌+◌, ◌<◌, List, [], ◌++◌, length, take, get_or, IsTrue, reads, WritesOnly, identity, node_at, StandAt, slot, taken, IsInSlots}
 use Rattle.btr_tree.proofs.nodes.Nodes.write.Given as goal
 
 abbrev pub invariant-loop-k : goal.invariant-loop-k

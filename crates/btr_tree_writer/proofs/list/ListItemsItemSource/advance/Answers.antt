@@ -1,8 +1,5 @@
-use Rattle.std.proofs.Common.{◌≡◌, ◌<◌, ◌+◌, ℕ, suc, List, [], ◌∷◌, length, get_or, drop, refl, ap, ◌∙◌, arith}
-use Rattle.std.proofs.Math.Seq.{drop-cons}
+use Rattle.btr_tree_writer.proofs.Imports.{◌≡◌, ◌<◌, ◌+◌, ℕ, suc, List, [], ◌∷◌, length, get_or, drop, refl, ap, ◌∙◌, arith, drop-cons, Item, no_key}
 use Rattle.std.proofs.lemmas.Option.{slice_get-get_or}
-use Rattle.btr_tree.specs.btr_node.Leaf.{Item}
-use Rattle.btr_tree.specs.Builder.{no_key}
 use Rattle.btr_tree_writer.proofs.list.ListItemsItemSource.advance.Goals as goal
 
 pub returns-clause-next : goal.returns-clause-next

@@ -1,5 +1,4 @@
-use Rattle.std.proofs.Common.{arith}
-use Rattle.space_items.proofs.Ascending.{nodes_at_slots}
+use Rattle.btr_tree_writer.proofs.Imports.{arith, nodes_at_slots}
 use Rattle.btr_tree_writer.proofs.trees.Trees.nodes.Goals as goal
 
 pub returns-clause-fit : goal.returns-clause-fit

@@ -1,6 +1,4 @@
-use Rattle.std.proofs.Common.{◌+◌, ℕ, List, take, map, sym, subst, ap, ◌∙◌, arith}
-use Rattle.btr_tree.specs.btr_node.NodeSize.{IsNodeSize}
-use Rattle.space_items.specs.declared.node.TreeNode.{TreeNode}
+use Rattle.btr_tree_writer.proofs.Imports.{◌+◌, ℕ, List, take, map, sym, subst, ap, ◌∙◌, arith, IsNodeSize, TreeNode}
 use Rattle.btr_tree_writer.proofs.Rows.{has_slots, taken_more}
 use Rattle.btr_tree_writer.proofs.trees.Trees.take.Goals as goal
 

@@ -1,9 +1,4 @@
-use Rattle.std.proofs.Common.{ℕ, List, sym, subst}
-use Rattle.btr_tree.specs.outside.History.{reads, WritesOnly}
-use Rattle.btr_tree.specs.Roots.{lengths_of}
-use Rattle.btr_tree.specs.Writing.{IsInSlots}
-use Rattle.btr_tree_writer.specs.Source.{LieApart}
-use Rattle.btr_tree_writer.specs.Trees.{AreWritable, TreeStands, form_of}
+use Rattle.btr_tree_writer.proofs.Imports.{ℕ, List, sym, subst, reads, WritesOnly, lengths_of, IsInSlots, LieApart, AreWritable, TreeStands, read_form}
 use Rattle.btr_tree_writer.proofs.Rows.{apart_left, memory_cause, still_enough}
 use Rattle.btr_tree_writer.proofs.trees.Trees.write.Goals as goal
 
@@ -30,7 +25,7 @@ returns-clause-tree g c = λ tells image is fits apart all are writable.
     let at = c.in_ok-slots.ensures in
     let needs : ℕ → Type 0 = g.I.ItemSource.needs c.args.items.now in
     let told = c.in_ok-tree.ensures.tree tells image is fits (subst (λ (x : List ℕ). LieApart needs form.nodesize x) (sym at) (apart_left needs form.nodesize c.args.self.now.taken c.args.self.now.slots apart)) all are (subst (λ (x : List ℕ). AreWritable form.nodesize x all) (sym at) writable) in (
-      subst (λ (x : List ℕ). TreeStands (reads (g.D.Disk.history c.write_tree.new.disk)) (form_of form) c.args.owner x all c.in_ok-tree.tree.root) at told.0,
+      subst (λ (x : List ℕ). TreeStands (reads (g.D.Disk.history c.write_tree.new.disk)) (read_form form) c.args.owner x all c.in_ok-tree.tree.root) at told.0,
       (c.in_ok-take.ensures.taken (lengths_of all) told.1).1,
     )
 

@@ -1,16 +1,4 @@
-use Rattle.std.proofs.Common.{◌≤◌, ◌<◌, ℕ, ◌+◌, ◌++◌, ◌∷◌, [], List, Err, Option, length, sym, ◌∙◌, ap, subst}
-use Rattle.std.proofs.lemmas.List.{map-append}
-use Rattle.std.specs.List.{flat_map}
-use Rattle.btr_tree.specs.btr_keys.declared.key.Key.{Key}
-use Rattle.btr_tree.specs.btr_node.Leaf.{Item, items_in}
-use Rattle.btr_tree.specs.btr_node.NodeSize.{IsNodeSize}
-use Rattle.btr_tree.specs.Building.{taken}
-use Rattle.btr_tree.specs.Builder.{leaves_of}
-use Rattle.btr_tree.specs.Counting.{Counted}
-use Rattle.btr_tree.specs.Roots.{lengths_of}
-use Rattle.btr_tree.specs.declared.answer.TreeAnswer.{TreeAnswer}
-use Rattle.btr_tree.specs.btr_reader_walk.declared.tree.Form.{Form}
-use Rattle.btr_tree_writer.specs.Writer.{IsAbove, last_key}
+use Rattle.btr_tree_writer.proofs.Imports.{◌≤◌, ◌<◌, ℕ, ◌+◌, ◌++◌, ◌∷◌, [], List, Err, Option, length, sym, ◌∙◌, ap, subst, map-append, flat_map, Key, Item, items_in, IsNodeSize, taken, leaves_of, Counted, lengths_of, TreeAnswer, Form, IsAbove, last_key}
 use Rattle.btr_tree_writer.proofs.Pushing.{last_pushed, held_order, must_follow, must_be_short, too_few, bytes_fit, only_all, not_both, false_then, misfit_back, short_pushed}
 use Rattle.btr_tree_writer.proofs.writer.TreeWriter.push.Goals as goal
 

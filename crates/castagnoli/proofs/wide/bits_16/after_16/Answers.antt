@@ -1,5 +1,4 @@
-use Rattle.std.proofs.Common.{refl, arith}
-use Rattle.castagnoli.specs.Castagnoli.{shifted}
+use Rattle.castagnoli.proofs.Imports.{refl, arith, shifted}
 use Rattle.castagnoli.specs.declared.wide.bits_16.TheConstants.{TABLE_16}
 use Rattle.castagnoli.proofs.Linear.{entry_of}
 use Rattle.castagnoli.proofs.wide.bits_16.after_16.Goals as goal

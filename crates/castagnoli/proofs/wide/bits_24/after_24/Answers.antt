@@ -1,5 +1,4 @@
-use Rattle.std.proofs.Common.{refl, arith}
-use Rattle.castagnoli.specs.Castagnoli.{shifted}
+use Rattle.castagnoli.proofs.Imports.{refl, arith, shifted}
 use Rattle.castagnoli.specs.declared.wide.bits_24.TheConstants.{TABLE_24}
 use Rattle.castagnoli.proofs.Linear.{entry_of}
 use Rattle.castagnoli.proofs.wide.bits_24.after_24.Goals as goal

@@ -1,5 +1,4 @@
-use Rattle.std.proofs.Common.{refl, arith}
-use Rattle.castagnoli.specs.Castagnoli.{shifted}
+use Rattle.castagnoli.proofs.Imports.{refl, arith, shifted}
 use Rattle.castagnoli.specs.declared.wide.bits_32.TheConstants.{TABLE_32}
 use Rattle.castagnoli.proofs.Linear.{entry_of}
 use Rattle.castagnoli.proofs.wide.bits_32.after_32.Goals as goal

@@ -1,5 +1,4 @@
-use Rattle.std.proofs.Common.{refl, arith}
-use Rattle.castagnoli.specs.Castagnoli.{shifted}
+use Rattle.castagnoli.proofs.Imports.{refl, arith, shifted}
 use Rattle.castagnoli.specs.declared.wide.bits_48.TheConstants.{TABLE_48}
 use Rattle.castagnoli.proofs.Linear.{entry_of}
 use Rattle.castagnoli.proofs.wide.bits_48.after_48.Goals as goal

@@ -1,6 +1,4 @@
-use Rattle.std.proofs.Common.{◌∙◌}
-use Rattle.indexmap.specs.IndexMap.{keys}
-use Rattle.reiser_volume.specs.Opened.{links_in}
+use Rattle.convert_core.proofs.Imports.{◌∙◌, keys, links_in}
 use Rattle.convert_core.proofs.survey.Survey.of.Goals as goal
 
 pub returns-clause-cause : goal.returns-clause-cause

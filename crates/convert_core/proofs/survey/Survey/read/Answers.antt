@@ -1,5 +1,4 @@
-use Rattle.std.proofs.Common.{◌∙◌, sym, subst}
-use Rattle.std.proofs.lemmas.Result.{MatchResult-weaker, err_from_is_err_and}
+use Rattle.convert_core.proofs.Imports.{◌∙◌, sym, subst, MatchResult-weaker, err_from_is_err_and}
 use Rattle.reiser_volume.specs.Answers.{RefusesVolume}
 use Rattle.reiser_volume.proofs.Answering.{rules_pass}
 use Rattle.convert_core.proofs.survey.Survey.read.Goals as goal

@@ -1,4 +1,4 @@
-use Rattle.std.proofs.Common.{refl}
+use Rattle.convert_trees.proofs.Imports.{refl}
 use Rattle.convert_trees.proofs.Coming.{ends_within, item_comes}
 use Rattle.convert_trees.proofs.Sums.{sums_fit}
 use Rattle.convert_trees.proofs.sources.SumItemsItemSource.advance.Goals as goal

@@ -1,7 +1,4 @@
-use Rattle.std.proofs.Common.{◌+◌, ◌<◌, ◌^◌, ◌∙◌, length, subst, arith}
-use Rattle.std.proofs.lemmas.Option.{get_or_from_slice_get}
-use Rattle.reiser_volume_files.specs.declared.map.FileRun.{FileRun}
-use Rattle.extent_pieces.specs.Parts.{owned_in, tails_in}
+use Rattle.extent_pieces.proofs.Imports.{◌+◌, ◌<◌, ◌^◌, ◌∙◌, length, subst, arith, get_or_from_slice_get, FileRun, owned_in, tails_in}
 use Rattle.extent_pieces.proofs.Gathering.{run_more}
 use Rattle.extent_pieces.proofs.parts.FileParts.add_file.Goals as goal
 

@@ -1,7 +1,4 @@
-use Rattle.std.proofs.Common.{◌≡◌, ◌++◌, ◌+◌, ◌<◌, ◌^◌, take}
-use Rattle.std.specs.Prelude.{All}
-use Rattle.std.specs.List.{flat_map}
-use Rattle.extent_pieces.specs.Parts.{owned_in, tails_in}
+use Rattle.extent_pieces.proofs.Imports.{◌≡◌, ◌++◌, ◌+◌, ◌<◌, ◌^◌, take, All, flat_map, owned_in, tails_in}
 use Rattle.extent_pieces.proofs.parts.FileParts.add_file.Given as goal
 
 abbrev pub invariant-loop-j : goal.invariant-loop-j

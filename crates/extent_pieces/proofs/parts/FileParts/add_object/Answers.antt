@@ -1,10 +1,4 @@
-use Rattle.std.proofs.Common.{List, get_or, refl, sym, subst, ◌∙◌, arith}
-use Rattle.std.proofs.lemmas.Option.{slice_get-get_or}
-use Rattle.std.proofs.lemmas.Result.{err_from_is_err_and}
-use Rattle.indexmap.specs.IndexMap.{keys}
-use Rattle.reiser_volume.specs.reiser_volume_contents.Answers.{IsFaultOrMemory}
-use Rattle.reiser_volume_objects.specs.declared.key.ObjectKey.{ObjectKey}
-use Rattle.reiser_volume_objects.specs.Keys.{root}
+use Rattle.extent_pieces.proofs.Imports.{List, get_or, refl, sym, subst, ◌∙◌, arith, slice_get-get_or, err_from_is_err_and, keys, IsFaultOrMemory, ObjectKey, root}
 use Rattle.extent_pieces.proofs.Objects.{file_adds, link_adds, other_adds, other_kind, size_is}
 use Rattle.extent_pieces.proofs.parts.FileParts.add_object.Goals as goal
 

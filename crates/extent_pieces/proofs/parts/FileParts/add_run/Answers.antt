@@ -1,7 +1,4 @@
-use Rattle.std.proofs.Common.{◌++◌, ◌∙◌, ap, refl, sym}
-use Rattle.std.proofs.lemmas.List.{append-nil}
-use Rattle.reiser_volume_files.specs.declared.map.RunFrom.{RunFrom}
-use Rattle.extent_pieces.specs.Parts.{owned_by_run, tails_by_run}
+use Rattle.extent_pieces.proofs.Imports.{◌++◌, ◌∙◌, ap, refl, sym, append-nil, RunFrom, owned_by_run, tails_by_run}
 use Rattle.extent_pieces.proofs.parts.FileParts.add_run.Goals as goal
 
 pub returns-in_ok-push-in-Disk : goal.returns-in_ok-push-in-Disk

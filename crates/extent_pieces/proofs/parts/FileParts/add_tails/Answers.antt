@@ -1,6 +1,4 @@
-use Rattle.std.proofs.Common.{◌≡◌, ◌++◌, ◌+◌, ◌-◌, ◌≤◌, ◌∷◌, [], ◌∙◌, List, ℕ, ap, sym, arith, append_assoc}
-use Rattle.extent_pieces.specs.declared.tail.Tail.{Tail}
-use Rattle.extent_pieces.specs.Parts.{tails_from}
+use Rattle.extent_pieces.proofs.Imports.{◌≡◌, ◌++◌, ◌+◌, ◌-◌, ◌≤◌, ◌∷◌, [], ◌∙◌, List, ℕ, ap, sym, arith, append_assoc, Tail, tails_from}
 use Rattle.extent_pieces.proofs.Tailing.{longer_tails}
 use Rattle.extent_pieces.proofs.parts.FileParts.add_tails.Goals as goal
 

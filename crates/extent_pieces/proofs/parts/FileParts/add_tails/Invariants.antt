@@ -1,5 +1,4 @@
-use Rattle.std.proofs.Common.{◌≡◌, ◌++◌, ◌-◌, ◌≤◌}
-use Rattle.extent_pieces.specs.Parts.{tails_from}
+use Rattle.extent_pieces.proofs.Imports.{◌≡◌, ◌++◌, ◌-◌, ◌≤◌, tails_from}
 use Rattle.extent_pieces.proofs.parts.FileParts.add_tails.Given as goal
 
 abbrev pub invariant-loop-k : goal.invariant-loop-k

@@ -1,11 +1,4 @@
-use Rattle.std.proofs.Common.{◌∙◌, ◌≤◌, List, length, refl, sym, subst, arith}
-use Rattle.std.proofs.lemmas.List.{take_all}
-use Rattle.std.proofs.lemmas.Result.{err_from_is_err_and}
-use Rattle.indexmap.specs.IndexMap.{keys}
-use Rattle.reiser_volume.specs.reiser_volume_contents.Answers.{IsFaultOrMemory}
-use Rattle.reiser_volume_objects.specs.declared.key.ObjectKey.{ObjectKey}
-use Rattle.reiser_volume.specs.Volume.{volume_items}
-use Rattle.extent_pieces.specs.Parts.{Gathers}
+use Rattle.extent_pieces.proofs.Imports.{◌∙◌, ◌≤◌, List, length, refl, sym, subst, arith, take_all, err_from_is_err_and, keys, IsFaultOrMemory, ObjectKey, volume_items, Gathers}
 use Rattle.extent_pieces.proofs.parts.FileParts.gather.Goals as goal
 
 pub loop-i-init : goal.loop-i-init

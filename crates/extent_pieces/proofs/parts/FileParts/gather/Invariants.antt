@@ -1,9 +1,4 @@
-use Rattle.std.proofs.Common.{◌≡◌, take, IsTrue}
-use Rattle.indexmap.specs.IndexMap.{keys}
-use Rattle.reiser_bitmap.specs.outside.History.{Image}
-use Rattle.reiser_volume.specs.Opened.{IsOpened}
-use Rattle.reiser_volume.specs.Volume.{IsAccepted, volume_items}
-use Rattle.extent_pieces.specs.Parts.{Gathers}
+use Rattle.extent_pieces.proofs.Imports.{◌≡◌, take, IsTrue, keys, Image, IsOpened, IsAccepted, volume_items, Gathers}
 use Rattle.extent_pieces.proofs.parts.FileParts.gather.Given as goal
 
 abbrev pub invariant-loop-i : goal.invariant-loop-i

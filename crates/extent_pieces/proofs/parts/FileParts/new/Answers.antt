@@ -1,4 +1,4 @@
-use Rattle.std.proofs.Common.{refl}
+use Rattle.extent_pieces.proofs.Imports.{refl}
 use Rattle.extent_pieces.proofs.Gathering.{gathers_none}
 use Rattle.extent_pieces.proofs.parts.FileParts.new.Goals as goal
 

@@ -1,7 +1,4 @@
-use Rattle.std.proofs.Common.{List, subst, rules}
-use Rattle.std.specs.List.Sorted.{IsPermutation}
-use Rattle.std.proofs.lemmas.List.Sorted.{IsNonDecreasingBy-from_sort_by_key}
-use Rattle.extent_pieces.specs.declared.run.OwnedRun.{OwnedRun}
+use Rattle.extent_pieces.proofs.Imports.{List, subst, rules, IsPermutation, IsNonDecreasingBy-from_sort_by_key, OwnedRun}
 use Rattle.extent_pieces.proofs.parts.FileParts.read.Goals as goal
 
 pub returns-clause-parts : goal.returns-clause-parts

@@ -1,4 +1,4 @@
-use Rattle.std.proofs.lemmas.Bool.{both_ways}
+use Rattle.extent_pieces.proofs.Imports.{both_ways}
 use Rattle.extent_pieces.proofs.Making.{found_small}
 use Rattle.extent_pieces.proofs.pieces.Pieces.find.Goals as goal
 

@@ -1,8 +1,4 @@
-use Rattle.std.proofs.Common.{◌≡◌, ℕ, List, length, rules, arith, subst}
-use Rattle.std.specs.List.Sorted.{IsPermutation}
-use Rattle.std.proofs.lemmas.List.Sorted.{IsNonDecreasingBy-from_sort_by_key}
-use Rattle.unit_plan.specs.declared.piece.Piece.{Piece}
-use Rattle.extent_pieces.specs.Placed.{blocks_of_units}
+use Rattle.extent_pieces.proofs.Imports.{◌≡◌, ℕ, List, length, rules, arith, subst, IsPermutation, IsNonDecreasingBy-from_sort_by_key, Piece, blocks_of_units}
 use Rattle.extent_pieces.proofs.Placing.{Places, length-blocks, places_all}
 use Rattle.extent_pieces.proofs.pieces.Pieces.place.Goals as goal
 

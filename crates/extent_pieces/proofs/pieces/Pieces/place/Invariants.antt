@@ -1,5 +1,4 @@
-use Rattle.std.proofs.Common.{◌≡◌}
-use Rattle.extent_pieces.specs.Placed.{blocks_of_units}
+use Rattle.extent_pieces.proofs.Imports.{◌≡◌, blocks_of_units}
 use Rattle.extent_pieces.proofs.Placing.{Places}
 use Rattle.extent_pieces.proofs.pieces.Pieces.place.Given as goal
 

@@ -1,4 +1,4 @@
-use Rattle.std.proofs.lemmas.Result.{on_ok_weaker}
+use Rattle.file_items.proofs.Imports.{on_ok_weaker}
 use Rattle.file_items.proofs.Referring.{entries_added}
 use Rattle.file_items.proofs.directory.Directory.add_items.Goals as goal
 

@@ -1,15 +1,4 @@
-use Rattle.std.proofs.Common.{◌≡◌, ◌++◌, ◌∷◌, [], ◌∙◌, ℕ, List, true, map, refl, sym, subst, arith}
-use Rattle.fs_rows.specs.declared.row.Kind.{Kind}
-use Rattle.indexmap.specs.IndexMap.{keys}
-use Rattle.unit_plan.specs.btr_keys.DirEntry.{DirEntryValue, dir_entry_value}
-use Rattle.reiser_volume_objects.specs.declared.key.ObjectKey.{ObjectKey}
-use Rattle.reiser_volume_objects.specs.declared.naming.Naming.{Naming}
-use Rattle.reiser_volume_objects.specs.Keys.{root, same_key}
-use Rattle.reiser_volume.specs.Made.{stat_at, kind_by}
-use Rattle.reiser_volume.specs.Opened.{links_in}
-use Rattle.reiser_volume.specs.Volume.{volume_items}
-use Rattle.file_items.specs.Gathered.{HasEntry, HasEntries}
-use Rattle.file_items.specs.Names.{Indexed, indexed, names_in, next_index, saved_entry}
+use Rattle.file_items.proofs.Imports.{◌≡◌, ◌++◌, ◌∷◌, [], ◌∙◌, ℕ, List, true, map, refl, sym, subst, arith, Kind, keys, DirEntryValue, dir_entry_value, ObjectKey, Naming, root, same_key, stat_at, kind_by, links_in, volume_items, HasEntry, HasEntries, Indexed, indexed, names_in, next_index, saved_entry}
 use Rattle.file_items.proofs.Named.{dir_count, index_small, with_saved, entries_more}
 use Rattle.file_items.proofs.directory.Directory.gather.Goals as goal
 

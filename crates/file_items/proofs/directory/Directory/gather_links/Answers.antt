@@ -1,19 +1,4 @@
-use Rattle.std.proofs.Common.{◌<◌, ◌+◌, ◌∷◌, [], ◌∙◌, ap, ℕ, List, length, map, take, get_or, subst, arith}
-use Rattle.std.specs.Prelude.{slice_get}
-use Rattle.std.proofs.lemmas.List.{take_all, map-append}
-use Rattle.std.proofs.lemmas.Option.{slice_get-get_or}
-use Rattle.fs_rows.specs.declared.row.Kind.{Kind}
-use Rattle.indexmap.specs.IndexMap.{keys}
-use Rattle.unit_plan.specs.btr_keys.DirEntry.{DirEntryValue, dir_entry_value}
-use Rattle.btr_item_list.specs.declared.spot.Spot.{Spot}
-use Rattle.btr_item_list.proofs.Placing.{told_long}
-use Rattle.reiser_volume_objects.specs.declared.key.ObjectKey.{ObjectKey}
-use Rattle.reiser_volume_objects.specs.declared.naming.Naming.{Naming}
-use Rattle.reiser_volume.specs.Made.{stat_at, kind_by}
-use Rattle.reiser_volume.specs.Opened.{links_in}
-use Rattle.reiser_volume.specs.Volume.{volume_items}
-use Rattle.file_items.specs.Gathered.{HasEntry, HasEntries}
-use Rattle.file_items.specs.Names.{Entry, indexed, entries, names_in}
+use Rattle.file_items.proofs.Imports.{◌<◌, ◌+◌, ◌∷◌, [], ◌∙◌, ap, ℕ, List, length, map, take, get_or, subst, arith, slice_get, take_all, map-append, slice_get-get_or, Kind, keys, DirEntryValue, dir_entry_value, Spot, told_long, ObjectKey, Naming, stat_at, kind_by, links_in, volume_items, HasEntry, HasEntries, IndexedLink, indexed, indexed_links, names_in}
 use Rattle.file_items.proofs.Linked.{entry_at}
 use Rattle.file_items.proofs.Named.{entries_of_dir, told_here, index_is, entries_more, dir_of}
 use Rattle.file_items.proofs.directory.Directory.gather_links.Goals as goal
@@ -23,7 +8,7 @@ loop-i-preserved c = λ image known key at.
     let all : List ObjectKey = keys c.args.volume.now.named in
     let links : List Naming = links_in c.args.volume.now in
     let spots : List Spot = c.names_in-spots.result.now in
-    let es : List Entry = names_in links key in
+    let es : List IndexedLink = names_in links key in
     let kind : ObjectKey → Kind = λ (k : ObjectKey). kind_by (stat_at (volume_items image) k) in
     let spot : Spot = get_or spots c.loop-i.i (record { of = 0; number = 0 }) in
     let within : c.loop-i.i < length spots = omega arith in
@@ -40,6 +25,6 @@ returns c = λ image known key at.
     let all : List ObjectKey = keys c.args.volume.now.named in
     let links : List Naming = links_in c.args.volume.now in
     let spots : List Spot = c.names_in-spots.result.now in
-    let es : List Entry = names_in links key in
-    let long = told_long (λ (s : Spot). slice_get (entries links) s.number) spots es (entries_of_dir c.args.volume.now c.args.links.now c.args.numbers image known c.args.place key at spots c.names_in-spots.ensures.spots) in
-    subst (λ (l : List Entry). HasEntries c.args.ino (map (indexed (λ k. kind_by (stat_at (volume_items image) k)) all) l) c.loop-i.self) (take_all c.loop-i.i es (omega (arith, long, c.loop-i-test.false))) (c.loop-i.invariant image known key at)
+    let es : List IndexedLink = names_in links key in
+    let long = told_long (λ (s : Spot). slice_get (indexed_links links) s.number) spots es (entries_of_dir c.args.volume.now c.args.links.now c.args.numbers image known c.args.place key at spots c.names_in-spots.ensures.spots) in
+    subst (λ (l : List IndexedLink). HasEntries c.args.ino (map (indexed (λ k. kind_by (stat_at (volume_items image) k)) all) l) c.loop-i.self) (take_all c.loop-i.i es (omega (arith, long, c.loop-i-test.false))) (c.loop-i.invariant image known key at)

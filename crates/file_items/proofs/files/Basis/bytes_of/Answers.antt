@@ -1,7 +1,4 @@
-use Rattle.std.proofs.Common.{◌≡◌, ◌*◌, ◌∙◌, ℕ, Option, List, ap, sym, arith, sum_by}
-use Rattle.std.specs.Option.{option_map_or}
-use Rattle.unit_plan.specs.declared.piece.Piece.{Piece}
-use Rattle.file_items.specs.Extents.{pieces_of, piece_bytes}
+use Rattle.file_items.proofs.Imports.{◌≡◌, ◌*◌, ◌∙◌, ℕ, Option, List, ap, sym, arith, sum_by, option_map_or, Piece, pieces_of, piece_bytes}
 use Rattle.file_items.proofs.Ordering.{owned_within, bytes_are}
 use Rattle.file_items.proofs.files.Basis.bytes_of.Goals as goal
 

@@ -1,9 +1,4 @@
-use Rattle.std.proofs.Common.{◌+◌, ◌∙◌, List, take, map, get_or, ap, sym, arith}
-use Rattle.std.specs.Prelude.{slice_get}
-use Rattle.std.proofs.lemmas.Option.{slice_get_within, slice_get-get_or}
-use Rattle.btr_item_list.specs.declared.spot.Spot.{Spot}
-use Rattle.unit_plan.specs.declared.piece.Piece.{Piece}
-use Rattle.file_items.specs.Extents.{pieces_of}
+use Rattle.file_items.proofs.Imports.{◌+◌, ◌∙◌, List, take, map, get_or, ap, sym, arith, slice_get, slice_get_within, slice_get-get_or, Spot, Piece, pieces_of}
 use Rattle.file_items.proofs.Ordering.{piece_at, piece_same, count_more}
 use Rattle.file_items.proofs.files.Basis.piece_blocks.Goals as goal
 

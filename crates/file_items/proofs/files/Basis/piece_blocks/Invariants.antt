@@ -1,6 +1,4 @@
-use Rattle.std.proofs.Common.{◌≡◌, sum_by, take}
-use Rattle.reiser_volume.specs.reiser_volume_names.Tally.{capped}
-use Rattle.file_items.specs.Extents.{pieces_of}
+use Rattle.file_items.proofs.Imports.{◌≡◌, sum_by, take, capped, pieces_of}
 use Rattle.file_items.proofs.files.Basis.piece_blocks.Given as goal
 
 abbrev pub invariant-loop-i : goal.invariant-loop-i

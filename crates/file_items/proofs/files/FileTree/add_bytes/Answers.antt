@@ -1,6 +1,4 @@
-use Rattle.std.proofs.Common.{ap, ℕ}
-use Rattle.std.proofs.lemmas.Result.{on_ok_weaker}
-use Rattle.file_items.specs.declared.files.FileInHand.{FileInHand}
+use Rattle.file_items.proofs.Imports.{ap, ℕ, on_ok_weaker, FileInHand}
 use Rattle.file_items.proofs.Extending.{held_inline, held_in_pieces}
 use Rattle.file_items.proofs.files.FileTree.add_bytes.Goals as goal
 

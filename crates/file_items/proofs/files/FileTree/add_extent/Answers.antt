@@ -1,12 +1,5 @@
-use Rattle.std.proofs.Common.{◌≡◌, ◌+◌, ◌-◌, ◌∷◌, ◌++◌, [], ◌∙◌, ℕ, List, length, drop, map, get_or, ap, sym, arith}
-use Rattle.std.specs.Prelude.{slice_get}
-use Rattle.std.proofs.lemmas.Option.{slice_get_within, slice_get-get_or}
-use Rattle.btr_item_list.specs.Extents.{extent_item, regular_extent}
+use Rattle.file_items.proofs.Imports.{◌≡◌, ◌+◌, ◌-◌, ◌∷◌, ◌++◌, [], ◌∙◌, ℕ, List, length, drop, map, get_or, ap, sym, arith, slice_get, slice_get_within, slice_get-get_or, extent_item, regular_extent, Spot, told_long, Piece, file_block, pieces_of, extents_at}
 use Rattle.btr_item_list.specs.declared.extent.Extent.{Extent}
-use Rattle.btr_item_list.specs.declared.spot.Spot.{Spot}
-use Rattle.btr_item_list.proofs.Placing.{told_long}
-use Rattle.unit_plan.specs.declared.piece.Piece.{Piece}
-use Rattle.file_items.specs.Extents.{file_block, pieces_of, extents_at}
 use Rattle.file_items.proofs.Ordering.{piece_at, piece_same, bounded}
 use Rattle.file_items.proofs.files.FileTree.add_extent.Goals as goal
 

@@ -1,8 +1,4 @@
-use Rattle.std.proofs.Common.{◌++◌, ◌∙◌, List, ap, sym}
-use Rattle.std.proofs.lemmas.Result.{on_ok_weaker}
-use Rattle.unit_plan.specs.btr_node.Leaf.{Item}
-use Rattle.indexmap.specs.IndexMap.{keys}
-use Rattle.reiser_volume.specs.Opened.{links_in}
+use Rattle.file_items.proofs.Imports.{◌++◌, ◌∙◌, List, ap, sym, on_ok_weaker, Item, keys, links_in}
 use Rattle.file_items.proofs.Named.{name_items_root, name_items_other}
 use Rattle.file_items.proofs.files.FileTree.add_names.Goals as goal
 

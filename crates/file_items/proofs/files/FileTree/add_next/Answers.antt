@@ -1,16 +1,4 @@
-use Rattle.std.proofs.Common.{◌≡◌, ◌<◌, ◌∙◌, Bool, List, length, ap, sym, subst, arith}
-use Rattle.std.proofs.lemmas.Result.{err_from_is_err_and}
-use Rattle.indexmap.specs.IndexMap.{keys}
-use Rattle.reiser_volume.specs.reiser_volume_contents.Answers.{IsFaultOrMemory}
-use Rattle.reiser_volume.proofs.Bounds.{accepted_is_small}
-use Rattle.reiser_volume.specs.Volume.{superblock}
-use Rattle.reiser_volume.specs.declared.volume.Volume.{Volume}
-use Rattle.unit_plan.specs.declared.piece.Piece.{Piece}
-use Rattle.file_items.specs.Known.{IsKnown}
-use Rattle.file_items.specs.Stream.{AddsExtent, file_ahead}
-use Rattle.file_items.specs.declared.files.Basis.{Basis}
-use Rattle.file_items.specs.declared.files.FileInHand.{FileInHand}
-use Rattle.file_items.specs.declared.files.FileTree.{FileTree}
+use Rattle.file_items.proofs.Imports.{◌≡◌, ◌<◌, ◌∙◌, Bool, List, length, ap, sym, subst, arith, err_from_is_err_and, keys, IsFaultOrMemory, accepted_is_small, superblock, Volume, Piece, IsKnown, AddsExtent, file_ahead, Basis, FileInHand, FileTree}
 use Rattle.file_items.proofs.Stepping.{extent_steps, no_object, tree_ends, next_object, object_steps}
 use Rattle.file_items.proofs.files.FileTree.add_next.Goals as goal
 

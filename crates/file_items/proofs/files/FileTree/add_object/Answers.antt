@@ -1,6 +1,4 @@
-use Rattle.std.proofs.Common.{sym, subst}
-use Rattle.std.proofs.lemmas.Result.{err_from_is_err_and}
-use Rattle.reiser_volume.specs.reiser_volume_contents.Answers.{IsFaultOrMemory}
+use Rattle.file_items.proofs.Imports.{sym, subst, err_from_is_err_and, IsFaultOrMemory}
 use Rattle.file_items.proofs.files.FileTree.add_object.Goals as goal
 
 pub returns-in_err-held-clause-next : goal.returns-in_err-held-clause-next

@@ -1,30 +1,4 @@
-use Rattle.std.proofs.Common.{◌≡◌, ◌<◌, ◌∙◌, ◌^◌, ℕ, Option, List, filter, length, map, count_by, ap, refl, sym, subst, arith}
-use Rattle.std.specs.Prelude.{slice_get}
-use Rattle.std.specs.Option.{option_map_or}
-use Rattle.std.proofs.lemmas.Result.{on_ok_weaker}
-use Rattle.fs_rows.specs.Kinds.{is_directory}
-use Rattle.fs_rows.specs.declared.row.Kind.{Kind}
-use Rattle.fs_rows.specs.declared.row.Kind.TheVariants.{Directory}
-use Rattle.indexmap.specs.IndexMap.{keys}
-use Rattle.btr_item_list.specs.Spots.{is_under}
-use Rattle.btr_item_list.specs.declared.spot.Spot.{Spot}
-use Rattle.btr_item_list.proofs.Placing.{told_long}
-use Rattle.reiser_volume_objects.specs.Keys.{same_key, items_of}
-use Rattle.reiser_volume_objects.specs.declared.stat.ObjectStat.{ObjectStat}
-use Rattle.reiser_volume.specs.reiser_super.declared.superblock.Super.{Super}
-use Rattle.reiser_volume.proofs.Bounds.{accepted_is_small}
-use Rattle.reiser_volume.specs.Opened.{links_in}
-use Rattle.reiser_volume.specs.Volume.{superblock}
-use Rattle.reiser_volume.specs.declared.volume.Volume.{Volume}
-use Rattle.unit_plan.specs.declared.piece.Piece.{Piece}
-use Rattle.file_items.specs.Contents.{HoldsInline}
-use Rattle.file_items.specs.Extents.{pieces_of, piece_bytes}
-use Rattle.file_items.specs.Gathered.{HasEntries}
-use Rattle.file_items.specs.Inodes.{inode_from}
-use Rattle.file_items.specs.Known.{IsKnown}
-use Rattle.file_items.specs.Names.{indexed_in, letters}
-use Rattle.file_items.specs.Tree.{Source, source_of, kind_in, size_in, number_of}
-use Rattle.file_items.specs.declared.files.Basis.{Basis}
+use Rattle.file_items.proofs.Imports.{◌≡◌, ◌<◌, ◌∙◌, ◌^◌, ℕ, Option, List, filter, length, map, count_by, ap, refl, sym, subst, arith, slice_get, option_map_or, on_ok_weaker, is_directory, Kind, Directory, keys, is_under, Spot, told_long, same_key, items_of, ObjectStat, Super, accepted_is_small, links_in, superblock, Volume, Piece, HoldsInline, pieces_of, piece_bytes, HasEntries, inode_from, IsKnown, indexed_in, letters, Source, source_of, kind_in, size_in, ino_of, Basis}
 use Rattle.file_items.proofs.Beginning.{begins, bytes_held, inode_of_object, letters_small, links_count, links_small}
 use Rattle.file_items.proofs.Held.{stat_is}
 use Rattle.file_items.proofs.files.FileTree.add_told.Goals as goal
@@ -42,7 +16,7 @@ returns-clause-next g c = λ image known placed key at kind_is holds.
     let ino : ℕ = c.inode-ino.result in
     let stat : ObjectStat = c.stat-stat.result.now in
     let same = c.take_entries.ensures.basis in
-    let ino_is : ino ≡ number_of s key = c.inode-ino.ensures (keys volume.named) key known.numbers_are at in
+    let ino_is : ino ≡ ino_of s key = c.inode-ino.ensures (keys volume.named) key known.numbers_are at in
     let own = stat_is volume image place key stat known.opened at (c.stat-stat.ensures key at) in
     let entries : kind ≡ Directory → HasEntries ino (indexed_in (kind_in s) s.keys s.links key) c.take_entries.new.self.directory = λ is. c.in_ok-take_entries.ensures.entries image known key at is in
     let few : letters (indexed_in (kind_in s) s.keys s.links key) < 2 ^ 62 = letters_small volume basis.links basis.numbers image known place key at (kind_in s) (keys volume.named) key in

@@ -1,4 +1,4 @@
-use Rattle.file_items.specs.Tree.{source_of}
+use Rattle.file_items.proofs.Imports.{source_of}
 use Rattle.file_items.proofs.Extending.{tree_begins}
 use Rattle.file_items.proofs.files.FileTree.new.Goals as goal
 

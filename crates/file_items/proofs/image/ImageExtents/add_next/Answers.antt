@@ -1,8 +1,4 @@
-use Rattle.std.proofs.Common.{◌≡◌, ◌∙◌, ◌∷◌, ◌++◌, [], ℕ, ap, sym, List, drop, arith, ◌+◌, ◌<◌, ◌^◌}
-use Rattle.std.proofs.lemmas.Option.{slice_get_within}
-use Rattle.btr_item_list.specs.Extents.{extent_item, regular_extent}
-use Rattle.unit_plan.specs.declared.piece.Piece.{Piece}
-use Rattle.file_items.specs.Extents.{source_block, pieces_of_volume, extents_at}
+use Rattle.file_items.proofs.Imports.{◌≡◌, ◌∙◌, ◌∷◌, ◌++◌, [], ℕ, ap, sym, List, drop, arith, ◌+◌, ◌<◌, ◌^◌, slice_get_within, extent_item, regular_extent, Piece, source_block, pieces_of_volume, extents_at}
 use Rattle.file_items.proofs.Ordering.{piece_at, bounded, piece_same}
 use Rattle.file_items.proofs.image.ImageExtents.add_next.Goals as goal
 

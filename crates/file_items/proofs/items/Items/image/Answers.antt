@@ -1,11 +1,4 @@
-use Rattle.std.proofs.Common.{◌≡◌, ◌++◌, ◌∙◌, ℕ, List, filter, is_some, drop, ap, arith}
-use Rattle.btr_item_list.proofs.Sorting.{ascending_sum}
-use Rattle.reiser_volume.specs.reiser_super.declared.superblock.Super.{Super}
-use Rattle.unit_plan.specs.declared.piece.Piece.{Piece}
-use Rattle.file_items.specs.Extents.{source_block, pieces_of_volume, piece_bytes, extents_at}
-use Rattle.file_items.specs.Small.{image_items}
-use Rattle.file_items.specs.Stream.{ahead}
-use Rattle.file_items.specs.declared.items.Items.{Items}
+use Rattle.file_items.proofs.Imports.{◌≡◌, ◌++◌, ◌∙◌, ℕ, List, filter, is_some, drop, ap, arith, ascending_sum, Super, Piece, source_block, pieces_of_volume, piece_bytes, extents_at, image_items, ahead, Items}
 use Rattle.file_items.proofs.Extending.{image_is}
 use Rattle.file_items.proofs.Ordering.{sum_within, bytes_are}
 use Rattle.file_items.proofs.items.Items.image.Goals as goal

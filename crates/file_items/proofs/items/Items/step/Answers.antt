@@ -1,9 +1,4 @@
-use Rattle.std.proofs.Common.{◌++◌, List, ap, refl, arith}
-use Rattle.unit_plan.specs.btr_node.Leaf.{Item}
-use Rattle.reiser_volume.specs.declared.volume.Volume.{Volume}
-use Rattle.unit_plan.specs.declared.piece.Piece.{Piece}
-use Rattle.file_items.specs.Stream.{rest_ahead}
-use Rattle.file_items.specs.declared.items.Items.{Items}
+use Rattle.file_items.proofs.Imports.{◌++◌, List, ap, refl, arith, Item, Volume, Piece, rest_ahead, Items}
 use Rattle.file_items.proofs.Stepping.{comes_none, comes_some}
 use Rattle.file_items.proofs.Streaming.{next_of}
 use Rattle.file_items.proofs.items.Items.step.Goals as goal

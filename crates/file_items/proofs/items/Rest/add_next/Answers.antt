@@ -1,6 +1,4 @@
-use Rattle.std.proofs.Common.{arith}
-use Rattle.reiser_volume.proofs.Bounds.{accepted_is_small}
-use Rattle.reiser_volume.specs.Volume.{superblock}
+use Rattle.file_items.proofs.Imports.{arith, accepted_is_small, superblock}
 use Rattle.file_items.proofs.items.Rest.add_next.Goals as goal
 
 pub returns-in_ok-add_next-in-Image-clause-next : goal.returns-in_ok-add_next-in-Image-clause-next

@@ -1,8 +1,4 @@
-use Rattle.std.proofs.Common.{◌<◌, sym, subst}
-use Rattle.std.proofs.lemmas.List.Elements.{All-filter}
-use Rattle.btr_item_list.specs.Spots.{is_under}
-use Rattle.btr_item_list.specs.declared.spot.Spot.{Spot}
-use Rattle.file_items.specs.Spots.{AreBelow}
+use Rattle.file_items.proofs.Imports.{◌<◌, sym, subst, All-filter, is_under, Spot, AreBelow}
 use Rattle.file_items.proofs.link_index.LinkIndex.names_of.Goals as goal
 
 pub returns-clause-below : goal.returns-clause-below

@@ -1,6 +1,4 @@
-use Rattle.std.proofs.Common.{ℕ, length, subst, sym, ◌∙◌}
-use Rattle.reiser_volume.specs.Opened.{links_in}
-use Rattle.file_items.specs.Spots.{AreBelow}
+use Rattle.file_items.proofs.Imports.{ℕ, length, subst, sym, ◌∙◌, links_in, AreBelow}
 use Rattle.file_items.proofs.Linked.{places_sorted, below_sorted}
 use Rattle.file_items.proofs.link_index.LinkIndex.new.Goals as goal
 

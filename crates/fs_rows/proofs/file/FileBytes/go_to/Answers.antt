@@ -1,4 +1,4 @@
-use Rattle.std.proofs.Common.{refl}
+use Rattle.fs_rows.proofs.Imports.{refl}
 use Rattle.fs_rows.proofs.Holding.{gone_to}
 use Rattle.fs_rows.proofs.file.FileBytes.go_to.Goals as goal
 

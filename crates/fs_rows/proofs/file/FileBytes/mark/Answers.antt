@@ -1,4 +1,4 @@
-use Rattle.std.proofs.Common.{◌+◌, ◌∙◌, arith}
+use Rattle.fs_rows.proofs.Imports.{◌+◌, ◌∙◌, arith}
 use Rattle.fs_rows.proofs.FileMarks.{mark_is}
 use Rattle.fs_rows.proofs.Holding.{closed}
 use Rattle.fs_rows.proofs.file.FileBytes.mark.Goals as goal

@@ -1,5 +1,4 @@
-use Rattle.std.proofs.Common.{ℕ, List, sym, subst, ◌∙◌}
-use Rattle.fs_rows.specs.Marker.{Marks}
+use Rattle.fs_rows.proofs.Imports.{ℕ, List, sym, subst, ◌∙◌, Marks}
 use Rattle.fs_rows.proofs.Functions.{zero_block}
 use Rattle.fs_rows.proofs.Messages.{no_blocks}
 use Rattle.fs_rows.proofs.file.FileBytes.new.Goals as goal

@@ -1,5 +1,4 @@
-use Rattle.std.proofs.Common.{◌≡◌, ℕ, refl, sym, ap, ◌∙◌, arith}
-use Rattle.fs_rows.specs.Bytes.{block_by}
+use Rattle.fs_rows.proofs.Imports.{◌≡◌, ℕ, refl, sym, ap, ◌∙◌, arith, block_by}
 use Rattle.fs_rows.proofs.Holding.{replaced}
 use Rattle.fs_rows.proofs.file.FileBytes.put_block.Goals as goal
 

@@ -1,7 +1,4 @@
-use Rattle.std.proofs.Common.{◌≡◌, ◌-◌, ◌∙◌, ℕ, List, min, take, length, sym, ap, subst, arith, inl, inr}
-use Rattle.std.proofs.lemmas.List.{take_min, length-take}
-use Rattle.std.proofs.lemmas.Bool.{cases_lt}
-use Rattle.fs_rows.specs.Pieces.{Overlays}
+use Rattle.fs_rows.proofs.Imports.{◌≡◌, ◌-◌, ◌∙◌, ℕ, List, min, take, length, sym, ap, subst, arith, inl, inr, take_min, length-take, cases_lt, Overlays}
 use Rattle.fs_rows.proofs.Holding.{held_same}
 use Rattle.fs_rows.proofs.file.FileBytes.put_bytes.Goals as goal
 

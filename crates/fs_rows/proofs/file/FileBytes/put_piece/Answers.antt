@@ -1,5 +1,4 @@
-use Rattle.std.proofs.Common.{◌≡◌, ◌*◌, ◌/◌, ◌∙◌, ◌≤◌, ℕ, refl, ap, arith}
-use Rattle.fs_rows.specs.Bytes.{block_by}
+use Rattle.fs_rows.proofs.Imports.{◌≡◌, ◌*◌, ◌/◌, ◌∙◌, ◌≤◌, ℕ, refl, ap, arith, block_by}
 use Rattle.fs_rows.proofs.Holding.{held_same}
 use Rattle.fs_rows.proofs.Joined.{joined_at, joined_start, joined_end, block_before, piece_added}
 use Rattle.fs_rows.proofs.file.FileBytes.put_piece.Goals as goal

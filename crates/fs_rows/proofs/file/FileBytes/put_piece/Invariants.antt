@@ -1,6 +1,4 @@
-use Rattle.std.proofs.Common.{◌≡◌, ◌≤◌, ◌+◌, ◌*◌, ℕ, length}
-use Rattle.fs_rows.specs.Pieces.{Overlays}
-use Rattle.fs_rows.specs.Held.{HoldsBytes}
+use Rattle.fs_rows.proofs.Imports.{◌≡◌, ◌≤◌, ◌+◌, ◌*◌, ℕ, length, Overlays, HoldsBytes}
 use Rattle.fs_rows.proofs.Joined.{joined_at}
 use Rattle.fs_rows.proofs.file.FileBytes.put_piece.Given as goal
 

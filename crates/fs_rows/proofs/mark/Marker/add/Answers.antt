@@ -1,4 +1,4 @@
-use Rattle.std.proofs.Common.{IsTrue}
+use Rattle.fs_rows.proofs.Imports.{IsTrue}
 use Rattle.fs_rows.proofs.MarkLemmas.{marks_block, marks_zeros, not_zeros}
 use Rattle.fs_rows.proofs.mark.Marker.add.Goals as goal
 

@@ -1,5 +1,4 @@
-use Rattle.fs_rows.specs.Mark.{mark_of}
-use Rattle.fs_rows.specs.Marker.{Marks}
+use Rattle.fs_rows.proofs.Imports.{mark_of, Marks}
 use Rattle.fs_rows.proofs.mark.Marker.finish.Goals as goal
 
 pub returns : goal.returns

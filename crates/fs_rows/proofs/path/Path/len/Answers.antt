@@ -1,4 +1,4 @@
-use Rattle.std.proofs.Common.{length, ap, arith}
+use Rattle.fs_rows.proofs.Imports.{length, ap, arith}
 use Rattle.fs_rows.proofs.PathParts.{path_count}
 use Rattle.fs_rows.proofs.path.Path.len.Goals as goal
 

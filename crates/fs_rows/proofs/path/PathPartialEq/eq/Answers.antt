@@ -1,6 +1,4 @@
-use Rattle.std.proofs.Common.{nat_eq, sym, ◌∙◌}
-use Rattle.std.specs.Cmp.Lexicographic.{pointwise}
-use Rattle.std.proofs.lemmas.Bool.{not-true, not-false}
+use Rattle.fs_rows.proofs.Imports.{nat_eq, sym, ◌∙◌, pointwise, not-true, not-false}
 use Rattle.fs_rows.proofs.Comparing.{differ, same_next}
 use Rattle.fs_rows.proofs.path.PathPartialEq.eq.Goals as goal
 

@@ -1,5 +1,4 @@
-use Rattle.std.proofs.Common.{◌≡◌, drop, nat_eq}
-use Rattle.std.specs.Cmp.Lexicographic.{pointwise}
+use Rattle.fs_rows.proofs.Imports.{◌≡◌, drop, nat_eq, pointwise}
 use Rattle.fs_rows.proofs.path.PathPartialEq.eq.Given as goal
 
 abbrev pub invariant-loop-i : goal.invariant-loop-i

@@ -1,4 +1,4 @@
-use Rattle.std.proofs.Common.{◌-◌, ◌≤◌}
+use Rattle.host_edge.proofs.Imports.{◌-◌, ◌≤◌}
 use Rattle.host_edge.proofs.opened.Opened.read.Given as goal
 
 abbrev pub invariant-loop-at : goal.invariant-loop-at

@@ -1,8 +1,4 @@
-use Rattle.std.proofs.Common.{◌≡◌, ℕ, refl, sym, ◌∙◌, ap, subst}
-use Rattle.lru.specs.LruCache.{LruCache}
-use Rattle.vol_block.specs.declared.block.Block.{Block}
-use Rattle.outside.specs.Cache.{AreOf}
-use Rattle.outside.specs.History.{Image, block_at}
+use Rattle.outside.proofs.Imports.{◌≡◌, ℕ, refl, sym, ◌∙◌, ap, subst, LruCache, Block, AreOf, Image, block_at}
 use Rattle.outside.proofs.Caching.{used_of, put_of, after_put}
 use Rattle.outside.proofs.cached.CachedBlockSource.read.Goals as goal
 

@@ -1,8 +1,4 @@
-use Rattle.std.proofs.Common.{◌≡◌, ◌<◌, ℕ, length, sym, ◌∙◌, subst}
-use Rattle.lru.specs.LruCache.{LruCache}
-use Rattle.vol_block.specs.declared.block.Block.{Block}
-use Rattle.outside.specs.Cache.{AreOf}
-use Rattle.outside.specs.History.{Image, reads}
+use Rattle.outside.proofs.Imports.{◌≡◌, ◌<◌, ℕ, length, sym, ◌∙◌, subst, LruCache, Block, AreOf, Image, reads}
 use Rattle.outside.proofs.Caching.{put_of, dropped_of, after_set, written_others, written_here}
 use Rattle.outside.proofs.cached.CachedDisk.write.Goals as goal
 

@@ -1,16 +1,4 @@
-use Rattle.std.proofs.Common.{◌≡◌, ℕ, List, None, is_some, sym, ◌∙◌, ap, subst}
-use Rattle.std.specs.Ordering.{nat_cmp}
-use Rattle.std.specs.BTreeMap.{get, keys, is_at}
-use Rattle.std.specs.Map.{lookup}
-use Rattle.std.proofs.lemmas.List.Elements.{same_from_all_zip}
-use Rattle.vol_block.specs.declared.block.Block.{Block}
-use Rattle.vol_block.specs.Volume.{zeros}
-use Rattle.outside.specs.History.{reads, MayLeave}
-use Rattle.outside_mem.specs.declared.store.Done.{Done}
-use Rattle.outside_mem.specs.Choice.{written, number_for, crash_image}
-use Rattle.outside_mem.specs.Disk.{State}
-use Rattle.outside_mem.specs.Done.{calls_of}
-use Rattle.outside_mem.specs.Store.{bytes_or, bytes_at, undone_at, chosen_or, image_of}
+use Rattle.outside_mem.proofs.Imports.{◌≡◌, ℕ, List, None, is_some, sym, ◌∙◌, ap, subst, nat_cmp, get, keys, is_at, lookup, same_from_all_zip, Block, zeros, reads, MayLeave, Done, written, number_for, crash_image, State, calls_of, bytes_or, bytes_at, undone_at, chosen_or, image_of}
 use Rattle.outside_mem.proofs.Choices.{choice_may}
 use Rattle.outside_mem.proofs.Crashed.{crash_blocks}
 use Rattle.outside_mem.proofs.Images.{image_same, blank_holds}

@@ -1,11 +1,4 @@
-use Rattle.std.proofs.Common.{◌≡◌, ℕ, List, replicate, None, ◌∙◌, ap}
-use Rattle.std.specs.Ordering.{nat_cmp}
-use Rattle.std.specs.BTreeMap.{is_at}
-use Rattle.std.specs.Map.{lookup}
-use Rattle.vol_block.specs.declared.block.Block.{Block}
-use Rattle.vol_block.specs.Volume.{zeros}
-use Rattle.outside_mem.specs.Store.{bytes_or, bytes_at, undone_at, image_of}
-use Rattle.outside_mem.specs.Done.{calls_of}
+use Rattle.outside_mem.proofs.Imports.{◌≡◌, ℕ, List, replicate, None, ◌∙◌, ap, nat_cmp, is_at, lookup, Block, zeros, bytes_or, bytes_at, undone_at, image_of, calls_of}
 use Rattle.outside_mem.proofs.Images.{image_zeros, length-image_of}
 use Rattle.outside_mem.proofs.disk.MemDisk.new.Goals as goal
 

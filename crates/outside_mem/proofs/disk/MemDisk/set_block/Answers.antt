@@ -1,6 +1,4 @@
-use Rattle.std.proofs.Common.{ap}
-use Rattle.outside_mem.specs.Disk.{State}
-use Rattle.outside_mem.specs.Store.{bytes_at, undone_at, has_key}
+use Rattle.outside_mem.proofs.Imports.{ap, State, bytes_at, undone_at, has_key}
 use Rattle.outside_mem.proofs.Images.{reset_holds, history_reset, nothing_holds}
 use Rattle.outside_mem.proofs.States.{state_with_block}
 use Rattle.outside_mem.proofs.disk.MemDisk.set_block.Goals as goal

@@ -1,13 +1,4 @@
-use Rattle.std.proofs.Common.{ℕ, List, is_some, refl, sym, ◌∙◌, ap}
-use Rattle.std.specs.Ordering.{nat_cmp}
-use Rattle.std.specs.BTreeMap.{is_at}
-use Rattle.std.specs.Map.{lookup}
-use Rattle.vol_block.specs.declared.block.Block.{Block}
-use Rattle.outside_mem.specs.declared.store.Done.TheVariants.{Synced}
-use Rattle.outside_mem.specs.Disk.{State}
-use Rattle.outside_mem.specs.Done.{calls_of}
-use Rattle.outside_mem.specs.Laws.{readable_len}
-use Rattle.outside_mem.specs.Store.{bytes_or, bytes_at, undone_at, has_key}
+use Rattle.outside_mem.proofs.Imports.{ℕ, List, is_some, refl, sym, ◌∙◌, ap, nat_cmp, is_at, lookup, Block, Synced, State, calls_of, readable_len, bytes_or, bytes_at, undone_at, has_key}
 use Rattle.outside_mem.proofs.Images.{sync_holds, history_more, length_readable}
 use Rattle.outside_mem.proofs.States.{state_after_sync}
 use Rattle.outside_mem.proofs.disk.MemDiskDisk.sync.Goals as goal

@@ -1,10 +1,4 @@
-use Rattle.std.proofs.Common.{◌<◌, inl, inr, sym, ◌∙◌, ap, subst}
-use Rattle.outside_mem.specs.declared.store.Done.TheVariants.{Wrote}
-use Rattle.outside_mem.specs.Disk.{State}
-use Rattle.outside_mem.specs.Done.{calls_of}
-use Rattle.outside_mem.specs.Failures.{fails_next}
-use Rattle.outside_mem.specs.Laws.{readable_len}
-use Rattle.outside_mem.specs.Store.{bytes_at, undone_at, has_key}
+use Rattle.outside_mem.proofs.Imports.{◌<◌, inl, inr, sym, ◌∙◌, ap, subst, Wrote, State, calls_of, fails_next, readable_len, bytes_at, undone_at, has_key}
 use Rattle.outside_mem.proofs.Images.{write_holds, nothing_holds, history_more, history_stays, length_readable, count_open}
 use Rattle.outside_mem.proofs.States.{state_after_write, state_after_refusal}
 use Rattle.outside_mem.proofs.disk.MemDiskDisk.write.Goals as goal

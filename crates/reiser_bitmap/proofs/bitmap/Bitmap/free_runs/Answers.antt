@@ -1,6 +1,4 @@
-use Rattle.std.proofs.Common.{◌≡◌, ◌+◌, ◌/◌, ◌≤◌, length, sym, arith}
-use Rattle.reiser_bitmap.specs.Runs.{free_runs}
-use Rattle.reiser_bitmap.specs.Units.{is_free_unit}
+use Rattle.reiser_bitmap.proofs.Imports.{◌≡◌, ◌+◌, ◌/◌, ◌≤◌, length, sym, arith, free_runs, is_free_unit}
 use Rattle.reiser_bitmap.proofs.FreeUnits.{past_units}
 use Rattle.reiser_bitmap.proofs.RunLemmas.{found_start, found_ended, found_all}
 use Rattle.reiser_bitmap.proofs.bitmap.Bitmap.free_runs.Goals as goal

@@ -1,5 +1,4 @@
-use Rattle.std.proofs.Common.{◌/◌, length}
-use Rattle.reiser_bitmap.specs.Units.{is_free_unit}
+use Rattle.reiser_bitmap.proofs.Imports.{◌/◌, length, is_free_unit}
 use Rattle.reiser_bitmap.proofs.RunLemmas.{AreFound}
 use Rattle.reiser_bitmap.proofs.bitmap.Bitmap.free_runs.Given as goal
 

@@ -1,7 +1,4 @@
-use Rattle.std.proofs.Common.{◌≡◌, ◌/◌, length, sym, ◌∙◌, ap, arith, ℕ}
-use Rattle.std.specs.Prelude.{filter}
-use Rattle.std.specs.List.{range_with_len}
-use Rattle.reiser_bitmap.specs.Units.{is_free_unit, free_units}
+use Rattle.reiser_bitmap.proofs.Imports.{◌≡◌, ◌/◌, length, sym, ◌∙◌, ap, arith, ℕ, filter, range_with_len, is_free_unit, free_units}
 use Rattle.reiser_bitmap.proofs.Ranges.{count_more_yes, filter_more_no}
 use Rattle.reiser_bitmap.proofs.bitmap.Bitmap.free_units.Goals as goal
 use Rattle.reiser_bitmap.proofs.bitmap.Bitmap.free_units.Goals.{then-unit_is_free, else-unit_is_free}

@@ -1,7 +1,4 @@
-use Rattle.std.proofs.Common.{◌≡◌, ◌≤◌, length}
-use Rattle.std.specs.Prelude.{filter}
-use Rattle.std.specs.List.{range_with_len}
-use Rattle.reiser_bitmap.specs.Units.{is_free_unit}
+use Rattle.reiser_bitmap.proofs.Imports.{◌≡◌, ◌≤◌, length, filter, range_with_len, is_free_unit}
 use Rattle.reiser_bitmap.proofs.bitmap.Bitmap.free_units.Given as goal
 
 abbrev pub invariant-loop-u : goal.invariant-loop-u

@@ -1,5 +1,4 @@
-use Rattle.std.proofs.Common.{◌<◌, ◌/◌, true, length, set, ◌∙◌, ap, arith}
-use Rattle.std.proofs.lemmas.List.{length-set}
+use Rattle.reiser_bitmap.proofs.Imports.{◌<◌, ◌/◌, true, length, set, ◌∙◌, ap, arith, length-set}
 use Rattle.reiser_bitmap.proofs.BitLemmas.{length-bits, bits-set, read, tail-set}
 use Rattle.reiser_bitmap.proofs.bitmap.Bitmap.insert.Goals as goal
 

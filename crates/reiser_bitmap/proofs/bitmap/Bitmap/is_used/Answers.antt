@@ -1,8 +1,4 @@
-use Rattle.std.proofs.Common.{◌<◌, ◌≤◌, ◌/◌, ◌%◌, ◌==◌, false, length, sym, ◌∙◌, ap, arith}
-use Rattle.std.specs.Int.{bit_at}
-use Rattle.std.proofs.lemmas.Bool.{le-ltb}
-use Rattle.std.proofs.lemmas.List.{get_or_past}
-use Rattle.reiser_bitmap.specs.Bits.{has}
+use Rattle.reiser_bitmap.proofs.Imports.{◌<◌, ◌≤◌, ◌/◌, ◌%◌, ◌==◌, false, length, sym, ◌∙◌, ap, arith, bit_at, le-ltb, get_or_past, has}
 use Rattle.reiser_bitmap.proofs.BitLemmas.{length-bits, has-bits, has_bit, read}
 use Rattle.reiser_bitmap.proofs.bitmap.Bitmap.is_used.Goals as goal
 

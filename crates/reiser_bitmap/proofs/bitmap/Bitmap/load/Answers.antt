@@ -1,4 +1,4 @@
-use Rattle.std.proofs.Common.{length, ◌∙◌, ap}
+use Rattle.reiser_bitmap.proofs.Imports.{length, ◌∙◌, ap}
 use Rattle.reiser_bitmap.proofs.BitLemmas.{length-bits}
 use Rattle.reiser_bitmap.proofs.bitmap.Bitmap.load.Goals as goal
 

@@ -1,5 +1,4 @@
-use Rattle.std.proofs.Common.{ℕ, List, ◌∙◌, ap}
-use Rattle.reiser_bitmap.specs.Bits.{bits}
+use Rattle.reiser_bitmap.proofs.Imports.{ℕ, List, ◌∙◌, ap, bits}
 use Rattle.reiser_bitmap.proofs.BitLemmas.{no_bits}
 use Rattle.reiser_bitmap.proofs.bitmap.Bitmap.new.Goals as goal
 

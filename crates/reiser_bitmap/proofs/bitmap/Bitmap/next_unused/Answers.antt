@@ -1,6 +1,4 @@
-use Rattle.std.proofs.Common.{◌≡◌, ◌∙◌, length, sym, ap, arith, true}
-use Rattle.reiser_bitmap.specs.Bits.{bits, has}
-use Rattle.reiser_bitmap.specs.Next.{is_bit}
+use Rattle.reiser_bitmap.proofs.Imports.{◌≡◌, ◌∙◌, length, sym, ap, arith, true, bits, has, is_bit}
 use Rattle.reiser_bitmap.proofs.BitLemmas.{length-bits}
 use Rattle.reiser_bitmap.proofs.Ends.{end_facts, end_is, unused_end}
 use Rattle.reiser_bitmap.proofs.bitmap.Bitmap.next_unused.Goals as goal

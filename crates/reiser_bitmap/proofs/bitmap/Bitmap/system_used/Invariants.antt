@@ -1,6 +1,4 @@
-use Rattle.std.proofs.Common.{◌≡◌, ◌≤◌, ◌<◌, ℕ, true, length}
-use Rattle.reiser_bitmap.specs.Bits.{has}
-use Rattle.reiser_bitmap.specs.Layout.{bitmap_block}
+use Rattle.reiser_bitmap.proofs.Imports.{◌≡◌, ◌≤◌, ◌<◌, ℕ, true, length, has, bitmap_block}
 use Rattle.reiser_bitmap.proofs.bitmap.Bitmap.system_used.Given as goal
 
 abbrev pub invariant-loop-k : goal.invariant-loop-k

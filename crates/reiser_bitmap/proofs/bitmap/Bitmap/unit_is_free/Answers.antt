@@ -1,8 +1,4 @@
-use Rattle.std.proofs.Common.{◌≡◌, ◌*◌, false, Bool, List, length, refl, sym, ◌∙◌, ap, subst, arith, ℕ}
-use Rattle.std.proofs.lemmas.Bool.Decides.{same_from_decides}
-use Rattle.refusals.specs.vol_block.Volume.{IsReserved}
-use Rattle.reiser_bitmap.specs.Units.{IsFreeUnit}
-use Rattle.reiser_bitmap.specs.Zeros.{HasNoBits}
+use Rattle.reiser_bitmap.proofs.Imports.{◌≡◌, ◌*◌, false, Bool, List, length, refl, sym, ◌∙◌, ap, subst, arith, ℕ, same_from_decides, IsReserved, IsFreeUnit, HasNoBits}
 use Rattle.reiser_bitmap.proofs.BitLemmas.{length-bits}
 use Rattle.reiser_bitmap.proofs.FreeUnits.{decides_free_unit, free_from_no_bits, no_bits_from_free}
 use Rattle.reiser_bitmap.proofs.bitmap.Bitmap.unit_is_free.Goals as goal

@@ -1,5 +1,4 @@
-use Rattle.std.proofs.Common.{length, ◌∙◌, ap, arith, Bool, List, ℕ}
-use Rattle.reiser_bitmap.specs.Bits.{bit_count, bits, used_blocks}
+use Rattle.reiser_bitmap.proofs.Imports.{length, ◌∙◌, ap, arith, Bool, List, ℕ, bit_count, bits, used_blocks}
 use Rattle.reiser_bitmap.proofs.BitLemmas.{length-bits}
 use Rattle.reiser_bitmap.proofs.CountLemmas.{bits_are_used, used_few}
 use Rattle.reiser_bitmap.proofs.bitmap.Bitmap.used.Goals as goal

@@ -1,5 +1,4 @@
-use Rattle.std.proofs.Common.{◌<◌, List, length, Some, slice_get, sym, ap, ◌∙◌, arith}
-use Rattle.reiser_items.specs.Entries.{EntryValue}
+use Rattle.reiser_items.proofs.Imports.{◌<◌, List, length, Some, slice_get, sym, ap, ◌∙◌, arith, EntryValue}
 use Rattle.reiser_items.proofs.Lists.{entries_length, entry_is}
 use Rattle.reiser_items.proofs.Grammar.{heads_within, area_within}
 use Rattle.reiser_items.proofs.entries.Entries.get.Goals as goal

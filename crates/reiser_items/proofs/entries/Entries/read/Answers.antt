@@ -1,4 +1,4 @@
-use Rattle.std.proofs.lemmas.Bool.Decides.{same_from_decides}
+use Rattle.reiser_items.proofs.Imports.{same_from_decides}
 use Rattle.reiser_items.proofs.Grammar.{entries_decide}
 use Rattle.reiser_items.proofs.entries.Entries.read.Goals as goal
 

@@ -1,4 +1,4 @@
-use Rattle.std.proofs.Common.{length, ap, arith}
+use Rattle.reiser_items.proofs.Imports.{length, ap, arith}
 use Rattle.reiser_items.proofs.Lists.{pointers_length}
 use Rattle.reiser_items.proofs.pointers.Pointers.get.Goals as goal
 

@@ -1,8 +1,4 @@
-use Rattle.std.proofs.Common.{◌+◌, ◌*◌, ◌++◌, ◌∷◌, [], ℕ, List, map, ap, sym, ◌∙◌, arith}
-use Rattle.std.specs.List.{range_with_len}
-use Rattle.std.proofs.lemmas.List.{take_more_set}
-use Rattle.std.proofs.lemmas.List.FromFn.{map-range_with_len_more}
-use Rattle.reiser_make.specs.Bitmap.{byte_of, is_marked, marks}
+use Rattle.reiser_make.proofs.Imports.{◌+◌, ◌*◌, ◌++◌, ◌∷◌, [], ℕ, List, map, ap, sym, ◌∙◌, arith, range_with_len, take_more_set, map-range_with_len_more, byte_of, is_marked, marks}
 use Rattle.reiser_make.proofs.bitmap.Usage.put_bits.Goals as goal
 
 pub loop-j-preserved : goal.loop-j-preserved

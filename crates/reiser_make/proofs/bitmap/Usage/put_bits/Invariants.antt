@@ -1,5 +1,4 @@
-use Rattle.std.proofs.Common.{◌≡◌, take}
-use Rattle.reiser_make.specs.Bitmap.{marks}
+use Rattle.reiser_make.proofs.Imports.{◌≡◌, take, marks}
 use Rattle.reiser_make.proofs.bitmap.Usage.put_bits.Given as goal
 
 abbrev pub invariant-loop-j : goal.invariant-loop-j

@@ -1,4 +1,4 @@
-use Rattle.std.proofs.Common.{◌≡◌, ◌∙◌, ℕ, ◌+◌, ◌*◌, ◌/◌, ◌%◌, ap, refl}
+use Rattle.reiser_make.proofs.Imports.{◌≡◌, ◌∙◌, ℕ, ◌+◌, ◌*◌, ◌/◌, ◌%◌, ap, refl}
 use Rattle.std.proofs.Math.Nat.{mod-add-mod}
 use Rattle.reiser_make.specs.Draw.{next_state, drawn}
 use Rattle.reiser_make.proofs.draw.Draws.draw.Goals as goal

@@ -1,5 +1,4 @@
-use Rattle.std.proofs.Common.{◌≡◌, ℕ, subst, arith}
-use Rattle.reiser_make.specs.Finding.{IsLeafOf}
+use Rattle.reiser_make.proofs.Imports.{◌≡◌, ℕ, subst, arith, IsToldLeaf}
 use Rattle.reiser_make.proofs.Finding.{none_left, stands_more, found_leaf}
 use Rattle.reiser_make.proofs.inner.LeafWalk.find.Goals as goal
 
@@ -20,5 +19,5 @@ returns-in_err-found-clause-found c =
 pub returns-clause-found : goal.returns-clause-found
 returns-clause-found c =
     let here : c.loop-self.self.leaf ≡ c.args.leaf = omega (arith, c.loop-self-test.false, c.loop-self.invariant.before) in
-    subst (λ (m : ℕ). IsLeafOf c.args.plan.now.sample m (record { first = c.in_ok-found.found.first; used = c.in_ok-found.found.used })) here
+    subst (λ (m : ℕ). IsToldLeaf c.args.plan.now.sample m (record { first = c.in_ok-found.found.first; used = c.in_ok-found.found.used })) here
     (found_leaf c.args.plan.now.sample c.loop-self.self.leaf c.loop-self.self.at c.loop-self.invariant.stands c.in_ok-found.found c.in_ok-found.ensures)

@@ -1,5 +1,4 @@
-use Rattle.std.proofs.Common.{◌≡◌}
-use Rattle.reiser_make.specs.Levels.{level_of}
+use Rattle.reiser_make.proofs.Imports.{◌≡◌, level_of}
 use Rattle.reiser_make.proofs.level.Level.above_leaves.Given as goal
 
 abbrev pub invariant-loop : goal.invariant-loop

@@ -1,5 +1,4 @@
-use Rattle.std.proofs.Common.{ap, sym, ◌∙◌, arith}
-use Rattle.reiser_make.specs.Levels.{level_of}
+use Rattle.reiser_make.proofs.Imports.{ap, sym, ◌∙◌, arith, level_of}
 use Rattle.reiser_make.proofs.Rising.{climbs_first, climbs_more, climbed, root_one}
 use Rattle.reiser_make.proofs.level.Level.root.Goals as goal
 

@@ -1,4 +1,4 @@
-use Rattle.std.proofs.Common.{◌-◌}
+use Rattle.reiser_make.proofs.Imports.{◌-◌}
 use Rattle.reiser_make.proofs.Rising.{Climbs}
 use Rattle.reiser_make.proofs.level.Level.root.Given as goal
 

@@ -1,6 +1,4 @@
-use Rattle.std.proofs.Common.{◌≡◌, ◌≤◌, ℕ, length, ap, arith}
-use Rattle.reiser_make.specs.Leaf.{leaves, leaves_of}
-use Rattle.reiser_make.specs.Walk.{items_behind}
+use Rattle.reiser_make.proofs.Imports.{◌≡◌, ◌≤◌, ℕ, length, ap, arith, leaves, leaves_of, items_behind}
 use Rattle.reiser_make.proofs.Counting.{leaves_bound, leaves_some, leaves_first}
 use Rattle.reiser_make.proofs.sample.Sample.count_leaves.Goals as goal
 

@@ -1,6 +1,4 @@
-use Rattle.std.proofs.Common.{◌≡◌, ◌+◌, length}
-use Rattle.reiser_make.specs.Leaf.{leaves, leaves_of}
-use Rattle.reiser_make.specs.Walk.{items_behind}
+use Rattle.reiser_make.proofs.Imports.{◌≡◌, ◌+◌, length, leaves, leaves_of, items_behind}
 use Rattle.reiser_make.proofs.sample.Sample.count_leaves.Given as goal
 
 abbrev pub decreases-loop-leaf : goal.decreases-loop-leaf

@@ -1,4 +1,4 @@
-use Rattle.std.proofs.Common.{arith}
+use Rattle.reiser_make.proofs.Imports.{arith}
 use Rattle.reiser_make.proofs.Growing.{grows_first, grows_more}
 use Rattle.reiser_make.proofs.sample.Sample.new.Goals as goal
 

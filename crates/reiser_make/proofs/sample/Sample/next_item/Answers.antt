@@ -1,4 +1,4 @@
-use Rattle.std.proofs.Common.{sym, ◌∙◌, arith}
+use Rattle.reiser_make.proofs.Imports.{sym, ◌∙◌, arith}
 use Rattle.reiser_make.proofs.Walking.{behind_item, behind_none, behind_end}
 use Rattle.reiser_make.proofs.sample.Sample.next_item.Goals as goal
 

@@ -1,5 +1,4 @@
-use Rattle.std.proofs.Common.{◌≡◌, ◌-◌}
-use Rattle.reiser_make.specs.Walk.{items_behind}
+use Rattle.reiser_make.proofs.Imports.{◌≡◌, ◌-◌, items_behind}
 use Rattle.reiser_make.proofs.sample.Sample.next_item.Given as goal
 
 abbrev pub decreases-loop-at : goal.decreases-loop-at

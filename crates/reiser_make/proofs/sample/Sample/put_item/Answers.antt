@@ -1,6 +1,4 @@
-use Rattle.std.proofs.Common.{◌≡◌, ◌≤◌, ℕ, ◌+◌, ◌-◌, ◌*◌, List, length, take, drop, refl, sym, ap, ◌∙◌, arith, length-append, length-take, length-drop}
-use Rattle.reiser_make.specs.Items.{body_bytes}
-use Rattle.reiser_make.specs.Leaf.{bodies}
+use Rattle.reiser_make.proofs.Imports.{◌≡◌, ◌≤◌, ℕ, ◌+◌, ◌-◌, ◌*◌, List, length, take, drop, refl, sym, ap, ◌∙◌, arith, length-append, length-take, length-drop, body_bytes, bodies}
 use Rattle.reiser_make.proofs.Storing.{put_item_is, bodies-append}
 use Rattle.reiser_make.proofs.sample.Sample.put_item.Goals as goal
 

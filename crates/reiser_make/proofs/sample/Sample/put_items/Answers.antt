@@ -1,5 +1,4 @@
-use Rattle.std.proofs.Common.{◌∙◌, refl}
-use Rattle.reiser_make.specs.Walk.{items_behind}
+use Rattle.reiser_make.proofs.Imports.{◌∙◌, refl, items_behind}
 use Rattle.reiser_make.proofs.Storing.{stored_first, put_first_place, next_fits}
 use Rattle.reiser_make.proofs.sample.Sample.put_items.Goals as goal
 

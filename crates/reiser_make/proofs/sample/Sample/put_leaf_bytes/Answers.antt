@@ -1,15 +1,12 @@
-use Rattle.std.proofs.Common.{◌≡◌, ◌-◌, ◌++◌, ℕ, List, length, take, drop, ap, ◌∙◌, arith, length-take, length-append}
-use Rattle.reiser_make.specs.Leaf.{leaf_bytes, leaf_contents, node_head, node_room}
-use Rattle.reiser_make.specs.Walk.{items_behind}
-use Rattle.reiser_make.specs.declared.item.Item.{Item}
+use Rattle.reiser_make.proofs.Imports.{◌≡◌, ◌-◌, ◌++◌, ℕ, List, length, take, drop, ap, ◌∙◌, arith, length-take, length-append, leaf_bytes, leaf_contents, node_head, node_room, items_behind, SampleItem}
 use Rattle.reiser_make.proofs.Placing.{node_is}
 use Rattle.reiser_make.proofs.sample.Sample.put_leaf_bytes.Goals as goal
 
 pub returns : goal.returns
 unfolding leaf_bytes
 returns c =
-    let all : List Item = items_behind c.args.self.now c.args.at in
-    let mine : List Item = take c.args.leaf.now.count all in
+    let all : List SampleItem = items_behind c.args.self.now c.args.at in
+    let mine : List SampleItem = take c.args.leaf.now.count all in
     let head : List ℕ = c.put_node_head.new.into in
     let post : List ℕ = drop 24 c.args.into.now in
     let long : length head ≡ 24 = ap length c.put_node_head.ensures in

@@ -1,7 +1,5 @@
-use Rattle.std.proofs.Common.{◌≤◌, ◌^◌, refl, sym, subst, ◌∙◌}
+use Rattle.reiser_super.proofs.Imports.{◌≤◌, ◌^◌, refl, sym, subst, ◌∙◌, Super, IsInBounds}
 use Rattle.std.proofs.lemmas.Result.{err_from_is_err_and}
-use Rattle.reiser_super.specs.declared.superblock.Super.{Super}
-use Rattle.reiser_super.specs.Rules.{IsInBounds}
 use Rattle.reiser_super.proofs.Clean.{clean_from_none, none_from_clean}
 use Rattle.reiser_super.proofs.superblock.Super.read.Goals as goal
 

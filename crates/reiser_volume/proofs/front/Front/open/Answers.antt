@@ -1,7 +1,4 @@
-use Rattle.std.proofs.Common.{◌∙◌, sym, subst}
-use Rattle.std.proofs.lemmas.Result.{err_from_is_err_and}
-use Rattle.reiser_bitmap.specs.refusals.declared.answer.VolAnswer.{VolAnswer}
-use Rattle.reiser_volume.specs.Front.{RefusesFront}
+use Rattle.reiser_volume.proofs.Imports.{◌∙◌, sym, subst, err_from_is_err_and, VolAnswer, RefusesFront}
 use Rattle.reiser_volume.proofs.Refusals.{front_of}
 use Rattle.reiser_volume.proofs.front.Front.open.Goals as goal
 

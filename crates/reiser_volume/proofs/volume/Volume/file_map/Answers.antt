@@ -1,17 +1,4 @@
-use Rattle.std.proofs.Common.{◌≡◌, List, sym, ap, subst, ◌∙◌}
-use Rattle.std.proofs.lemmas.Result.{MatchResult-weaker}
-use Rattle.reiser_volume_contents.specs.Holds.{HoldsObject, object_items}
-use Rattle.reiser_volume_objects.specs.reiser_walk.Items.{Item}
-use Rattle.reiser_volume_contents.specs.Answers.{IsFaultOrMemory}
-use Rattle.reiser_volume_files.specs.declared.map.FileRun.{FileRun}
-use Rattle.reiser_volume_files.specs.Runs.{file_runs}
-use Rattle.reiser_volume_objects.specs.declared.key.ObjectKey.{ObjectKey}
-use Rattle.reiser_volume_objects.specs.Keys.{items_of}
-use Rattle.reiser_volume_objects.proofs.Broken.{some_same}
-use Rattle.reiser_volume_names.proofs.Eaches.{match_ok}
-use Rattle.reiser_volume.specs.Made.{stat_at}
-use Rattle.reiser_volume.specs.Owners.{TellsOwned}
-use Rattle.reiser_volume.specs.Volume.{superblock, used_of, tree_of, volume_items}
+use Rattle.reiser_volume.proofs.Imports.{◌≡◌, List, sym, ap, subst, ◌∙◌, MatchResult-weaker, HoldsObject, object_items, ReiserItem, IsFaultOrMemory, FileRun, file_runs, ObjectKey, items_of, some_same, match_ok, stat_at, TellsOwned, superblock, used_of, reiser_tree_of, volume_items}
 use Rattle.reiser_volume.proofs.Filing.{placed, size_there}
 use Rattle.reiser_volume.proofs.Holding.{holds, same_items}
 use Rattle.reiser_volume.proofs.Mapping.{maps_tell_owned}
@@ -23,11 +10,11 @@ returns-clause-map g c = λ tells image is accepted opened key at.
     let same : c.object.result ≡ key = some_same _ c.object.result key c.object.ensures at in
     let size = size_there image volume accepted opened c.args.i key at c.stat.result.now (c.stat.ensures key at) in
     let held = holds image volume key (placed image volume accepted opened c.args.i key at) in
-    let map = c.file_map.ensures.map tells (tree_of (superblock image)) image (used_of image) is (subst (λ (k : ObjectKey). HoldsObject volume.objects k (tree_of (superblock image)) image (used_of image)) (sym same) held) in
+    let map = c.file_map.ensures.map tells (reiser_tree_of (superblock image)) image (used_of image) is (subst (λ (k : ObjectKey). HoldsObject volume.objects k (reiser_tree_of (superblock image)) image (used_of image)) (sym same) held) in
     MatchResult-weaker c.file_map.result map
     (λ m made. made
-    ∙ (ap (λ (k : ObjectKey). file_runs (object_items (tree_of (superblock image)) image (used_of image) k) c.stat.result.now.fields.size) same
-    ∙ (ap (λ (l : List Item). file_runs l c.stat.result.now.fields.size) (same_items image key)
+    ∙ (ap (λ (k : ObjectKey). file_runs (object_items (reiser_tree_of (superblock image)) image (used_of image) k) c.stat.result.now.fields.size) same
+    ∙ (ap (λ (l : List ReiserItem). file_runs l c.stat.result.now.fields.size) (same_items image key)
     ∙ ap (file_runs (items_of key (volume_items image))) size)))
     (λ e failed. failed)
 

@@ -1,4 +1,4 @@
-use Rattle.reiser_volume_names.proofs.Tabling.{place_found}
+use Rattle.reiser_volume.proofs.Imports.{place_found}
 use Rattle.reiser_volume.proofs.volume.Volume.index_of.Goals as goal
 
 pub returns : goal.returns

@@ -1,4 +1,4 @@
-use Rattle.indexmap.specs.IndexMap.{keys}
+use Rattle.reiser_volume.proofs.Imports.{keys}
 use Rattle.reiser_volume.proofs.volume.Volume.inode_at.Goals as goal
 
 pub returns : goal.returns

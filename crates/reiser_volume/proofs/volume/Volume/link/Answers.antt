@@ -1,11 +1,4 @@
-use Rattle.std.proofs.Common.{◌≡◌, ◌<◌, ℕ, length, get_or, Some, Contains, sym, ap, subst, refl, ◌∙◌, arith}
-use Rattle.std.specs.Prelude.{slice_get}
-use Rattle.std.proofs.lemmas.Option.{slice_get_read, slice_get_within, get_or_from_slice_get}
-use Rattle.indexmap.specs.IndexMap.{keys}
-use Rattle.reiser_volume_objects.specs.declared.naming.Naming.{Naming}
-use Rattle.reiser_volume_objects.proofs.Broken.{some_same}
-use Rattle.reiser_volume.specs.declared.volume.Volume.{Volume}
-use Rattle.reiser_volume.specs.Opened.{links_in}
+use Rattle.reiser_volume.proofs.Imports.{◌≡◌, ◌<◌, ℕ, length, get_or, Some, Contains, sym, ap, subst, refl, ◌∙◌, arith, slice_get, slice_get_read, slice_get_within, get_or_from_slice_get, keys, Naming, some_same, Volume, links_in}
 use Rattle.reiser_volume.proofs.Filing.{dir_known, target_known}
 use Rattle.reiser_volume.proofs.Placing.{as_many, inside, place_there}
 use Rattle.reiser_volume.proofs.volume.Volume.link.Goals as goal

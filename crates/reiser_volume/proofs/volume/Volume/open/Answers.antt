@@ -1,11 +1,4 @@
-use Rattle.std.proofs.Common.{◌∙◌, sym, subst, arith}
-use Rattle.std.proofs.lemmas.Result.{err_from_is_err_and}
-use Rattle.reiser_bitmap.specs.refusals.declared.answer.VolAnswer.{VolAnswer}
-use Rattle.reiser_volume.specs.declared.volume.Volume.{Volume}
-use Rattle.reiser_volume.specs.Answers.{IsVolumeAnswer, IsVerdict, RefusesVolume}
-use Rattle.reiser_volume.specs.Opened.{IsOpened}
-use Rattle.reiser_volume.specs.Volume.{IsAccepted}
-use Rattle.reiser_volume_names.proofs.Eaches.{match_ok, match_err, if_err_to}
+use Rattle.reiser_volume.proofs.Imports.{◌∙◌, sym, subst, arith, err_from_is_err_and, VolAnswer, Volume, IsVolumeAnswer, IsVerdict, RefusesVolume, IsOpened, IsAccepted, match_ok, match_err, if_err_to}
 use Rattle.reiser_volume.proofs.Refusals.{front_known, front_refused, front_super, front_bitmap, tree_refused, tree_found, items_found, verdict_known, no_fault}
 use Rattle.reiser_volume.proofs.volume.Volume.open.Goals as goal
 

@@ -1,5 +1,4 @@
-use Rattle.std.proofs.Common.{sym}
-use Rattle.reiser_volume_names.proofs.Tabling.{stat_there}
+use Rattle.reiser_volume.proofs.Imports.{sym, stat_there}
 use Rattle.reiser_volume.proofs.volume.Volume.stat.Goals as goal
 
 pub returns : goal.returns

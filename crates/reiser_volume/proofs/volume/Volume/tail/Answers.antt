@@ -1,12 +1,4 @@
-use Rattle.std.proofs.Common.{◌≡◌, ℕ, List, sym, ap, subst, ◌∙◌}
-use Rattle.std.proofs.lemmas.Result.{MatchResult-weaker}
-use Rattle.reiser_volume_contents.specs.Holds.{HoldsObject, object_items}
-use Rattle.reiser_volume_objects.specs.reiser_walk.Items.{Item}
-use Rattle.reiser_volume_files.specs.Bytes.{tail_block}
-use Rattle.reiser_volume_objects.specs.declared.key.ObjectKey.{ObjectKey}
-use Rattle.reiser_volume_objects.specs.Keys.{items_of}
-use Rattle.reiser_volume_objects.proofs.Broken.{some_same}
-use Rattle.reiser_volume.specs.Volume.{superblock, used_of, tree_of, volume_items}
+use Rattle.reiser_volume.proofs.Imports.{◌≡◌, ℕ, List, sym, ap, subst, ◌∙◌, MatchResult-weaker, HoldsObject, object_items, ReiserItem, tail_block, ObjectKey, items_of, some_same, superblock, used_of, reiser_tree_of, volume_items}
 use Rattle.reiser_volume.proofs.Filing.{placed, size_there}
 use Rattle.reiser_volume.proofs.Holding.{holds, same_items}
 use Rattle.reiser_volume.proofs.volume.Volume.tail.Goals as goal
@@ -17,10 +9,10 @@ returns-clause-tail g c = λ tells image is accepted opened key at.
     let same : c.object.result ≡ key = some_same _ c.object.result key c.object.ensures at in
     let size = size_there image volume accepted opened c.args.i key at c.stat.result.now (c.stat.ensures key at) in
     let held = holds image volume key (placed image volume accepted opened c.args.i key at) in
-    let tail = c.file_tail.ensures.tail tells (tree_of (superblock image)) image (used_of image) is (subst (λ (k : ObjectKey). HoldsObject volume.objects k (tree_of (superblock image)) image (used_of image)) (sym same) held) in
+    let tail = c.file_tail.ensures.tail tells (reiser_tree_of (superblock image)) image (used_of image) is (subst (λ (k : ObjectKey). HoldsObject volume.objects k (reiser_tree_of (superblock image)) image (used_of image)) (sym same) held) in
     MatchResult-weaker c.file_tail.result tail
     (λ m made. made
-    ∙ (ap (λ (k : ObjectKey). tail_block (object_items (tree_of (superblock image)) image (used_of image) k) c.stat.result.now.fields.size c.args.at) same
-    ∙ (ap (λ (l : List Item). tail_block l c.stat.result.now.fields.size c.args.at) (same_items image key)
+    ∙ (ap (λ (k : ObjectKey). tail_block (object_items (reiser_tree_of (superblock image)) image (used_of image) k) c.stat.result.now.fields.size c.args.at) same
+    ∙ (ap (λ (l : List ReiserItem). tail_block l c.stat.result.now.fields.size c.args.at) (same_items image key)
     ∙ ap (λ (n : ℕ). tail_block (items_of key (volume_items image)) n c.args.at) size)))
     (λ e failed. failed)

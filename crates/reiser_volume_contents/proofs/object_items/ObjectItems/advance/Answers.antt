@@ -1,6 +1,4 @@
-use Rattle.std.proofs.Common.{◌∙◌, sym, subst, arith}
-use Rattle.std.proofs.lemmas.Result.{err_from_is_err_and}
-use Rattle.reiser_volume_contents.specs.Answers.{IsFault, NamesLeaf}
+use Rattle.reiser_volume_contents.proofs.Imports.{◌∙◌, sym, subst, arith, err_from_is_err_and, IsFault, NamesLeaf}
 use Rattle.reiser_volume_contents.proofs.object_items.ObjectItems.advance.Goals as goal
 
 pub returns-in_err-fill-clause-comes : goal.returns-in_err-fill-clause-comes

@@ -1,7 +1,4 @@
-use Rattle.std.proofs.Common.{◌≡◌, ℕ, ◌≤◌, List, IsTrue}
-use Rattle.reiser_volume_objects.specs.outside.History.{Image}
-use Rattle.reiser_volume_objects.specs.reiser_walk.Items.{Item}
-use Rattle.reiser_volume_contents.specs.Reads.{Reads, StandsFrom, fuel}
+use Rattle.reiser_volume_contents.proofs.Imports.{◌≡◌, ℕ, ◌≤◌, List, IsTrue, Image, ReiserItem, Reads, StandsFrom, fuel}
 use Rattle.reiser_volume_contents.proofs.object_items.ObjectItems.advance.Given as goal
 
 abbrev pub invariant-loop-self : goal.invariant-loop-self
@@ -10,7 +7,7 @@ invariant-loop-self g l = record {
   same : g.S.BlockSource.faults l.src ≡ g.S.BlockSource.faults l.fn.src;
   key : l.self.key ≡ l.fn.self.key;
   fewer : fuel l.leaves l.self ≤ fuel l.leaves l.fn.self;
-  reads : IsTrue g.S.BlockSource.tells → (image : Image) → g.S.BlockSource.blocks l.fn.src ≡ image → (given items : List Item) → Reads l.fn.self l.leaves image given items → Reads l.self l.leaves image given items;
+  reads : IsTrue g.S.BlockSource.tells → (image : Image) → g.S.BlockSource.blocks l.fn.src ≡ image → (given items : List ReiserItem) → Reads l.fn.self l.leaves image given items → Reads l.self l.leaves image given items;
   from : (first : ℕ) → StandsFrom first l.leaves l.fn.self → StandsFrom first l.leaves l.self;
 }
 

@@ -1,6 +1,4 @@
-use Rattle.std.proofs.Common.{List, ℕ, ◌-◌, ◌∙◌, ap}
-use Rattle.reiser_volume_objects.specs.reiser_node.Leaf.{body_at}
-use Rattle.reiser_volume_objects.proofs.reiser_walk.Standing.{body_stands}
+use Rattle.reiser_volume_contents.proofs.Imports.{List, ℕ, ◌-◌, ◌∙◌, ap, body_at, body_stands}
 use Rattle.reiser_volume_contents.proofs.object_items.ObjectItems.body.Goals as goal
 
 pub returns : goal.returns

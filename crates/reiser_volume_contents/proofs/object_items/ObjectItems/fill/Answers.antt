@@ -1,8 +1,5 @@
-use Rattle.std.proofs.Common.{◌∙◌, ℕ, Some, ap, refl, sym, subst, arith}
-use Rattle.std.proofs.lemmas.Result.{err_from_is_err_and}
-use Rattle.reiser_volume_contents.specs.Answers.{IsFault, NamesLeaf}
+use Rattle.reiser_volume_contents.proofs.Imports.{◌∙◌, ℕ, Some, ap, refl, sym, subst, arith, err_from_is_err_and, IsFault, NamesLeaf, IsFrom}
 use Rattle.reiser_volume_contents.proofs.Looking.{filled, next_is_leaf}
-use Rattle.reiser_volume_contents.specs.Reads.{IsFrom}
 use Rattle.reiser_volume_contents.proofs.Naming.{names_leaf}
 use Rattle.reiser_volume_contents.proofs.object_items.ObjectItems.fill.Goals as goal
 

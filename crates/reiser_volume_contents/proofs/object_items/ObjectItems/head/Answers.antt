@@ -1,7 +1,4 @@
-use Rattle.std.proofs.Common.{List, ℕ, ◌-◌, sym, ◌∙◌, ap}
-use Rattle.reiser_volume_objects.specs.reiser_node.Head.{head_at}
-use Rattle.reiser_volume_objects.specs.reiser_node.Leaf.{head_place}
-use Rattle.reiser_volume_objects.proofs.reiser_walk.Standing.{head_stands}
+use Rattle.reiser_volume_contents.proofs.Imports.{List, ℕ, ◌-◌, sym, ◌∙◌, ap, head_at, head_place, head_stands}
 use Rattle.reiser_volume_contents.proofs.object_items.ObjectItems.head.Goals as goal
 
 pub returns : goal.returns

@@ -1,6 +1,4 @@
-use Rattle.std.proofs.Common.{◌≡◌, ◌-◌, ◌/◌, ◌∙◌, ℕ, refl, sym, ap, subst, ◌⊎◌}
-use Rattle.reiser_walk.specs.reiser_node.declared.head.ItemHead.{ItemHead}
-use Rattle.reiser_walk.specs.reiser_node.declared.head.ItemKind.TheVariants.{Stat, Directory}
+use Rattle.reiser_volume_files.proofs.Imports.{◌≡◌, ◌-◌, ◌/◌, ◌∙◌, ℕ, refl, sym, ap, subst, ◌⊎◌, ItemHead, Stat, Directory}
 use Rattle.reiser_volume_files.proofs.Adding.{no_bytes}
 use Rattle.reiser_volume_files.proofs.Mapped.{maps_empty, maps_direct, maps_indirect}
 use Rattle.reiser_volume_files.proofs.mapper.FileMapper.add_item.Goals as goal

@@ -1,7 +1,4 @@
-use Rattle.std.proofs.Common.{◌≡◌, ◌+◌, ◌∙◌, ◌≤◌, arith, ap, ℕ, None}
-use Rattle.std.specs.Int.{div_ceil}
-use Rattle.reiser_volume_files.specs.declared.mapper.FileMapper.{FileMapper}
-use Rattle.reiser_volume_files.specs.Runs.{block_from, file_runs}
+use Rattle.reiser_volume_files.proofs.Imports.{◌≡◌, ◌+◌, ◌∙◌, ◌≤◌, arith, ap, ℕ, None, div_ceil, FileMapper, block_from, file_runs}
 use Rattle.reiser_volume_files.proofs.Joining.{runs_closed, runs_settled}
 use Rattle.reiser_volume_files.proofs.Placing.{from_past}
 use Rattle.reiser_volume_files.proofs.mapper.FileMapper.finish.Goals as goal

@@ -1,6 +1,4 @@
-use Rattle.std.proofs.Common.{[], arith, sym, ◌∙◌}
-use Rattle.std.proofs.lemmas.List.Elements.{All-nil}
-use Rattle.reiser_volume_files.specs.Bytes.{EndsBy}
+use Rattle.reiser_volume_files.proofs.Imports.{[], arith, sym, ◌∙◌, All-nil, EndsBy}
 use Rattle.reiser_volume_files.proofs.Joining.{no_runs}
 use Rattle.reiser_volume_files.proofs.Placing.{nothing_from}
 use Rattle.reiser_volume_files.proofs.mapper.FileMapper.new.Goals as goal

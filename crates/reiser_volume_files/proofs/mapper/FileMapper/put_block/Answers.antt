@@ -1,4 +1,4 @@
-use Rattle.std.proofs.Common.{Some, ◌≡◌, arith}
+use Rattle.reiser_volume_files.proofs.Imports.{Some, ◌≡◌, arith}
 use Rattle.reiser_volume_files.proofs.Joining.{block_placed}
 use Rattle.reiser_volume_files.proofs.mapper.FileMapper.put_block.Goals as goal
 

@@ -1,5 +1,4 @@
-use Rattle.std.proofs.Common.{◌≡◌, ◌-◌, ◌+◌, ◌*◌, ◌/◌, ◌∙◌, ◌<◌, ℕ, min, length, refl, sym, ap, arith}
-use Rattle.fs_rows.proofs.Joined.{joined_at, joined_start}
+use Rattle.reiser_volume_files.proofs.Imports.{◌≡◌, ◌-◌, ◌+◌, ◌*◌, ◌/◌, ◌∙◌, ◌<◌, ℕ, min, length, refl, sym, ap, arith, joined_at, joined_start}
 use Rattle.reiser_volume_files.proofs.Joining.{runs_same}
 use Rattle.reiser_volume_files.proofs.Mapped.{others_stay, hole_stays, disk_there, disks_end}
 use Rattle.reiser_volume_files.proofs.mapper.FileMapper.put_pointers.Goals as goal

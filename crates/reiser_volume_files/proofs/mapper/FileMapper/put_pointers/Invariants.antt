@@ -1,8 +1,4 @@
-use Rattle.std.proofs.Common.{◌≡◌, ◌≤◌, ◌+◌, ◌/◌, ℕ, Option, length}
-use Rattle.fs_rows.proofs.Joined.{joined_at}
-use Rattle.reiser_volume_files.specs.declared.map.RunFrom.{RunFrom}
-use Rattle.reiser_volume_files.specs.Parts.{OverlaysDisks}
-use Rattle.reiser_volume_files.specs.States.{HoldsRuns}
+use Rattle.reiser_volume_files.proofs.Imports.{◌≡◌, ◌≤◌, ◌+◌, ◌/◌, ℕ, Option, length, joined_at, RunFrom, OverlaysDisks, HoldsRuns}
 use Rattle.reiser_volume_files.proofs.mapper.FileMapper.put_pointers.Given as goal
 
 abbrev pub invariant-loop-j : goal.invariant-loop-j

@@ -1,5 +1,4 @@
-use Rattle.std.proofs.Common.{◌≡◌, ◌+◌, ◌*◌, ◌/◌, ◌∙◌, ◌≤◌, refl, arith}
-use Rattle.fs_rows.proofs.Joined.{joined_at, joined_start, joined_end, joined_below}
+use Rattle.reiser_volume_files.proofs.Imports.{◌≡◌, ◌+◌, ◌*◌, ◌/◌, ◌∙◌, ◌≤◌, refl, arith, joined_at, joined_start, joined_end, joined_below}
 use Rattle.reiser_volume_files.proofs.Joining.{runs_same}
 use Rattle.reiser_volume_files.proofs.Mapped.{others_stay}
 use Rattle.reiser_volume_files.proofs.mapper.FileMapper.put_tails.Goals as goal

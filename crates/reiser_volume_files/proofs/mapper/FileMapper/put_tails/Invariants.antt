@@ -1,8 +1,4 @@
-use Rattle.std.proofs.Common.{◌≡◌, ◌≤◌, ◌+◌, ◌*◌, ℕ, Option}
-use Rattle.fs_rows.proofs.Joined.{joined_at}
-use Rattle.reiser_volume_files.specs.declared.map.RunFrom.{RunFrom}
-use Rattle.reiser_volume_files.specs.Parts.{OverlaysTail}
-use Rattle.reiser_volume_files.specs.States.{HoldsRuns}
+use Rattle.reiser_volume_files.proofs.Imports.{◌≡◌, ◌≤◌, ◌+◌, ◌*◌, ℕ, Option, joined_at, RunFrom, OverlaysTail, HoldsRuns}
 use Rattle.reiser_volume_files.proofs.mapper.FileMapper.put_tails.Given as goal
 
 abbrev pub invariant-loop-k : goal.invariant-loop-k

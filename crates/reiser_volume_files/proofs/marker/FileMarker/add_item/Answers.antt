@@ -1,8 +1,5 @@
-use Rattle.std.proofs.Common.{◌≡◌, ◌-◌, ◌/◌, ◌∙◌, ℕ, refl, sym, ap, subst, ◌⊎◌}
+use Rattle.reiser_volume_files.proofs.Imports.{◌≡◌, ◌-◌, ◌/◌, ◌∙◌, ℕ, refl, sym, ap, subst, ◌⊎◌, ItemHead, Stat, Directory, FileMarker}
 use Rattle.fs_rows.specs.declared.file.FileBytes.{FileBytes}
-use Rattle.reiser_walk.specs.reiser_node.declared.head.ItemHead.{ItemHead}
-use Rattle.reiser_walk.specs.reiser_node.declared.head.ItemKind.TheVariants.{Stat, Directory}
-use Rattle.reiser_volume_files.specs.declared.marker.FileMarker.{FileMarker}
 use Rattle.reiser_volume_files.proofs.Adding.{marks_empty, marks_direct, marks_indirect, no_bytes}
 use Rattle.reiser_volume_files.proofs.marker.FileMarker.add_item.Goals as goal
 

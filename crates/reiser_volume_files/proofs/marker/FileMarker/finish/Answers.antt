@@ -1,4 +1,4 @@
-use Rattle.reiser_volume_files.specs.Bytes.{file_byte}
+use Rattle.reiser_volume_files.proofs.Imports.{file_byte}
 use Rattle.reiser_volume_files.proofs.marker.FileMarker.finish.Goals as goal
 
 pub returns : goal.returns

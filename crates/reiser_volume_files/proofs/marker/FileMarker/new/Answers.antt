@@ -1,5 +1,4 @@
-use Rattle.std.proofs.Common.{[], arith}
-use Rattle.reiser_volume_files.specs.Bytes.{content}
+use Rattle.reiser_volume_files.proofs.Imports.{[], arith, content}
 use Rattle.reiser_volume_files.proofs.Contents.{empty_content}
 use Rattle.reiser_volume_files.proofs.marker.FileMarker.new.Goals as goal
 

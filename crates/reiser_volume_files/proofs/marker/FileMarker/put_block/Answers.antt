@@ -1,6 +1,4 @@
-use Rattle.std.proofs.Common.{ℕ, List, sym, subst, ap, ◌∙◌}
-use Rattle.reiser_walk.specs.outside.History.{Image, block_at}
-use Rattle.fs_rows.specs.Pieces.{ReplacesBlock}
+use Rattle.reiser_volume_files.proofs.Imports.{ℕ, List, sym, subst, ap, ◌∙◌, Image, block_at, ReplacesBlock}
 use Rattle.reiser_volume_files.proofs.marker.FileMarker.put_block.Goals as goal
 
 pub returns-clause-bytes : goal.returns-clause-bytes

@@ -1,4 +1,4 @@
-use Rattle.fs_rows.proofs.Holding.{held_same}
+use Rattle.reiser_volume_files.proofs.Imports.{held_same}
 use Rattle.reiser_volume_files.proofs.marker.FileMarker.put_pointer.Goals as goal
 
 pub returns-then-block-eq0-clause-bytes : goal.returns-then-block-eq0-clause-bytes

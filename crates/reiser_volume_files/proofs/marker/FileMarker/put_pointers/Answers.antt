@@ -1,9 +1,4 @@
-use Rattle.std.proofs.Common.{◌≡◌, ◌-◌, ◌+◌, ◌*◌, ◌/◌, ◌∙◌, ◌<◌, ℕ, min, length, refl, sym, ap, subst, arith}
-use Rattle.std.specs.Int.{div_ceil}
-use Rattle.reiser_walk.specs.outside.History.{block_at}
-use Rattle.fs_rows.specs.Pieces.{ReplacesBlock}
-use Rattle.fs_rows.proofs.Holding.{held_same}
-use Rattle.fs_rows.proofs.Joined.{joined_at, joined_start}
+use Rattle.reiser_volume_files.proofs.Imports.{◌≡◌, ◌-◌, ◌+◌, ◌*◌, ◌/◌, ◌∙◌, ◌<◌, ℕ, min, length, refl, sym, ap, subst, arith, div_ceil, block_at, ReplacesBlock, held_same, joined_at, joined_start}
 use Rattle.reiser_volume_files.proofs.Pointing.{pointer_inside}
 use Rattle.reiser_volume_files.proofs.Steps.{hole_passed, block_replaces, pointers_end}
 use Rattle.reiser_volume_files.proofs.marker.FileMarker.put_pointers.Goals as goal

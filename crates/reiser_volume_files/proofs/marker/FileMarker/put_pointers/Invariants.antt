@@ -1,8 +1,4 @@
-use Rattle.std.proofs.Common.{◌≡◌, ◌≤◌, ◌+◌, ◌*◌, ◌/◌, ℕ, length, IsTrue}
-use Rattle.reiser_walk.specs.outside.History.{Image}
-use Rattle.fs_rows.specs.Held.{HoldsBytes}
-use Rattle.fs_rows.proofs.Joined.{joined_at}
-use Rattle.reiser_volume_files.specs.Pieces.{OverlaysNamed}
+use Rattle.reiser_volume_files.proofs.Imports.{◌≡◌, ◌≤◌, ◌+◌, ◌*◌, ◌/◌, ℕ, length, IsTrue, Image, HoldsBytes, joined_at, OverlaysNamed}
 use Rattle.reiser_volume_files.proofs.marker.FileMarker.put_pointers.Given as goal
 
 abbrev pub invariant-loop-j : goal.invariant-loop-j

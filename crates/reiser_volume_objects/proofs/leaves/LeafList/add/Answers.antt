@@ -1,5 +1,4 @@
-use Rattle.std.proofs.Common.{◌∙◌, List, ℕ, ◌++◌, ◌∷◌, [], sym, ap}
-use Rattle.reiser_volume_objects.specs.Leaves.{ends_with}
+use Rattle.reiser_volume_objects.proofs.Imports.{◌∙◌, List, ℕ, ◌++◌, ◌∷◌, [], sym, ap, ends_with}
 use Rattle.reiser_volume_objects.proofs.Repeats.{repeat_stays, new_added}
 use Rattle.reiser_volume_objects.proofs.leaves.LeafList.add.Goals as goal
 

@@ -1,9 +1,4 @@
-use Rattle.std.proofs.Common.{sym, subst, ◌∙◌}
-use Rattle.std.proofs.lemmas.Result.{err_from_is_err_and}
-use Rattle.indexmap.specs.IndexSet.{contains}
-use Rattle.reiser_bitmap.specs.refusals.declared.answer.VolAnswer.{VolAnswer}
-use Rattle.reiser_volume_objects.specs.Keys.{same_key}
-use Rattle.reiser_volume_objects.specs.Reach.{Refuses}
+use Rattle.reiser_volume_objects.proofs.Imports.{sym, subst, ◌∙◌, err_from_is_err_and, contains, VolAnswer, same_key, Refuses}
 use Rattle.reiser_volume_objects.proofs.Checking.{refused_link, all_in_order}
 use Rattle.reiser_volume_objects.proofs.table.Objects.check.Goals as goal
 

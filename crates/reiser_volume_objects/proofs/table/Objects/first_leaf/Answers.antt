@@ -1,9 +1,4 @@
-use Rattle.std.proofs.Common.{◌≡◌, Option, Some, sym, subst}
-use Rattle.std.specs.Option.{MatchOption}
-use Rattle.indexmap.specs.IndexMap.{get}
-use Rattle.reiser_volume_objects.specs.declared.object.Object.{Object}
-use Rattle.reiser_volume_objects.specs.Keys.{same_key}
-use Rattle.reiser_volume_objects.specs.Leaves.{IsFirstLeaf}
+use Rattle.reiser_volume_objects.proofs.Imports.{◌≡◌, Option, Some, sym, subst, MatchOption, get, Object, same_key, IsFirstLeaf}
 use Rattle.reiser_volume_objects.proofs.table.Objects.first_leaf.Goals as goal
 
 pub returns-in-Some : goal.returns-in-Some

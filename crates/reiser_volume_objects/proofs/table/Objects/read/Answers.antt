@@ -1,14 +1,5 @@
-use Rattle.std.proofs.Common.{◌≡◌, ◌++◌, ◌∷◌, [], List, length, sym, ap, subst, ◌∙◌, arith}
-use Rattle.std.proofs.lemmas.Result.{err_from_is_err_and}
-use Rattle.reiser_bitmap.specs.outside.History.{Image}
-use Rattle.reiser_bitmap.specs.refusals.declared.answer.VolAnswer.{VolAnswer}
-use Rattle.reiser_walk.specs.declared.tree.Tree.{Tree}
-use Rattle.reiser_walk.specs.Items.{Item}
-use Rattle.reiser_walk.specs.Rules.{tree_damages}
-use Rattle.reiser_walk.specs.Tree.{items_of}
-use Rattle.reiser_walk.specs.Walks.{standing}
-use Rattle.reiser_volume_objects.specs.Read.{tree_at, BlamesTree}
-use Rattle.reiser_volume_objects.specs.Table.{HasNoted}
+use Rattle.reiser_volume_objects.proofs.Imports.{◌≡◌, ◌++◌, ◌∷◌, [], List, length, sym, ap, subst, ◌∙◌, arith, err_from_is_err_and, Image, VolAnswer, ReiserTree, ReiserItem, tree_damages, standing, tree_at, BlamesTree, HasNoted}
+use Rattle.reiser_walk.specs.Tree.{items_of_tree}
 use Rattle.reiser_volume_objects.proofs.Reading.{noted_next, blames_tree}
 use Rattle.reiser_volume_objects.proofs.table.Objects.read.Goals as goal
 
@@ -27,7 +18,7 @@ returns-in_err-advance-clause-damage g c = λ tells image blocks.
     rw err.1
     (subst (λ (e : VolAnswer). BlamesTree (tree_at c.args.root c.args.height c.args.journal_first c.args.journal_size) image c.args.map.now e) (sym err.2)
     (subst (λ (i : Image). BlamesTree (tree_at c.args.root c.args.height c.args.journal_first c.args.journal_size) i c.args.map.now c.in_err-advance.field-0.0) blocks
-    (subst (λ (t : Tree). BlamesTree t (g.S.BlockSource.blocks c.args.src.now) c.args.map.now c.in_err-advance.field-0.0) c.loop-objects.invariant.tree (blames_tree _ _ _ _ blames))))
+    (subst (λ (t : ReiserTree). BlamesTree t (g.S.BlockSource.blocks c.args.src.now) c.args.map.now c.in_err-advance.field-0.0) c.loop-objects.invariant.tree (blames_tree _ _ _ _ blames))))
 
 pub loop-objects-preserved : goal.loop-objects-preserved
 loop-objects-preserved g c =
@@ -54,8 +45,8 @@ returns-clause-noted g c = λ tells image blocks.
     let told = c.loop-objects.invariant.walks tells in
     let same = g.met.S.BlockSource.kept_blocks c.args.src.now c.loop-objects.src tells c.loop-objects.invariant.kept in
     let end = rw c.if-branch.false at (c.in_ok-advance.ensures.comes tells (g.S.BlockSource.blocks c.args.src.now) same told.0 told.1) in
-    subst (λ (items : List Item). HasNoted c.loop-objects.objects items)
-    (end.1.all ∙ (ap (λ (t : Tree). items_of t (g.S.BlockSource.blocks c.args.src.now) (length c.args.map.now)) c.loop-objects.invariant.tree ∙ ap (λ (i : Image). items_of (tree_at c.args.root c.args.height c.args.journal_first c.args.journal_size) i (length c.args.map.now)) blocks))
+    subst (λ (items : List ReiserItem). HasNoted c.loop-objects.objects items)
+    (end.1.all ∙ (ap (λ (t : ReiserTree). items_of_tree t (g.S.BlockSource.blocks c.args.src.now) (length c.args.map.now)) c.loop-objects.invariant.tree ∙ ap (λ (i : Image). items_of_tree (tree_at c.args.root c.args.height c.args.journal_first c.args.journal_size) i (length c.args.map.now)) blocks))
     told.2
 
 pub returns-clause-sound : goal.returns-clause-sound
@@ -64,4 +55,4 @@ returns-clause-sound g c = λ tells image blocks.
     let same = g.met.S.BlockSource.kept_blocks c.args.src.now c.loop-objects.src tells c.loop-objects.invariant.kept in
     let end = rw c.if-branch.false at (c.in_ok-advance.ensures.comes tells (g.S.BlockSource.blocks c.args.src.now) same told.0 told.1) in
     subst (λ (i : Image). tree_damages (tree_at c.args.root c.args.height c.args.journal_first c.args.journal_size) i c.args.map.now ≡ []) blocks
-    (subst (λ (t : Tree). tree_damages t (g.S.BlockSource.blocks c.args.src.now) c.args.map.now ≡ []) c.loop-objects.invariant.tree end.1.sound)
+    (subst (λ (t : ReiserTree). tree_damages t (g.S.BlockSource.blocks c.args.src.now) c.args.map.now ≡ []) c.loop-objects.invariant.tree end.1.sound)

@@ -1,8 +1,4 @@
-use Rattle.std.proofs.Common.{◌≡◌, List, length, IsTrue, false}
-use Rattle.reiser_walk.specs.Items.{Item}
-use Rattle.reiser_walk.specs.Walks.{Walks, fuel, block_count}
-use Rattle.reiser_volume_objects.specs.Read.{tree_at}
-use Rattle.reiser_volume_objects.specs.Table.{HasNoted}
+use Rattle.reiser_volume_objects.proofs.Imports.{◌≡◌, List, length, IsTrue, false, ReiserItem, Walks, fuel, block_count, tree_at, HasNoted}
 use Rattle.reiser_volume_objects.proofs.table.Objects.read.Given as goal
 
 abbrev pub invariant-loop-objects : goal.invariant-loop-objects
@@ -12,7 +8,7 @@ invariant-loop-objects g l = record {
   tree : l.walker.tree ≡ tree_at l.root l.height l.journal_first l.journal_size;
   size : block_count l.walker ≡ length l.map;
   unspent : l.walker.spent ≡ false;
-  walks : IsTrue g.S.BlockSource.tells → (given : List Item) × Walks l.walker (g.S.BlockSource.blocks l.fn.src) l.map given × HasNoted l.objects given;
+  walks : IsTrue g.S.BlockSource.tells → (given : List ReiserItem) × Walks l.walker (g.S.BlockSource.blocks l.fn.src) l.map given × HasNoted l.objects given;
 }
 
 abbrev pub decreases-loop-objects : goal.decreases-loop-objects

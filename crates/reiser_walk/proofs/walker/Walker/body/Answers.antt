@@ -1,5 +1,4 @@
-use Rattle.std.proofs.Common.{List, ℕ, ◌-◌, ◌∙◌, ap}
-use Rattle.reiser_items.specs.reiser_node.Leaf.{body_at}
+use Rattle.reiser_walk.proofs.Imports.{List, ℕ, ◌-◌, ◌∙◌, ap, body_at}
 use Rattle.reiser_walk.proofs.Standing.{body_stands}
 use Rattle.reiser_walk.proofs.walker.Walker.body.Goals as goal
 

@@ -1,9 +1,4 @@
-use Rattle.std.proofs.Common.{◌≡◌, ℕ, false, List, sym, ◌∙◌, ap, arith}
-use Rattle.reiser_items.specs.reiser_node.declared.head.ItemHead.{ItemHead}
-use Rattle.reiser_items.specs.reiser_node.Head.{head_at}
-use Rattle.reiser_items.specs.reiser_node.Leaf.{head_place, body_at}
-use Rattle.reiser_walk.specs.Bodies.{is_body}
-use Rattle.reiser_walk.specs.Rules.{is_above}
+use Rattle.reiser_walk.proofs.Imports.{◌≡◌, ℕ, false, List, sym, ◌∙◌, ap, arith, ItemHead, head_at, head_place, body_at, is_body, is_above}
 use Rattle.reiser_walk.proofs.Damages.{order_in, body_in}
 use Rattle.reiser_walk.proofs.walker.Walker.check_item.Goals as goal
 

@@ -1,6 +1,4 @@
-use Rattle.std.proofs.Common.{List, ℕ, ◌-◌, sym, ◌∙◌, ap}
-use Rattle.reiser_items.specs.reiser_node.Head.{head_at}
-use Rattle.reiser_items.specs.reiser_node.Leaf.{head_place}
+use Rattle.reiser_walk.proofs.Imports.{List, ℕ, ◌-◌, sym, ◌∙◌, ap, head_at, head_place}
 use Rattle.reiser_walk.proofs.Standing.{head_stands}
 use Rattle.reiser_walk.proofs.walker.Walker.head.Goals as goal
 

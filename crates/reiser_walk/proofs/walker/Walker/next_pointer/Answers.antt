@@ -1,7 +1,4 @@
-use Rattle.std.proofs.Common.{◌≡◌, ℕ, ◌-◌, length, ap, ◌∙◌, false, arith}
-use Rattle.reiser_walk.specs.declared.hand.Step.{Step}
-use Rattle.reiser_walk.specs.declared.tree.Tree.{Tree}
-use Rattle.reiser_walk.specs.Hand.{path_rest}
+use Rattle.reiser_walk.proofs.Imports.{◌≡◌, ℕ, ◌-◌, length, ap, ◌∙◌, false, arith, Step, ReiserTree, path_rest}
 use Rattle.reiser_walk.proofs.Paths.{path_nil}
 use Rattle.reiser_walk.proofs.Walking.{root_next, none_pending}
 use Rattle.reiser_walk.proofs.walker.Walker.next_pointer.Goals as goal
@@ -10,7 +7,7 @@ pub returns-then-not-self-clause-none : goal.returns-then-not-self-clause-none
 returns-then-not-self-clause-none c = λ image n.
     let top : ℕ = c.args.self.now.tree.height - 1 in
     let stop : c.args.self.now.at_start ≡ false = grind arith in
-    let tree : Tree = c.args.self.now.tree in (
+    let tree : ReiserTree = c.args.self.now.tree in (
       none_pending image n tree c.args.self.now.path.items c.args.self.now.at_start (c.in_default.ensures.none image n top) stop,
       none_pending image n tree c.next_child.new.path.items c.args.self.now.at_start (ap (path_rest image n top) c.in_default.ensures.emptied ∙ path_nil image n top) stop,
     )

@@ -1,8 +1,4 @@
-use Rattle.std.proofs.Common.{◌≡◌, ◌≢◌, ℕ, true, false, Contains, refl, sym, ◌∙◌, ap, subst, arith}
-use Rattle.reiser_bitmap.specs.outside.History.{block_at}
-use Rattle.reiser_items.specs.reiser_node.Inner.{children, is_inner}
-use Rattle.reiser_walk.specs.Rules.{node_damage}
-use Rattle.reiser_walk.specs.Walks.{level_of}
+use Rattle.reiser_walk.proofs.Imports.{◌≡◌, ◌≢◌, ℕ, true, false, Contains, refl, sym, ◌∙◌, ap, subst, arith, block_at, pointer_count, is_inner, node_damage, level_of}
 use Rattle.reiser_walk.proofs.Walking.{inner_put, inner_off}
 use Rattle.reiser_walk.proofs.walker.Walker.open_inner.Goals as goal
 
@@ -17,4 +13,4 @@ returns-clause-opens c = λ image used given p at number bytes.
     let other : level_of c.args.self.now ≢ 1 = λ one. c.requires.inner (sym c.requires.level ∙ one) in
     let grammar : is_inner (level_of c.args.self.now) (block_at image p.block) ≡ true =
     ap (λ (level : ℕ). is_inner level (block_at image p.block)) c.requires.level ∙ (sym (ap (is_inner c.args.level) bytes) ∙ sym c.in-Some.ensures.test) in
-    inner_put c.args.self.now _ image used given p _ at refl refl refl refl refl c.push_reserved.ensures.items c.requires.done other grammar number bytes refl (c.count-left.ensures ∙ (ap children c.in-Some.ensures.value ∙ ap children bytes))
+    inner_put c.args.self.now _ image used given p _ at refl refl refl refl refl c.push_reserved.ensures.items c.requires.done other grammar number bytes refl (c.count-left.ensures ∙ (ap pointer_count c.in-Some.ensures.value ∙ ap pointer_count bytes))

@@ -1,9 +1,4 @@
-use Rattle.std.proofs.Common.{◌≡◌, false, Contains, refl, sym, ◌∙◌, ap, subst, arith}
-use Rattle.reiser_bitmap.specs.outside.History.{block_at}
-use Rattle.reiser_items.specs.reiser_node.Leaf.{count, is_leaf}
-use Rattle.reiser_items.proofs.reiser_node.Grammar.{heads_within}
-use Rattle.reiser_walk.specs.Rules.{node_damage}
-use Rattle.reiser_walk.specs.Walks.{level_of}
+use Rattle.reiser_walk.proofs.Imports.{◌≡◌, false, Contains, refl, sym, ◌∙◌, ap, subst, arith, block_at, count, is_leaf, heads_within, node_damage, level_of}
 use Rattle.reiser_walk.proofs.Walking.{leaf_put, leaf_off}
 use Rattle.reiser_walk.proofs.walker.Walker.open_leaf.Goals as goal
 

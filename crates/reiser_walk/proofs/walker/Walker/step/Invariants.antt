@@ -1,7 +1,4 @@
-use Rattle.std.proofs.Common.{◌≡◌, ◌≤◌, List, IsTrue}
-use Rattle.reiser_bitmap.specs.outside.History.{Image}
-use Rattle.reiser_walk.specs.Items.{Item}
-use Rattle.reiser_walk.specs.Walks.{Walks, IsDone, block_count, fuel}
+use Rattle.reiser_walk.proofs.Imports.{◌≡◌, ◌≤◌, List, IsTrue, Image, ReiserItem, Walks, IsDone, block_count, fuel}
 use Rattle.reiser_walk.proofs.walker.Walker.step.Given as goal
 
 abbrev pub invariant-loop-self : goal.invariant-loop-self
@@ -13,7 +10,7 @@ invariant-loop-self g l = record {
   spent : l.self.spent ≡ l.fn.self.spent;
   ends : fuel l.self ≤ fuel l.fn.self;
   again : IsDone l.fn.self → IsDone l.self × (l.src ≡ l.fn.src);
-  walks : IsTrue g.S.BlockSource.tells → (image : Image) → g.S.BlockSource.blocks l.fn.src ≡ image → (given : List Item) → Walks l.fn.self image l.map given → Walks l.self image l.map given;
+  walks : IsTrue g.S.BlockSource.tells → (image : Image) → g.S.BlockSource.blocks l.fn.src ≡ image → (given : List ReiserItem) → Walks l.fn.self image l.map given → Walks l.self image l.map given;
 }
 
 abbrev pub decreases-loop-self : goal.decreases-loop-self

@@ -1,13 +1,4 @@
-use Rattle.std.proofs.Common.{◌≡◌, ℕ, suc, ◌-◌, List, [], Contains, refl, ◌∙◌, ap, subst, arith, add-one}
-use Rattle.reiser_items.specs.reiser_node.declared.head.ItemHead.{ItemHead}
-use Rattle.reiser_items.specs.reiser_node.Leaf.{body_at}
-use Rattle.reiser_items.proofs.reiser_node.Grammar.{heads_within}
-use Rattle.reiser_walk.specs.declared.hand.LeafInHand.{LeafInHand}
-use Rattle.reiser_walk.specs.Items.{blocks_named, held_by, leaf_events}
-use Rattle.reiser_walk.specs.Hand.{item_before}
-use Rattle.reiser_walk.specs.Tree.{reached_in}
-use Rattle.reiser_walk.specs.Rules.{reach_damages}
-use Rattle.reiser_walk.specs.Marks.{Marks, seen_after}
+use Rattle.reiser_walk.proofs.Imports.{◌≡◌, ℕ, suc, ◌-◌, List, [], Contains, refl, ◌∙◌, ap, subst, arith, add-one, ItemHead, body_at, heads_within, LeafInHand, blocks_named, held_by, leaf_events, item_before, reached_in, reach_damages, MarksSeen, seen_after}
 use Rattle.reiser_walk.proofs.Taking.{next_item, next_at, item_blamed, named_blamed, item_taken}
 use Rattle.reiser_walk.proofs.walker.Walker.take_item.Goals as goal
 
@@ -40,7 +31,7 @@ returns-clause-comes c = λ image given k.
     let body : c.body.result.now ≡ body_at l.block.bytes l.at.next = c.body.ensures ∙ ap (λ (b : List ℕ). body_at b l.at.next) c.of.ensures in
     let seen : List ℕ = seen_after [] (reached_in k.done) in
     let claimed =
-    subst (λ (b : List ℕ). (reach_damages c.args.self.now.tree c.args.map.now seen (held_by l.no (blocks_named head b)) ≡ []) × Marks c.claim_named.new.reached (seen_after seen (held_by l.no (blocks_named head b)))) body
+    subst (λ (b : List ℕ). (reach_damages c.args.self.now.tree c.args.map.now seen (held_by l.no (blocks_named head b)) ≡ []) × MarksSeen c.claim_named.new.reached (seen_after seen (held_by l.no (blocks_named head b)))) body
     (c.in-Ok-claim_named.ensures.claimed seen k.marks) in (
       next_item l head,
       item_taken c.args.self.now image c.args.map.now given head k c.in-Ok.ensures.head (l.at.left - 1) left _ refl refl (c.claim_named.ensures.size ∙ k.size)

@@ -1,8 +1,4 @@
-use Rattle.std.proofs.Common.{Contains, sym, subst, List, [], Bool, ℕ}
-use Rattle.reiser_walk.specs.declared.tree.Tree.{Tree}
-use Rattle.reiser_walk.specs.Marks.{Marks, seen_after}
-use Rattle.reiser_walk.specs.Rules.{reach_damage}
-use Rattle.reiser_walk.specs.Tree.{reached_in}
+use Rattle.reiser_walk.proofs.Imports.{Contains, sym, subst, List, [], Bool, ℕ, ReiserTree, MarksSeen, seen_after, reach_damage, reached_in}
 use Rattle.reiser_walk.proofs.Walking.{claim_blamed}
 use Rattle.reiser_walk.proofs.walker.Walker.take_pointer.Goals as goal
 
@@ -11,4 +7,4 @@ returns-in-Err-clause-takes c = λ image given k.
     let seen : List ℕ = seen_after [] (reached_in k.done) in
     let before = c.in-Some.ensures in
     claim_blamed c.args.self.now image c.args.map.now given c.in-Some.pointer _ c.in-Err.e _ k c.requires.done (before.next image _)
-    (subst (λ (t : Tree). Contains (reach_damage t c.args.map.now seen c.in-Some.pointer) c.in-Err.e) before.tree (c.in-Err.ensures.claimed seen (subst (λ (s : List Bool). Marks s seen) (sym before.reached) k.marks)))
+    (subst (λ (t : ReiserTree). Contains (reach_damage t c.args.map.now seen c.in-Some.pointer) c.in-Err.e) before.tree (c.in-Err.ensures.claimed seen (subst (λ (s : List Bool). MarksSeen s seen) (sym before.reached) k.marks)))

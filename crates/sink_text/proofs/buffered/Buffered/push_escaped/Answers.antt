@@ -1,4 +1,4 @@
-use Rattle.sink_text.specs.Escape.{escape}
+use Rattle.sink_text.proofs.Imports.{escape}
 use Rattle.sink_text.proofs.Pushing.{pushes_stopped, stopped_at_item}
 use Rattle.sink_text.proofs.buffered.Buffered.push_escaped.Goals as goal
 

@@ -1,6 +1,4 @@
-use Rattle.std.proofs.Common.{◌≡◌, IsTrue, take}
-use Rattle.sink_text.specs.Escape.{escaped}
-use Rattle.sink_text.specs.Pushes.{Pushed}
+use Rattle.sink_text.proofs.Imports.{◌≡◌, IsTrue, take, escaped, Pushed}
 use Rattle.sink_text.proofs.buffered.Buffered.push_escaped.Given as goal
 
 abbrev pub invariant-loop-byte : goal.invariant-loop-byte

@@ -1,4 +1,4 @@
-use Rattle.sink_text.specs.Digits.{hex_pair}
+use Rattle.sink_text.proofs.Imports.{hex_pair}
 use Rattle.sink_text.proofs.Pushing.{pushes_stopped, stopped_at_item}
 use Rattle.sink_text.proofs.buffered.Buffered.push_hex.Goals as goal
 

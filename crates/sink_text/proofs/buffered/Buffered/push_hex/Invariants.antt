@@ -1,6 +1,4 @@
-use Rattle.std.proofs.Common.{◌≡◌, IsTrue, take}
-use Rattle.sink_text.specs.Digits.{hex_text}
-use Rattle.sink_text.specs.Pushes.{Pushed}
+use Rattle.sink_text.proofs.Imports.{◌≡◌, IsTrue, take, hex_text, Pushed}
 use Rattle.sink_text.proofs.buffered.Buffered.push_hex.Given as goal
 
 abbrev pub invariant-loop-byte : goal.invariant-loop-byte

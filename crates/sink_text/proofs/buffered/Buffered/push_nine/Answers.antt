@@ -1,4 +1,4 @@
-use Rattle.std.proofs.Common.{decimal}
+use Rattle.sink_text.proofs.Imports.{decimal}
 use Rattle.sink_text.proofs.Pushing.{pushes_stopped, stopped_here}
 use Rattle.sink_text.proofs.buffered.Buffered.push_nine.Goals as goal
 

@@ -1,4 +1,4 @@
-use Rattle.sink_text.specs.Text.{piece_text}
+use Rattle.sink_text.proofs.Imports.{piece_text}
 use Rattle.sink_text.proofs.Pushing.{pushes_stopped, stopped_at_item}
 use Rattle.sink_text.proofs.buffered.Buffered.push_pieces.Goals as goal
 

@@ -1,6 +1,4 @@
-use Rattle.std.proofs.Common.{◌≡◌, IsTrue, take}
-use Rattle.sink_text.specs.Text.{text_of}
-use Rattle.sink_text.specs.Pushes.{Pushed}
+use Rattle.sink_text.proofs.Imports.{◌≡◌, IsTrue, take, text_of, Pushed}
 use Rattle.sink_text.proofs.buffered.Buffered.push_pieces.Given as goal
 
 abbrev pub invariant-loop-piece : goal.invariant-loop-piece

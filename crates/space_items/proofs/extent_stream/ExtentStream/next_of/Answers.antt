@@ -1,9 +1,4 @@
-use Rattle.std.proofs.Common.{◌≡◌, ◌+◌, ◌<◌, ◌^◌, ◌∙◌, List, Option, sym, ap, subst}
-use Rattle.std.specs.Prelude.{IfSome}
-use Rattle.unit_plan.specs.declared.piece.Piece.{Piece}
-use Rattle.space_items.specs.Stream.{FitsExtents, IsSmallNext, extents_ahead, first_of, passed, place_of}
-use Rattle.space_items.specs.declared.extent_stream.ExtentStream.{ExtentStream}
-use Rattle.space_items.specs.declared.extent_stream.Next.{Next}
+use Rattle.space_items.proofs.Imports.{◌≡◌, ◌+◌, ◌<◌, ◌^◌, ◌∙◌, List, Option, sym, ap, subst, IfSome, Piece, FitsExtents, IsSmallNext, extents_ahead, first_of, passed, place_of, ExtentStream, Next}
 use Rattle.space_items.proofs.Nexts.{Ahead, group_here, node_here, piece_here, extents_next, next_small, below_small, next_fits, next_room}
 use Rattle.space_items.proofs.extent_stream.ExtentStream.next_of.Goals as goal
 

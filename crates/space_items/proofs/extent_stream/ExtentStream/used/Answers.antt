@@ -1,7 +1,4 @@
-use Rattle.std.proofs.Common.{◌≡◌, ◌+◌, List, ap, arith, sum_by, take}
-use Rattle.std.proofs.lemmas.List.Sums.{sum_by_more, sum_by_more_le}
-use Rattle.std.proofs.lemmas.Option.{slice_get_within, get_or_from_slice_get}
-use Rattle.space_items.specs.declared.groups.Group.{Group}
+use Rattle.space_items.proofs.Imports.{◌≡◌, ◌+◌, List, ap, arith, sum_by, take, sum_by_more, sum_by_more_le, slice_get_within, get_or_from_slice_get, Group}
 use Rattle.space_items.proofs.extent_stream.ExtentStream.used.Goals as goal
 
 pub overflow_add-used : goal.overflow_add-used

@@ -1,4 +1,4 @@
-use Rattle.std.proofs.Common.{◌≡◌, sum_by, take}
+use Rattle.space_items.proofs.Imports.{◌≡◌, sum_by, take}
 use Rattle.space_items.proofs.extent_stream.ExtentStream.used.Given as goal
 
 abbrev pub invariant-loop-i : goal.invariant-loop-i

@@ -1,9 +1,4 @@
-use Rattle.std.proofs.Common.{◌≡◌, List, Result, Ok, Err, ◌+◌}
-use Rattle.std.specs.Prelude.{OnOk}
-use Rattle.unit_plan.specs.declared.piece.Piece.{Piece}
-use Rattle.space_items.specs.Stream.{IsTaken, sum_standing, taken}
-use Rattle.space_items.specs.Sums.{sums_item}
-use Rattle.space_items.specs.declared.sum_stream.SumStream.{SumStream}
+use Rattle.space_items.proofs.Imports.{◌≡◌, List, Result, Ok, Err, ◌+◌, OnOk, Piece, IsPieceTaken, sum_standing, blocks_taken, sums_item, SumStream}
 use Rattle.space_items.proofs.Summing.{taken_next}
 use Rattle.space_items.proofs.sum_stream.SumStream.advance.Goals as goal
 
@@ -17,6 +12,6 @@ returns-clause-next g c = λ tells image is.
     let old : SumStream = c.args.self.now in
     let new : SumStream = c.take-answer.new.self in
     let p : Piece = c.get-piece.result.now in
-    let got = on_ok c.take-answer.result c.in_ok-answer.field-0 (IsTaken old new p) c.in_ok-answer.was c.take-answer.ensures.taken in
-    let stands = on_ok c.take-answer.result c.in_ok-answer.field-0 (sum_standing new ≡ sums_item old.sums image (p.place + old.done) (taken old p)) c.in_ok-answer.was (c.take-answer.ensures.stands tells image is) in
+    let got = on_ok c.take-answer.result c.in_ok-answer.field-0 (IsPieceTaken old new p) c.in_ok-answer.was c.take-answer.ensures.taken in
+    let stands = on_ok c.take-answer.result c.in_ok-answer.field-0 (sum_standing new ≡ sums_item old.sums image (p.place + old.done) (blocks_taken old p)) c.in_ok-answer.was (c.take-answer.ensures.stands tells image is) in
     taken_next old new image all p c.get-piece.ensures (c.requires.fits.done_within p c.get-piece.ensures) got stands

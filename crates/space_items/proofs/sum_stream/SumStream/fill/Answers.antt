@@ -1,9 +1,4 @@
-use Rattle.std.proofs.Common.{◌≡◌, ◌∙◌, ℕ, ◌+◌, ◌-◌, ◌++◌, List, take, sym, ap, arith}
-use Rattle.std.specs.List.{flat_map, range_with_len}
-use Rattle.btr_tree.specs.outside.History.{Image, block_at}
-use Rattle.btr_tree.specs.csum_kinds.Kind.{kind_sum, kind_width}
-use Rattle.btr_tree.specs.csum_kinds.declared.kind.SumKind.{SumKind}
-use Rattle.space_items.specs.Sums.{block_sum}
+use Rattle.space_items.proofs.Imports.{◌≡◌, ◌∙◌, ℕ, ◌+◌, ◌-◌, ◌++◌, List, take, sym, ap, arith, flat_map, range_with_len, Image, block_at, kind_sum, kind_width, SumKind, block_sum}
 use Rattle.space_items.proofs.Summing.{parts_long, parts_more}
 use Rattle.space_items.proofs.sum_stream.SumStream.fill.Goals as goal
 

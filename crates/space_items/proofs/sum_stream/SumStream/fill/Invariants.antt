@@ -1,8 +1,4 @@
-use Rattle.std.proofs.Common.{◌≡◌, ◌-◌, ◌*◌, take}
-use Rattle.std.specs.List.{flat_map, range_with_len}
-use Rattle.btr_tree.specs.outside.History.{OverTold}
-use Rattle.space_items.specs.Stream.{IsAsBefore}
-use Rattle.space_items.specs.Sums.{block_sum}
+use Rattle.space_items.proofs.Imports.{◌≡◌, ◌-◌, ◌*◌, take, flat_map, range_with_len, OverTold, IsAsBefore, block_sum}
 use Rattle.space_items.proofs.sum_stream.SumStream.fill.Given as goal
 
 abbrev pub invariant-loop-b : goal.invariant-loop-b

@@ -1,5 +1,4 @@
-use Rattle.std.proofs.Common.{◌≡◌, ℕ, ◌*◌, ◌/◌, refl}
-use Rattle.unit_plan.specs.Roles.{RoleSets}
+use Rattle.unit_plan.proofs.Imports.{◌≡◌, ℕ, ◌*◌, ◌/◌, refl, RoleSets}
 use Rattle.unit_plan.proofs.Told.{only_marked, roles_told}
 use Rattle.unit_plan.proofs.roles.Roles.new.Goals as goal
 

@@ -1,7 +1,4 @@
-use Rattle.std.proofs.Common.{sym, subst}
-use Rattle.reiser_volume.specs.outside.Fault.{Takes}
-use Rattle.volume_app.specs.declared.ending.Ending.{Ending}
-use Rattle.volume_app.specs.Ending.{error_line}
+use Rattle.volume_app.proofs.Imports.{sym, subst, Takes, Ending, error_line}
 use Rattle.volume_app.proofs.ending.Ending.write_line.Goals as goal
 
 pub returns-in-OutputFault-clause-taken : goal.returns-in-OutputFault-clause-taken

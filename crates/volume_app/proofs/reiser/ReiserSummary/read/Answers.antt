@@ -1,9 +1,5 @@
-use Rattle.std.proofs.Common.{◌∙◌, List, Bool, ap, sym, subst}
-use Rattle.std.proofs.lemmas.Result.{err_from_is_err_and}
+use Rattle.volume_app.proofs.Imports.{◌∙◌, List, Bool, ap, sym, subst, err_from_is_err_and, RefusesVolume, superblock, rules_pass}
 use Rattle.reiser_super.specs.declared.superblock.Super.{Super}
-use Rattle.reiser_volume.specs.Answers.{RefusesVolume}
-use Rattle.reiser_volume.specs.Volume.{superblock}
-use Rattle.reiser_volume.proofs.Answering.{rules_pass}
 use Rattle.volume_app.specs.Reiser.{summary_with}
 use Rattle.volume_app.proofs.reiser.ReiserSummary.read.Goals as goal
 

@@ -1,9 +1,4 @@
-use Rattle.std.proofs.Common.{◌∙◌, Err, sym, ap, subst, arith}
-use Rattle.std.proofs.lemmas.Result.{err_from_is_err_and}
-use Rattle.btr_reader.specs.Parts.{RefusesPart, SavedImage}
-use Rattle.reiser_volume.specs.refusals.declared.answer.BtrAnswer.{BtrAnswer}
-use Rattle.btr_super.specs.declared.superblock.Super.{Super}
-use Rattle.volume_app.specs.Told.{summary_with}
+use Rattle.volume_app.proofs.Imports.{◌∙◌, Err, sym, ap, subst, arith, err_from_is_err_and, RefusesPart, SavedImage, BtrAnswer, Super, summary_with}
 use Rattle.volume_app.proofs.Telling.{opening_refuses, image_read, summary_is, way_refuses, only_memory}
 use Rattle.volume_app.proofs.summary.Summary.read.Goals as goal
 

@@ -1,5 +1,4 @@
-use Rattle.std.proofs.Common.{refl, subst}
-use Rattle.volume_state.specs.Using.{HoldsExtent, TellsReserved, item_range}
+use Rattle.volume_state.proofs.Imports.{refl, subst, HoldsExtent, TellsReserved, item_range}
 use Rattle.volume_state.proofs.Extending.{found_more}
 use Rattle.volume_state.proofs.extents.ReservedExtentNotes.note.Goals as goal
 

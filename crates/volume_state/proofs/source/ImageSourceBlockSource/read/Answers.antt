@@ -1,4 +1,4 @@
-use Rattle.std.proofs.Common.{◌<◌, ℕ, min, length, None, sym, ◌∙◌, subst}
+use Rattle.volume_state.proofs.Imports.{◌<◌, ℕ, min, length, None, sym, ◌∙◌, subst}
 use Rattle.volume_state.proofs.Reading.{block_there, read_there}
 use Rattle.volume_state.proofs.source.ImageSourceBlockSource.read.Goals as goal
 

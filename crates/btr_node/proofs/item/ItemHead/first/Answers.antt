@@ -1,7 +1,0 @@
-use Rattle.btr_keys.specs.Key.{key_layout}
-use Rattle.btr_node.specs.Leaf.{item_layout}
-use Rattle.btr_node.proofs.item.ItemHead.first.Goals as goal
-
-pub returns : goal.returns
-unfolding item_layout key_layout
-returns c = λ i. record { key = c.at.ensures i; offset = c.u32_at.ensures i; size = c.u32_at-2.ensures i }

@@ -1,8 +1,0 @@
-use Rattle.std.proofs.Common.{◌≡◌, map, filter, take}
-use Rattle.indexmap.specs.IndexSet.{contains}
-use Rattle.fs_paths.specs.Links.{same_node}
-use Rattle.btr_reader_names.specs.Steps.{is_link, link_of}
-use Rattle.btr_reader_names.proofs.table.Names.links.Given as goal
-
-abbrev pub invariant-loop-naming : goal.invariant-loop-naming
-invariant-loop-naming l = l.links.items ≡ map link_of (filter (is_link l.self (contains same_node l.named)) (take l.naming-index l.self.namings.items))

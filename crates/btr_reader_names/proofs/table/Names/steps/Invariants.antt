@@ -1,6 +1,0 @@
-use Rattle.std.proofs.Common.{◌≡◌, map, filter, take}
-use Rattle.btr_reader_names.specs.Steps.{is_step, step_of}
-use Rattle.btr_reader_names.proofs.table.Names.steps.Given as goal
-
-abbrev pub invariant-loop-naming : goal.invariant-loop-naming
-invariant-loop-naming l = l.steps.items ≡ map step_of (filter (is_step l.self) (take l.naming-index l.self.namings.items))

@@ -1,0 +1,5 @@
+use Rattle.convert_core_laws.proofs.soundness.HavingNames.{converted_inodes_are_sound}
+use Rattle.convert_core_laws.proofs.soundness.converted_inodes_are_sound.Goals as goal
+
+pub returns : goal.returns
+returns c = converted_inodes_are_sound c.new_ids_fit.ensures c.files_are_held.ensures c.image_keys_ascend.ensures c.inodes_are_there.ensures

@@ -1,0 +1,2 @@
+pub use Rattle.outside.proofs as outside
+pub mod Synced

@@ -1,6 +1,0 @@
-use Rattle.std.proofs.Common.{◌≡◌, map}
-use Rattle.fs_paths.specs.Places.{numbered}
-use Rattle.fs_paths.proofs.place.number.Given as goal
-
-abbrev pub invariant-loop-each : goal.invariant-loop-each
-invariant-loop-each l = l.list.items ≡ map (numbered l.fn.found.items) l.yielded

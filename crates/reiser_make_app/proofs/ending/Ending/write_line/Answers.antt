@@ -1,9 +1,0 @@
-use Rattle.std.proofs.Common.{sym, subst}
-use Rattle.sink_text.specs.outside.Fault.{Takes}
-use Rattle.reiser_make_app.specs.declared.ending.Ending.{Ending}
-use Rattle.reiser_make_app.specs.Ending.{error_line}
-use Rattle.reiser_make_app.proofs.ending.Ending.write_line.Goals as goal
-
-pub returns-in-Usage-clause-taken : goal.returns-in-Usage-clause-taken
-returns-in-Usage-clause-taken g c = λ tells.
-    subst (λ (e : Ending). Takes (g.E.Sink.taken c.args.err.now) (error_line e) c.write.result (g.E.Sink.taken c.write.new.self)) (sym c.in-Usage.is) (c.write.ensures.taken tells)

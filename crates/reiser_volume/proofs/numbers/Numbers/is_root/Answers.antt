@@ -1,5 +1,0 @@
-use Rattle.reiser_volume.proofs.Numbered.{root_at}
-use Rattle.reiser_volume.proofs.numbers.Numbers.is_root.Goals as goal
-
-pub returns : goal.returns
-returns c all key numbered there = root_at all c.args.self.root numbered c.args.place key there

@@ -1,7 +1,0 @@
-use Rattle.std.proofs.Common.{◌≡◌, ◌-◌, false}
-use Rattle.std.specs.List.{list_any, range_with_len}
-use Rattle.unit_plan.specs.Choice.{is_data}
-use Rattle.unit_plan.proofs.unused.holds_data.Given as goal
-
-abbrev pub invariant-loop-block : goal.invariant-loop-block
-invariant-loop-block l = list_any (is_data l.map) (range_with_len l.first (l.block - l.first)) ≡ false
