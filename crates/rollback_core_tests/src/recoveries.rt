@@ -344,7 +344,7 @@ fn a_superblock_that_waits_comes_before_its_copy(rt: HostRuntime) -> Result<(), 
     Ok(())
 }
 
-/// A disk of so many blocks with this block in the place of the copy, and what a recovery leaves there; and how many blocks it writes.
+/// What a recovery of a disk with this block in the place of the copy leaves there, and how many writes it makes.
 fn recovered(disk: MemDisk, alloc: Global, held: &Block) -> Result<(Block, u64), Fail>
     requires size { COPY < length disk.history.start }
     requires closed { disk.opened ≡ None }
@@ -380,7 +380,7 @@ fn a_last_block_is_kept(rt: HostRuntime) -> Result<(), Fail> {
     let left = recovered(made(rt.alloc(), last)?, rt.alloc(), &magic())?;
     assert!(rt; left == (magic(), 0));
     let left = recovered(made(rt.alloc(), more)?, rt.alloc(), &magic())?;
-    assert!(rt; left == (Block::zero(), 1));
+    assert!(rt; left == (Block::zero(), writes_for(1)));
     let block = superblock(rt.alloc(), last)?;
     let left = recovered(
         without_copies(rt.alloc(), last, &block)?,
@@ -394,6 +394,6 @@ fn a_last_block_is_kept(rt: HostRuntime) -> Result<(), Fail> {
         rt.alloc(),
         &filled(7),
     )?;
-    assert!(rt; left == (copy_of(&block), 1));
+    assert!(rt; left == (copy_of(&block), writes_for(1)));
     Ok(())
 }
