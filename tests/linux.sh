@@ -4,6 +4,7 @@
 #
 #   convert   the way of a user: fill, unmount, convert, mount as Btrfs; and GRUB reads the files of the new volume
 #   foreign   Linux writes to a converted volume and moves what is on it; and the way back
+#   everyday  a converted volume in use: compression, devices, snapshots, quotas, swap files, two copies of metadata; and the way back
 #   power     the power is cut in the middle of the commands that write
 #   tight     a volume with just the free space that a conversion needs, and what the kernel can do then
 #   busy      a device in use is not opened for writing
@@ -74,6 +75,7 @@ grub() {
 }
 
 part_foreign() { machine foreign "$here/foreign.sh" 160 160 160; }
+part_everyday() { machine everyday "$here/everyday.sh" 200 200 200; }
 part_tight() { machine tight "$here/tight.sh" 48 48; }
 part_busy() { machine busy "$here/busy.sh" 64 96; }
 part_read() { machine read "$here/read.sh" 300; }
@@ -102,7 +104,7 @@ side_by_side() {
     wait
 }
 
-[ $# != 0 ] || set -- tight foreign power convert read busy
+[ $# != 0 ] || set -- everyday tight foreign power convert read busy
 parts=()
 for part in "$@"; do
     case $part in
