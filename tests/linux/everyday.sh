@@ -27,7 +27,7 @@ perl -e 'for (1 .. 50) { syscall(188, my $path = "pressed", my $name = "user.not
 said 'everyday: attributes' $?
 btrfs filesystem defragment -r -czstd sizes names links holes >/dev/null 2>&1
 said 'everyday: old files are compressed' $?
-btrfs device add -f /dev/vdc /mnt >/tmp/out 2>&1 && head -c 2000000 random >more && sync && btrfs device remove /dev/vdc /mnt >/tmp/out 2>&1
+btrfs device add -f /dev/vdc /mnt >/tmp/out 2>&1 && head -c 2000000 random >another && sync && btrfs device remove /dev/vdc /mnt >/tmp/out 2>&1
 said 'everyday: a device is added and removed' $?
 btrfs balance start -m /mnt >/tmp/out 2>&1 && btrfs balance start -f -s /mnt >/tmp/out 2>&1
 said 'everyday: metadata is balanced' $?
