@@ -338,23 +338,23 @@ slowly() {
 slow_commands() {
     need strace strace || { lacks 'how far commands on a slow disk are' strace; return; }
     makes 65536 1000 65536
-    slowly 200 inspect made
+    slowly 400 inspect made
     goes_on 'a slow inspect' 'checking \(1 of 2\)|counting \(2 of 2\)'
     same 'a slow inspect: both steps, and what is in use' '0|2|1' "$status|$(grep -o '^[a-z]*' lines | sort -u | wc -l)|$(grep -o ' of [0-9]* MiB' lines | sort -u | wc -l)"
-    slowly 200 recover made
+    slowly 400 recover made
     goes_on 'a slow recover' 'checking'
     # the journal of 8193 blocks, and two blocks of the bitmap
     same 'a slow recover: what it reads' '0| of 32 MiB' "$status|$(grep -o ' of [0-9]* MiB' lines | sort -u)"
-    slowly 100 list made
+    slowly 300 list made
     goes_on 'a slow list' 'checking \(1 of 2\)|reading \(2 of 2\)'
     run convert made
-    slowly 200 list made
+    slowly 1000 list made
     goes_on 'a slow list of Btrfs' 'reading'
-    slowly 200 rollback made
+    slowly 400 rollback made
     goes_on 'a slow rollback' 'reading \(1 of 3\)|checking \(2 of 3\)|writing \(3 of 3\)'
     same 'a slow rollback is done' "0|yes" "$status|$(grep -q '^checking (2 of 3): [0-9]*%' lines && echo yes)"
     truncate -s 256M blank
-    slowly 20 trial 100 blank
+    slowly 200 trial 100 blank
     goes_on 'a slow trial' 'making \(1 of 4\)|converting \(2 of 4\)|rolling back \(3 of 4\)|comparing \(4 of 4\)'
     same 'a slow trial: its steps' '0|making converting rolling comparing' "$status|$(sed 's/ .*//' lines | uniq | paste -sd ' ')"
     rm -f blank
