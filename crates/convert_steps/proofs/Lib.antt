@@ -20,4 +20,5 @@ pub mod NewSuper
 pub mod Phases
 mod Placed
 pub mod Preparing
+pub mod Row
 pub mod Turning

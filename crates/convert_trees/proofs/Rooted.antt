@@ -1,23 +1,43 @@
 -- How long the items of the root tree are goes by no root.
-use Rattle.convert_trees.proofs.Imports.{◌≡◌, ◌∙◌, ℕ, ◌-◌, ◌^◌, ◌<◌, List, [], ◌∷◌, length, length-append, map, refl, sym, ap, ap₂, arith, AllPairs, All-cons, All-nil, ROOT_ITEM, CONV_IMAGE_SUBVOL, CSUM_TREE, DATA_RELOC_TREE, DEV_TREE, EXTENT_TREE, FS_TREE, key_layout, make_key, lengths_of, Root, rooted_trees as listed_of, VolumeTrees, other_root_items, tree_root_item, root_items, map-merge, merge, Ids, listed, FirstRoots}
+use Rattle.convert_trees.proofs.Imports.{◌≡◌, ◌∙◌, ℕ, ◌-◌, ◌^◌, ◌<◌, List, [], ◌∷◌, length, length-append, map, refl, sym, ap, ap₂, subst, arith, true, nat_lt, All, AllPairs, All-cons, All-head, All-nil, All-tail, All-map, ROOT_ITEM, EXTENT_TREE, key_layout, make_key, lengths_of, Root, other_root_items, tree_root_item, root_items, map-merge, merge, Ids, pairs_head, pairs_tail, all-with_all, map-with_all, numbers_ascend, with_all, told_root, told_roots, PlacedTree, new_trees, tree_number, TreeRoot}
+use Rattle.convert_steps.proofs.btr_item_list.Grouping.{smaller}
 use Rattle.std.proofs.lemmas.List.Kept.{AllPairs-cons}
 use Rattle.btr_tree.specs.btr_keys.Inode.{inode_layout}
 use Rattle.btr_tree.specs.btr_keys.Stamp.{stamp_layout}
 use Rattle.convert_steps.specs.btr_space_items.RootItem.{root_item_layout}
 use Rattle.space_items.specs.Merging.{item_cmp}
-use Rattle.space_items.specs.declared.node.TreeRoot.{TreeRoot}
 use Rattle.space_items.proofs.Levels.{map-map}
 use Rattle.space_items.proofs.Shapes.{Shape, shape, shape_cmp}
 
-abbrev no_root : TreeRoot → TreeRoot
-no_root r = record { tree = r.tree; root = record { address = 0; level = 0; nodes = 0 } }
+-- the numbers of the trees, in their order
+pub numbers_of : (placed : List PlacedTree) (extents : Root) → map (λ p. p.tree) placed ≡ new_trees → map (λ r. r.tree) (told_roots placed extents) ≡ with_all (λ n. n) (EXTENT_TREE ∷ []) (map tree_number new_trees)
+numbers_of placed extents are =
+    map-with_all (λ (r : TreeRoot). r.tree) (λ (r : TreeRoot). r.tree) (λ (n : ℕ). n) (λ r. refl) (record { tree = EXTENT_TREE; root = extents } ∷ []) (map told_root placed)
+    ∙ ap (λ (ns : List ℕ). with_all (λ (n : ℕ). n) (EXTENT_TREE ∷ []) ns)
+    (map-map (λ (r : TreeRoot). r.tree) told_root placed ∙ (sym (map-map tree_number (λ (p : PlacedTree). p.tree) placed) ∙ ap (map tree_number) are))
+
+below : {X : Type 0} (number : X → ℕ) (n : ℕ) (list : List X) → All (λ b. nat_lt n b ≡ true) (map number list) → All (λ y. n < number y) list
+below {X} number n [] all = All-nil (λ (y : X). n < number y)
+below {X} number n (y ∷ list) all =
+    All-cons (λ (z : X). n < number z) y list (smaller n (number y) (All-head (λ (b : ℕ). nat_lt n b ≡ true) (number y) (map number list) all))
+    (below number n list (All-tail (λ (b : ℕ). nat_lt n b ≡ true) (number y) (map number list) all))
+
+pairs_of : {X : Type 0} (number : X → ℕ) (list : List X) → AllPairs (λ a b. nat_lt a b ≡ true) (map number list) → AllPairs (λ x y. number x < number y) list
+pairs_of {X} number [] pairs = λ i j d less inside. absurd (omega (arith, inside))
+pairs_of {X} number (x ∷ list) pairs =
+    AllPairs-cons (λ (y z : X). number y < number z) x list
+    (below number (number x) list (pairs_head (λ (a b : ℕ). nat_lt a b ≡ true) (number x) (map number list) pairs))
+    (pairs_of number list (pairs_tail (λ (a b : ℕ). nat_lt a b ≡ true) (number x) (map number list) pairs))
+
+abbrev rootless : TreeRoot → TreeRoot
+rootless r = record { tree = r.tree; root = record { address = 0; level = 0; nodes = 0 } }
 
 module _ (index : ℕ) (ids : Ids) (now nodesize : ℕ) where
   -- a root item of this tree, wherever its root is
   abbrev root_shape : TreeRoot → Shape
-  root_shape r = shape (tree_root_item ids nodesize (no_root r))
+  root_shape r = shape (tree_root_item ids nodesize (rootless r))
 
-  long : (r : TreeRoot) → length (tree_root_item ids nodesize (no_root r)).1 ≡ length (tree_root_item ids nodesize r).1
+  long : (r : TreeRoot) → length (tree_root_item ids nodesize (rootless r)).1 ≡ length (tree_root_item ids nodesize r).1
   unfolding root_item_layout inode_layout key_layout stamp_layout
   long r = omega (arith, length-append {A = ℕ})
 
@@ -32,31 +52,29 @@ module _ (index : ℕ) (ids : Ids) (now nodesize : ℕ) where
       (map-merge item_cmp shape_cmp shape (λ a b. refl) (map (tree_root_item ids nodesize) list) (other_root_items index now)
       ∙ ap (λ (ss : List Shape). merge shape_cmp ss (map shape (other_root_items index now))) (shapes_of list))
 
-  pub roots_alike : (one other : VolumeTrees) → lengths_of (root_items (listed_of one) index ids now nodesize) ≡ lengths_of (root_items (listed_of other) index ids now nodesize)
-  roots_alike one other = lengths_by (listed_of one) ∙ sym (lengths_by (listed_of other))
+  lengths_alike : (list other : List TreeRoot) → map (λ r. r.tree) list ≡ map (λ r. r.tree) other → lengths_of (root_items list index ids now nodesize) ≡ lengths_of (root_items other index ids now nodesize)
+  lengths_alike list other same =
+      lengths_by list
+      ∙ (ap (λ (ss : List Shape). map (λ (s : Shape). s.1) (merge shape_cmp ss (map shape (other_root_items index now))))
+      (sym (map-map number_shape (λ (r : TreeRoot). r.tree) list) ∙ (ap (map number_shape) same ∙ map-map number_shape (λ (r : TreeRoot). r.tree) other))
+      ∙ sym (lengths_by other))
+    where
+      -- that of a root item of the tree with a number
+      number_shape : ℕ → Shape
+      number_shape n = root_shape (record { tree = n; root = record { address = 0; level = 0; nodes = 0 } })
 
-  pub root_lengths : (first : FirstRoots) (one other : Root) → lengths_of (root_items (listed first one) index ids now nodesize) ≡ lengths_of (root_items (listed first other) index ids now nodesize)
-  root_lengths first one other = lengths_by (listed first one) ∙ sym (lengths_by (listed first other))
+  -- the items are as long wherever the trees begin
+  pub root_lengths : (placed others : List PlacedTree) (one other : Root) → map (λ p. p.tree) placed ≡ new_trees → map (λ p. p.tree) others ≡ new_trees
+      → lengths_of (root_items (told_roots placed one) index ids now nodesize) ≡ lengths_of (root_items (told_roots others other) index ids now nodesize)
+  root_lengths placed others one other are also = lengths_alike (told_roots placed one) (told_roots others other) (numbers_of placed one are ∙ sym (numbers_of others other also))
 
 -- the trees ascend by their numbers
-pub ascends : (first : FirstRoots) (extents : Root) → AllPairs (λ r s. r.tree < s.tree) (listed first extents)
-ascends first extents =
-    let a : TreeRoot = record { tree = EXTENT_TREE; root = extents } in
-    let b : TreeRoot = record { tree = DEV_TREE; root = first.device } in
-    let c : TreeRoot = record { tree = FS_TREE; root = first.files } in
-    let d : TreeRoot = record { tree = CSUM_TREE; root = first.sums } in
-    let e : TreeRoot = record { tree = CONV_IMAGE_SUBVOL; root = first.image } in
-    let f : TreeRoot = record { tree = DATA_RELOC_TREE; root = first.relocation } in
-    AllPairs-cons (λ (r s : TreeRoot). r.tree < s.tree) a (b ∷ (c ∷ (d ∷ (e ∷ (f ∷ [])))))
-    (All-cons (λ (s : TreeRoot). a.tree < s.tree) b (c ∷ (d ∷ (e ∷ (f ∷ [])))) (omega arith) (All-cons (λ (s : TreeRoot). a.tree < s.tree) c (d ∷ (e ∷ (f ∷ []))) (omega arith) (All-cons (λ (s : TreeRoot). a.tree < s.tree) d (e ∷ (f ∷ [])) (omega arith) (All-cons (λ (s : TreeRoot). a.tree < s.tree) e (f ∷ []) (omega arith) (All-cons (λ (s : TreeRoot). a.tree < s.tree) f ([]) (omega arith) (All-nil (λ (s : TreeRoot). a.tree < s.tree)))))))
-    (AllPairs-cons (λ (r s : TreeRoot). r.tree < s.tree) b (c ∷ (d ∷ (e ∷ (f ∷ []))))
-    (All-cons (λ (s : TreeRoot). b.tree < s.tree) c (d ∷ (e ∷ (f ∷ []))) (omega arith) (All-cons (λ (s : TreeRoot). b.tree < s.tree) d (e ∷ (f ∷ [])) (omega arith) (All-cons (λ (s : TreeRoot). b.tree < s.tree) e (f ∷ []) (omega arith) (All-cons (λ (s : TreeRoot). b.tree < s.tree) f ([]) (omega arith) (All-nil (λ (s : TreeRoot). b.tree < s.tree))))))
-    (AllPairs-cons (λ (r s : TreeRoot). r.tree < s.tree) c (d ∷ (e ∷ (f ∷ [])))
-    (All-cons (λ (s : TreeRoot). c.tree < s.tree) d (e ∷ (f ∷ [])) (omega arith) (All-cons (λ (s : TreeRoot). c.tree < s.tree) e (f ∷ []) (omega arith) (All-cons (λ (s : TreeRoot). c.tree < s.tree) f ([]) (omega arith) (All-nil (λ (s : TreeRoot). c.tree < s.tree)))))
-    (AllPairs-cons (λ (r s : TreeRoot). r.tree < s.tree) d (e ∷ (f ∷ []))
-    (All-cons (λ (s : TreeRoot). d.tree < s.tree) e (f ∷ []) (omega arith) (All-cons (λ (s : TreeRoot). d.tree < s.tree) f ([]) (omega arith) (All-nil (λ (s : TreeRoot). d.tree < s.tree))))
-    (AllPairs-cons (λ (r s : TreeRoot). r.tree < s.tree) e (f ∷ [])
-    (All-cons (λ (s : TreeRoot). e.tree < s.tree) f ([]) (omega arith) (All-nil (λ (s : TreeRoot). e.tree < s.tree)))
-    (AllPairs-cons (λ (r s : TreeRoot). r.tree < s.tree) f ([])
-    (All-nil (λ (s : TreeRoot). f.tree < s.tree))
-    (λ k l x low high. absurd (omega (arith, high))))))))
+pub ascends : (placed : List PlacedTree) (extents : Root) → map (λ p. p.tree) placed ≡ new_trees → AllPairs (λ r s. r.tree < s.tree) (told_roots placed extents)
+ascends placed extents are = pairs_of (λ (r : TreeRoot). r.tree) (told_roots placed extents) (subst (λ (ns : List ℕ). AllPairs (λ a b. nat_lt a b ≡ true) ns) (sym (numbers_of placed extents are)) numbers_ascend)
+
+-- none has more nodes than there is room for
+pub few_told : (placed : List PlacedTree) (extents : Root) (bound : ℕ) → All (λ p. p.root.nodes < bound) placed → extents.nodes < bound → All (λ r. r.root.nodes < bound) (told_roots placed extents)
+few_told placed extents bound few own =
+    all-with_all (λ (r : TreeRoot). r.tree) (λ (r : TreeRoot). r.root.nodes < bound) (record { tree = EXTENT_TREE; root = extents } ∷ []) (map told_root placed)
+    (All-cons (λ (r : TreeRoot). r.root.nodes < bound) (record { tree = EXTENT_TREE; root = extents }) [] own (All-nil (λ (r : TreeRoot). r.root.nodes < bound)))
+    (All-map (λ (r : TreeRoot). r.root.nodes < bound) told_root placed few)

@@ -1,0 +1,164 @@
+-- Trees one behind the other, and lists in the order of numbers.
+use Rattle.convert_steps.proofs.Imports.{◌≡◌, ◌∙◌, ℕ, ◌+◌, ◌≤◌, ◌&&◌, nat_lt, Bool, true, false, not, List, [], ◌∷◌, ◌++◌, append_assoc, drop, if◌then◌else◌, map, refl, sym, ap, ap₂, subst, arith, and_parts, All-cons, All-head, All-nil, All-tail, sum_by-cons, All, AllPairs, sum_by, EXTENT_TREE, Image}
+use Rattle.std.proofs.Common.{◌==◌}
+use Rattle.std.proofs.lemmas.List.Kept.{AllPairs-cons}
+use Rattle.btr_tree.specs.btr_node.Leaf.{Item}
+use Rattle.btr_tree.specs.Counting.{tree_nodes}
+use Rattle.btr_tree.specs.Roots.{lengths_of}
+use Rattle.btr_tree.specs.btr_reader_walk.declared.tree.Form.{Form}
+use Rattle.btr_tree_writer.specs.Trees.{TreeStands}
+use Rattle.convert_steps.specs.Row.{StandBehind, inserted, nodes_behind, slot_behind, with_all}
+use Rattle.convert_steps.specs.declared.trees.PlacedTree.{PlacedTree}
+use Rattle.space_items.specs.Nodes.{nodes_of_tree}
+use Rattle.space_items.specs.declared.node.TreeNode.{TreeNode}
+use Rattle.unit_plan.specs.Trees.{new_trees, tree_number}
+use Rattle.unit_plan.specs.declared.tree.NewTree.{NewTree}
+
+-- ---- trees one behind the other
+
+pub behind_least : (n : ℕ) (placed : List PlacedTree) → n ≤ slot_behind n placed
+behind_least n [] = omega arith
+behind_least n (p ∷ placed) = let more = behind_least (n + p.root.nodes) placed in omega (arith, more)
+
+-- none has more nodes than slots are taken
+pub behind_each : (n : ℕ) (placed : List PlacedTree) → All (λ p. p.root.nodes ≤ slot_behind n placed) placed
+behind_each n [] = All-nil (λ (p : PlacedTree). p.root.nodes ≤ n)
+behind_each n (p ∷ placed) =
+    let more = behind_least (n + p.root.nodes) placed in
+    All-cons (λ (q : PlacedTree). q.root.nodes ≤ slot_behind (n + p.root.nodes) placed) p placed (omega (arith, more)) (behind_each (n + p.root.nodes) placed)
+
+pub behind-append : (n : ℕ) (first then : List PlacedTree) → slot_behind n (first ++ then) ≡ slot_behind (slot_behind n first) then
+behind-append n [] then = refl
+behind-append n (p ∷ first) then = behind-append (n + p.root.nodes) first then
+
+module _ (slots : List ℕ) (items : NewTree → List Item) where
+  pub nodes-append : (nodesize n : ℕ) (first then : List PlacedTree) → nodes_behind nodesize slots items n (first ++ then) ≡ nodes_behind nodesize slots items n first ++ nodes_behind nodesize slots items (slot_behind n first) then
+  nodes-append nodesize n [] then = refl
+  nodes-append nodesize n (p ∷ first) then =
+      let own : List TreeNode = nodes_of_tree (tree_number p.tree) nodesize (lengths_of (items p.tree)) (drop n slots) in
+      ap (λ (ns : List TreeNode). own ++ ns) (nodes-append nodesize (n + p.root.nodes) first then)
+      ∙ sym (append_assoc own (nodes_behind nodesize slots items (n + p.root.nodes) first) (nodes_behind nodesize slots items (slot_behind (n + p.root.nodes) first) then))
+
+  module _ (image : Image) (form : Form) where
+    pub stand-append : (n : ℕ) (first then : List PlacedTree) → StandBehind image form slots items n first → StandBehind image form slots items (slot_behind n first) then → StandBehind image form slots items n (first ++ then)
+    stand-append n [] then here behind = behind
+    stand-append n (p ∷ first) then here behind = (here.0, stand-append (n + p.root.nodes) first then here.1 behind)
+
+    -- one of them, at the slots from a number on
+    pub record StandsAt (end : ℕ) (p : PlacedTree) : Type 0 where
+      pub at : ℕ
+      pub within : at + p.root.nodes ≤ end
+      pub stands : TreeStands image form (tree_number p.tree) (drop at slots) (items p.tree) p.root
+
+    -- each of them is one
+    pub each_stands : (n : ℕ) (placed : List PlacedTree) → StandBehind image form slots items n placed → All (StandsAt (slot_behind n placed)) placed
+    each_stands n [] stand = All-nil (StandsAt n)
+    each_stands n (p ∷ placed) stand =
+        All-cons (StandsAt (slot_behind (n + p.root.nodes) placed)) p placed
+        (record { at = n; within = behind_least (n + p.root.nodes) placed; stands = stand.0 })
+        (each_stands (n + p.root.nodes) placed stand.1)
+
+    -- they take as many slots as their items make nodes
+    pub row_counted : (n : ℕ) (placed : List PlacedTree) → StandBehind image form slots items n placed
+        → slot_behind n placed ≡ n + sum_by (λ t. tree_nodes form.nodesize (lengths_of (items t))) (map (λ p. p.tree) placed)
+    row_counted n [] stand = omega arith
+    row_counted n (p ∷ placed) stand =
+        let more = row_counted (n + p.root.nodes) placed stand.1 in
+        let own = stand.0.count in
+        let sum = sum_by-cons (λ (t : NewTree). tree_nodes form.nodesize (lengths_of (items t))) p.tree (map (λ (q : PlacedTree). q.tree) placed) in
+        omega (arith, more, own, sum)
+
+-- the same by other names of the items
+pub stand_by : (image : Image) (form : Form) (slots : List ℕ) (items others : NewTree → List Item) → ((t : NewTree) → items t ≡ others t) → (n : ℕ) (placed : List PlacedTree)
+    → StandBehind image form slots items n placed → StandBehind image form slots others n placed
+stand_by image form slots items others same n [] stand = stand
+stand_by image form slots items others same n (p ∷ placed) stand = (
+  subst (λ (list : List Item). TreeStands image form (tree_number p.tree) (drop n slots) list p.root) (same p.tree) stand.0,
+  stand_by image form slots items others same (n + p.root.nodes) placed stand.1,
+)
+
+pub nodes_by : (nodesize : ℕ) (slots : List ℕ) (items others : NewTree → List Item) → ((t : NewTree) → items t ≡ others t) → (n : ℕ) (placed : List PlacedTree)
+    → nodes_behind nodesize slots items n placed ≡ nodes_behind nodesize slots others n placed
+nodes_by nodesize slots items others same n [] = refl
+nodes_by nodesize slots items others same n (p ∷ placed) =
+    ap₂ (λ (ns ms : List TreeNode). ns ++ ms) (ap (λ (list : List Item). nodes_of_tree (tree_number p.tree) nodesize (lengths_of list) (drop n slots)) (same p.tree))
+    (nodes_by nodesize slots items others same (n + p.root.nodes) placed)
+
+-- ---- in the order of numbers
+
+module _ {X : Type 0} (number : X → ℕ) where
+  pub all-inserted : (P : X → Type 0) (x : X) (list : List X) → P x → All P list → All P (inserted number x list)
+  all-inserted P x [] one all = All-cons P x [] one all
+  all-inserted P x (y ∷ list) one all = by (nat_lt (number x) (number y))
+    where
+      by : (b : Bool) → All P (if b then x ∷ (y ∷ list) else y ∷ inserted number x list)
+      by true = All-cons P x (y ∷ list) one all
+      by false = All-cons P y (inserted number x list) (All-head P y list all) (all-inserted P x list one (All-tail P y list all))
+
+  pub all-with_all : (P : X → Type 0) (list more : List X) → All P list → All P more → All P (with_all number list more)
+  all-with_all P list [] all also = all
+  all-with_all P list (x ∷ more) all also = all-with_all P (inserted number x list) more (all-inserted P x list (All-head P x more also) all) (All-tail P x more also)
+
+  module _ {Y : Type 0} (f : X → Y) (other : Y → ℕ) (same : (x : X) → other (f x) ≡ number x) where
+    pub map-inserted : (x : X) (list : List X) → map f (inserted number x list) ≡ inserted other (f x) (map f list)
+    map-inserted x [] = refl
+    map-inserted x (y ∷ list) = by (nat_lt (number x) (number y)) (nat_lt (other (f x)) (other (f y))) (ap₂ nat_lt (same x) (same y))
+      where
+        by : (a b : Bool) → b ≡ a → map f (if a then x ∷ (y ∷ list) else y ∷ inserted number x list) ≡ (if b then f x ∷ (f y ∷ map f list) else f y ∷ inserted other (f x) (map f list))
+        by true true e = refl
+        by true false e = absurd (cc e)
+        by false true e = absurd (cc e)
+        by false false e = ap (λ (l : List Y). f y ∷ l) (map-inserted x list)
+
+    pub map-with_all : (list more : List X) → map f (with_all number list more) ≡ with_all other (map f list) (map f more)
+    map-with_all list [] = refl
+    map-with_all list (x ∷ more) = map-with_all (inserted number x list) more ∙ ap (λ (l : List Y). with_all other l (map f more)) (map-inserted x list)
+
+-- a sum goes by no order
+pub sum-inserted : {X : Type 0} (number f : X → ℕ) (x : X) (list : List X) → sum_by f (inserted number x list) ≡ f x + sum_by f list
+sum-inserted number f x [] = sum_by-cons f x []
+sum-inserted number f x (y ∷ list) = by (nat_lt (number x) (number y))
+  where
+    by : (b : Bool) → sum_by f (if b then x ∷ (y ∷ list) else y ∷ inserted number x list) ≡ f x + sum_by f (y ∷ list)
+    by true = sum_by-cons f x (y ∷ list)
+    by false =
+        let first = sum_by-cons f y (inserted number x list) in
+        let more = sum-inserted number f x list in
+        let last = sum_by-cons f y list in
+        omega (arith, first, more, last)
+
+pub sum-with_all : {X : Type 0} (number f : X → ℕ) (list more : List X) → sum_by f (with_all number list more) ≡ sum_by f list + sum_by f more
+sum-with_all number f list [] = omega arith
+sum-with_all number f list (x ∷ more) =
+    let rest = sum-with_all number f (inserted number x list) more in
+    let one = sum-inserted number f x list in
+    let sum = sum_by-cons f x more in
+    omega (arith, rest, one, sum)
+
+-- ---- what is tested of all pairs
+
+abbrev each : (ℕ → Bool) → List ℕ → Bool
+each p [] = true
+each p (x ∷ list) = p x && each p list
+
+abbrev pairwise : (ℕ → ℕ → Bool) → List ℕ → Bool
+pairwise p [] = true
+pairwise p (x ∷ list) = each (p x) list && pairwise p list
+
+each_holds : (p : ℕ → Bool) (list : List ℕ) → each p list ≡ true → All (λ a. p a ≡ true) list
+each_holds p [] is = All-nil (λ (a : ℕ). p a ≡ true)
+each_holds p (x ∷ list) is = let both = and_parts (p x) (each p list) is in All-cons (λ (a : ℕ). p a ≡ true) x list both.0 (each_holds p list both.1)
+
+pairs_hold : (p : ℕ → ℕ → Bool) (list : List ℕ) → pairwise p list ≡ true → AllPairs (λ a b. p a b ≡ true) list
+pairs_hold p [] is = λ i j d less inside. absurd (omega (arith, inside))
+pairs_hold p (x ∷ list) is =
+    let both = and_parts (each (p x) list) (pairwise p list) is in
+    AllPairs-cons (λ (a b : ℕ). p a b ≡ true) x list (each_holds (p x) list both.0) (pairs_hold p list both.1)
+
+-- no two trees have one number
+pub numbers_apart : AllPairs (λ a b. not (a == b) ≡ true) (EXTENT_TREE ∷ map tree_number new_trees)
+numbers_apart = pairs_hold (λ (a b : ℕ). not (a == b)) (EXTENT_TREE ∷ map tree_number new_trees) refl
+
+-- they ascend in their order
+pub numbers_ascend : AllPairs (λ a b. nat_lt a b ≡ true) (with_all (λ n. n) (EXTENT_TREE ∷ []) (map tree_number new_trees))
+numbers_ascend = pairs_hold nat_lt (with_all (λ (n : ℕ). n) (EXTENT_TREE ∷ []) (map tree_number new_trees)) refl

@@ -1,0 +1,17 @@
+use Rattle.convert_trees.proofs.Imports.{◌≡◌, ◌<◌, ◌*◌, ◌^◌, List, IfOk, sym, subst, All, AllPairs, Item, root_items, TreeRoot}
+use Rattle.convert_trees.proofs.Rooted.{ascends, few_told}
+use Rattle.convert_trees.proofs.Tallying.{sized}
+use Rattle.convert_trees.proofs.roots.root_list.Goals as goal
+
+pub roots-requires-clause-few : goal.roots-requires-clause-few
+roots-requires-clause-few g c =
+    let n = c.args.w.now.form.nodesize in
+    subst (λ (list : List TreeRoot). All (λ r. n * r.root.nodes < 2 ^ 64) list) (sym c.in_ok-list.ensures)
+    (λ i d h. sized n _ c.requires.size (few_told c.args.placed.now c.args.extents (2 ^ 43) c.requires.few.each c.requires.few.extents_ i d h))
+
+pub roots-requires-clause-order : goal.roots-requires-clause-order
+roots-requires-clause-order g c = subst (λ (list : List TreeRoot). AllPairs (λ r s. r.tree < s.tree) list) (sym c.in_ok-list.ensures) (ascends c.args.placed.now c.args.extents c.requires.trees)
+
+pub returns : goal.returns
+returns g c =
+    subst (λ (list : List TreeRoot). IfOk c.roots.result (λ (items : List Item). items ≡ root_items list c.args.index c.args.w.now.form.ids c.args.w.now.time c.args.w.now.form.nodesize)) c.in_ok-list.ensures c.roots.ensures
