@@ -1,8 +1,8 @@
 -- What the proofs of convert_steps import of std, of lower crates and of its specs.
 pub use Rattle.std.proofs.Common.{Bool, Err, IsTrue, List, None, Ok, OnOk, Option, Result, Some, [], ap, append_assoc, ap₂, arith, cond, drop, false, filter, get_or, get_or-set_other, get_or-set_same, if◌then◌else◌, inl, inr, length, length-append, map, min, nat_lt, not, refl, replicate, set, subst, suc, sym, take, take-suc, true, true≢false, ℕ, ⊎_elim, ◌&&◌, ◌*◌, ◌++◌, ◌+◌, ◌-◌, ◌<◌, ◌^◌, ◌∙◌, ◌∷◌, ◌≡◌, ◌≢◌, ◌≤◌, ◌⊎◌}
 pub use Rattle.std.proofs.lemmas.Bool.{and_parts, cases_lt, ne_eqb}
-pub use Rattle.std.proofs.lemmas.List.{append-nil, drop-replicate, drop_all, drop_more, ext_get_or, get_or_past, length-replicate, length-set, replicate-append-replicate, take-append-drop, take-append-le, take-replicate, take_all}
-pub use Rattle.std.proofs.lemmas.List.Elements.{All-cons, All-head, All-nil, All-tail, filter-append}
+pub use Rattle.std.proofs.lemmas.List.{append-nil, drop-replicate, drop_all, drop_more, ext_get_or, get_or_past, length-map, length-replicate, length-set, replicate-append-replicate, take-append-drop, take-append-le, take-replicate, take_all}
+pub use Rattle.std.proofs.lemmas.List.Elements.{All-cons, All-head, All-map, All-nil, All-tail, filter-append}
 pub use Rattle.std.proofs.lemmas.List.Sums.{sum_by-cons, take_while-cons}
 pub use Rattle.std.proofs.lemmas.Option.{get_or_from_slice_get, slice_get-get_or, slice_get_within}
 pub use Rattle.std.proofs.lemmas.Result.{err_from_is_err_and}

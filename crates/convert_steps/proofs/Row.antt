@@ -1,6 +1,12 @@
 -- Trees one behind the other, and lists in the order of numbers.
-use Rattle.convert_steps.proofs.Imports.{◌≡◌, ◌∙◌, ℕ, ◌+◌, ◌≤◌, ◌&&◌, nat_lt, Bool, true, false, not, List, [], ◌∷◌, ◌++◌, append_assoc, drop, if◌then◌else◌, map, refl, sym, ap, ap₂, subst, arith, and_parts, All-cons, All-head, All-nil, All-tail, sum_by-cons, All, AllPairs, sum_by, EXTENT_TREE, Image}
+use Rattle.convert_steps.proofs.Imports.{◌≡◌, ◌∙◌, ℕ, ◌+◌, ◌≤◌, ◌&&◌, nat_lt, Bool, true, false, not, List, [], ◌∷◌, ◌++◌, append_assoc, drop, if◌then◌else◌, map, refl, sym, ap, ap₂, subst, arith, ◌<◌, length, and_parts, All-cons, All-head, All-nil, All-tail, All-map, sum_by-cons, All, AllPairs, sum_by, EXTENT_TREE, Image, length-map}
 use Rattle.std.proofs.Common.{◌==◌}
+use Rattle.btr_tree.specs.declared.climb.Root.{Root}
+use Rattle.btr_tree_writer.proofs.btr_item_list.Grouping.{smaller}
+use Rattle.extent_pieces.proofs.Lists.{pairs_head, pairs_tail}
+use Rattle.convert_steps.specs.Standing.{told_root, told_roots}
+use Rattle.space_items.proofs.Levels.{map-map}
+use Rattle.space_items.specs.declared.node.TreeRoot.{TreeRoot}
 use Rattle.std.proofs.lemmas.List.Kept.{AllPairs-cons}
 use Rattle.btr_tree.specs.btr_node.Leaf.{Item}
 use Rattle.btr_tree.specs.Counting.{tree_nodes}
@@ -162,3 +168,43 @@ numbers_apart = pairs_hold (λ (a b : ℕ). not (a == b)) (EXTENT_TREE ∷ map t
 -- they ascend in their order
 pub numbers_ascend : AllPairs (λ a b. nat_lt a b ≡ true) (with_all (λ n. n) (EXTENT_TREE ∷ []) (map tree_number new_trees))
 numbers_ascend = pairs_hold nat_lt (with_all (λ (n : ℕ). n) (EXTENT_TREE ∷ []) (map tree_number new_trees)) refl
+
+-- ---- the roots that the root tree tells of
+
+-- the numbers of the trees, in their order
+pub numbers_of : (placed : List PlacedTree) (extents : Root) → map (λ p. p.tree) placed ≡ new_trees → map (λ r. r.tree) (told_roots placed extents) ≡ with_all (λ n. n) (EXTENT_TREE ∷ []) (map tree_number new_trees)
+numbers_of placed extents are =
+    map-with_all (λ (r : TreeRoot). r.tree) (λ (r : TreeRoot). r.tree) (λ (n : ℕ). n) (λ r. refl) (record { tree = EXTENT_TREE; root = extents } ∷ []) (map told_root placed)
+    ∙ ap (λ (ns : List ℕ). with_all (λ (n : ℕ). n) (EXTENT_TREE ∷ []) ns)
+    (map-map (λ (r : TreeRoot). r.tree) told_root placed ∙ (sym (map-map tree_number (λ (p : PlacedTree). p.tree) placed) ∙ ap (map tree_number) are))
+
+below : {X : Type 0} (number : X → ℕ) (n : ℕ) (list : List X) → All (λ b. nat_lt n b ≡ true) (map number list) → All (λ y. n < number y) list
+below {X} number n [] all = All-nil (λ (y : X). n < number y)
+below {X} number n (y ∷ list) all =
+    All-cons (λ (z : X). n < number z) y list (smaller n (number y) (All-head (λ (b : ℕ). nat_lt n b ≡ true) (number y) (map number list) all))
+    (below number n list (All-tail (λ (b : ℕ). nat_lt n b ≡ true) (number y) (map number list) all))
+
+pairs_of : {X : Type 0} (number : X → ℕ) (list : List X) → AllPairs (λ a b. nat_lt a b ≡ true) (map number list) → AllPairs (λ x y. number x < number y) list
+pairs_of {X} number [] pairs = λ i j d less inside. absurd (omega (arith, inside))
+pairs_of {X} number (x ∷ list) pairs =
+    AllPairs-cons (λ (y z : X). number y < number z) x list
+    (below number (number x) list (pairs_head (λ (a b : ℕ). nat_lt a b ≡ true) (number x) (map number list) pairs))
+    (pairs_of number list (pairs_tail (λ (a b : ℕ). nat_lt a b ≡ true) (number x) (map number list) pairs))
+
+-- the trees ascend by their numbers
+pub ascends : (placed : List PlacedTree) (extents : Root) → map (λ p. p.tree) placed ≡ new_trees → AllPairs (λ r s. r.tree < s.tree) (told_roots placed extents)
+ascends placed extents are = pairs_of (λ (r : TreeRoot). r.tree) (told_roots placed extents) (subst (λ (ns : List ℕ). AllPairs (λ a b. nat_lt a b ≡ true) ns) (sym (numbers_of placed extents are)) numbers_ascend)
+
+-- none has more nodes than there is room for
+pub few_told : (placed : List PlacedTree) (extents : Root) (bound : ℕ) → All (λ p. p.root.nodes < bound) placed → extents.nodes < bound → All (λ r. r.root.nodes < bound) (told_roots placed extents)
+few_told placed extents bound few own =
+    all-with_all (λ (r : TreeRoot). r.tree) (λ (r : TreeRoot). r.root.nodes < bound) (record { tree = EXTENT_TREE; root = extents } ∷ []) (map told_root placed)
+    (All-cons (λ (r : TreeRoot). r.root.nodes < bound) (record { tree = EXTENT_TREE; root = extents }) [] own (All-nil (λ (r : TreeRoot). r.root.nodes < bound)))
+    (All-map (λ (r : TreeRoot). r.root.nodes < bound) told_root placed few)
+
+-- nor are there many
+pub roots_few : (placed : List PlacedTree) (extents : Root) → map (λ p. p.tree) placed ≡ new_trees → length (told_roots placed extents) ≤ 12
+roots_few placed extents are =
+    let long = length-map (told_roots placed extents) (λ (r : TreeRoot). r.tree) in
+    let same = ap (λ (ns : List ℕ). length ns) (numbers_of placed extents are) in
+    omega (arith, long, same)

@@ -1,8 +1,8 @@
 -- The root tree at the slots that were kept for it, and the extent tree behind it.
-use Rattle.convert_trees.proofs.Imports.{◌≡◌, ◌∙◌, ℕ, ◌+◌, ◌-◌, ◌*◌, ◌≤◌, ◌++◌, List, length, take, drop, refl, sym, ap, subst, arith, map, length-drop, length-take, EXTENT_TREE, ROOT_TREE, History, reads, WritesOnly, Item, IsNodeSize, node_bound, tree_nodes, lengths_of, IsInSlots, Root, no_trees, no_root, placed_trees, told_roots, extent_items, merged_nodes, nodes_of_tree, AreIds, extent_bytes, own_bound, root_items, TreeNode, root_items_fit, bound_up, roomy, IsSlotRow, AreWritable, TreeStands, read_form, NodeForm, Trees, PlannedChunk, Piece, AddsExtents, AddsLast, root_count, slots_needed, WrittenExtents, NewRoots, PlacedTree, new_trees}
+use Rattle.convert_trees.proofs.Imports.{◌≡◌, ◌∙◌, ℕ, ◌+◌, ◌-◌, ◌*◌, ◌≤◌, ◌++◌, List, length, take, drop, refl, sym, ap, subst, arith, map, length-drop, length-take, EXTENT_TREE, ROOT_TREE, History, reads, WritesOnly, Item, IsNodeSize, node_bound, tree_nodes, lengths_of, IsInSlots, Root, no_trees, no_root, placed_trees, told_roots, extent_items, merged_nodes, nodes_of_tree, AreIds, extent_bytes, own_bound, root_items, TreeNode, root_items_fit, bound_up, roomy, IsSlotRow, AreWritable, TreeStands, read_form, NodeForm, Trees, PlannedChunk, Piece, AddsExtents, AddsLast, root_count, slots_needed, WrittenExtents, NewRoots, PlacedTree, new_trees, ascends}
 use Rattle.convert_trees.proofs.Few.{few_merged, row_few}
 use Rattle.convert_trees.proofs.Front.{stands_behind}
-use Rattle.convert_trees.proofs.Rooted.{ascends, root_lengths}
+use Rattle.convert_trees.proofs.Rooted.{root_lengths}
 
 -- the root tree has as many nodes wherever the trees begin
 pub count_of : (form : NodeForm) (index now : ℕ) (placed : List PlacedTree) (extents : Root) → map (λ p. p.tree) placed ≡ new_trees

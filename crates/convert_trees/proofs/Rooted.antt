@@ -9,26 +9,6 @@ use Rattle.space_items.specs.Merging.{item_cmp}
 use Rattle.space_items.proofs.Levels.{map-map}
 use Rattle.space_items.proofs.Shapes.{Shape, shape, shape_cmp}
 
--- the numbers of the trees, in their order
-pub numbers_of : (placed : List PlacedTree) (extents : Root) → map (λ p. p.tree) placed ≡ new_trees → map (λ r. r.tree) (told_roots placed extents) ≡ with_all (λ n. n) (EXTENT_TREE ∷ []) (map tree_number new_trees)
-numbers_of placed extents are =
-    map-with_all (λ (r : TreeRoot). r.tree) (λ (r : TreeRoot). r.tree) (λ (n : ℕ). n) (λ r. refl) (record { tree = EXTENT_TREE; root = extents } ∷ []) (map told_root placed)
-    ∙ ap (λ (ns : List ℕ). with_all (λ (n : ℕ). n) (EXTENT_TREE ∷ []) ns)
-    (map-map (λ (r : TreeRoot). r.tree) told_root placed ∙ (sym (map-map tree_number (λ (p : PlacedTree). p.tree) placed) ∙ ap (map tree_number) are))
-
-below : {X : Type 0} (number : X → ℕ) (n : ℕ) (list : List X) → All (λ b. nat_lt n b ≡ true) (map number list) → All (λ y. n < number y) list
-below {X} number n [] all = All-nil (λ (y : X). n < number y)
-below {X} number n (y ∷ list) all =
-    All-cons (λ (z : X). n < number z) y list (smaller n (number y) (All-head (λ (b : ℕ). nat_lt n b ≡ true) (number y) (map number list) all))
-    (below number n list (All-tail (λ (b : ℕ). nat_lt n b ≡ true) (number y) (map number list) all))
-
-pairs_of : {X : Type 0} (number : X → ℕ) (list : List X) → AllPairs (λ a b. nat_lt a b ≡ true) (map number list) → AllPairs (λ x y. number x < number y) list
-pairs_of {X} number [] pairs = λ i j d less inside. absurd (omega (arith, inside))
-pairs_of {X} number (x ∷ list) pairs =
-    AllPairs-cons (λ (y z : X). number y < number z) x list
-    (below number (number x) list (pairs_head (λ (a b : ℕ). nat_lt a b ≡ true) (number x) (map number list) pairs))
-    (pairs_of number list (pairs_tail (λ (a b : ℕ). nat_lt a b ≡ true) (number x) (map number list) pairs))
-
 abbrev rootless : TreeRoot → TreeRoot
 rootless r = record { tree = r.tree; root = record { address = 0; level = 0; nodes = 0 } }
 
@@ -67,14 +47,3 @@ module _ (index : ℕ) (ids : Ids) (now nodesize : ℕ) where
   pub root_lengths : (placed others : List PlacedTree) (one other : Root) → map (λ p. p.tree) placed ≡ new_trees → map (λ p. p.tree) others ≡ new_trees
       → lengths_of (root_items (told_roots placed one) index ids now nodesize) ≡ lengths_of (root_items (told_roots others other) index ids now nodesize)
   root_lengths placed others one other are also = lengths_alike (told_roots placed one) (told_roots others other) (numbers_of placed one are ∙ sym (numbers_of others other also))
-
--- the trees ascend by their numbers
-pub ascends : (placed : List PlacedTree) (extents : Root) → map (λ p. p.tree) placed ≡ new_trees → AllPairs (λ r s. r.tree < s.tree) (told_roots placed extents)
-ascends placed extents are = pairs_of (λ (r : TreeRoot). r.tree) (told_roots placed extents) (subst (λ (ns : List ℕ). AllPairs (λ a b. nat_lt a b ≡ true) ns) (sym (numbers_of placed extents are)) numbers_ascend)
-
--- none has more nodes than there is room for
-pub few_told : (placed : List PlacedTree) (extents : Root) (bound : ℕ) → All (λ p. p.root.nodes < bound) placed → extents.nodes < bound → All (λ r. r.root.nodes < bound) (told_roots placed extents)
-few_told placed extents bound few own =
-    all-with_all (λ (r : TreeRoot). r.tree) (λ (r : TreeRoot). r.root.nodes < bound) (record { tree = EXTENT_TREE; root = extents } ∷ []) (map told_root placed)
-    (All-cons (λ (r : TreeRoot). r.root.nodes < bound) (record { tree = EXTENT_TREE; root = extents }) [] own (All-nil (λ (r : TreeRoot). r.root.nodes < bound)))
-    (All-map (λ (r : TreeRoot). r.root.nodes < bound) told_root placed few)

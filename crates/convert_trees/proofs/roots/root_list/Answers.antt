@@ -1,5 +1,4 @@
-use Rattle.convert_trees.proofs.Imports.{◌≡◌, ◌<◌, ◌*◌, ◌^◌, List, IfOk, sym, subst, All, AllPairs, Item, root_items, TreeRoot}
-use Rattle.convert_trees.proofs.Rooted.{ascends, few_told}
+use Rattle.convert_trees.proofs.Imports.{◌≡◌, ◌<◌, ◌*◌, ◌^◌, List, IfOk, sym, subst, All, AllPairs, Item, root_items, TreeRoot, ascends, few_told}
 use Rattle.convert_trees.proofs.Tallying.{sized}
 use Rattle.convert_trees.proofs.roots.root_list.Goals as goal
 
