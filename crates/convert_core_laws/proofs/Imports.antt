@@ -137,10 +137,9 @@ pub use Rattle.convert_core.specs.btr_tree_writer.Trees.{TreeStands, pointer_to_
 pub use Rattle.convert_core.specs.convert_options.declared.options.Options.{Options}
 pub use Rattle.convert_core.specs.convert_steps.Making.{IsMaking, Making, chunk_slots, fsid_by, label_by, label_field, new_ids, saved_index, slots}
 pub use Rattle.convert_core.specs.convert_steps.Source.{ComesFrom, HasExtents, HasPieces, HoldFiles, in_piece, made_from}
-pub use Rattle.convert_core.specs.convert_steps.Standing.{HasTrees, device_from, extents_from, file_tree_items, form, image_from, image_tree_items, nodes_from, nodes_of_others, relocation_from, root_from, root_tree_items, rooted_trees, sum_tree_items, sums_from, used_bytes}
+pub use Rattle.convert_core.specs.convert_steps.Standing.{TreeRoots, TreesStand, extents_from, file_tree_items, form, image_tree_items, nodes_from, nodes_of_others, root_from, root_tree_items, sum_tree_items, used_bytes}
 pub use Rattle.convert_core.specs.convert_steps.Superblock.{boot_bytes, features, is_system_role, record_bytes}
 unfoldable pub use Rattle.convert_core.specs.convert_steps.Superblock.{new_super}
-pub use Rattle.convert_core.specs.convert_steps.declared.trees.VolumeTrees.{VolumeTrees}
 pub use Rattle.convert_core.specs.extent_pieces.Files.{FileAt, file_at, owner, tails}
 pub use Rattle.convert_core.specs.extent_pieces.Found.{files_of}
 pub use Rattle.convert_core.specs.extent_pieces.Laws.{AreSortedKeys, CoverUsed, HasPlan, HoldsBlock, IsKeptPiece, LieWell, LiesInUnit}

@@ -1,6 +1,8 @@
 -- Trees one behind the other, and lists in the order of numbers.
-use Rattle.convert_steps.proofs.Imports.{◌≡◌, ◌∙◌, ℕ, ◌+◌, ◌≤◌, ◌&&◌, nat_lt, Bool, true, false, not, List, [], ◌∷◌, ◌++◌, append_assoc, drop, if◌then◌else◌, map, refl, sym, ap, ap₂, subst, arith, ◌<◌, length, and_parts, All-cons, All-head, All-nil, All-tail, All-map, sum_by-cons, All, AllPairs, sum_by, EXTENT_TREE, Image, length-map}
+use Rattle.convert_steps.proofs.Imports.{◌≡◌, ◌∙◌, ℕ, ◌+◌, ◌≤◌, ◌&&◌, nat_lt, Bool, true, false, not, List, [], ◌∷◌, ◌++◌, append_assoc, drop, if◌then◌else◌, map, refl, sym, ap, ap₂, subst, arith, ◌<◌, length, ◌⊎◌, inl, inr, ⊎_elim, and_parts, All-cons, All-head, All-nil, All-tail, All-map, sum_by-cons, All, AllPairs, sum_by, EXTENT_TREE, Image, length-map, Contains}
 use Rattle.std.proofs.Common.{◌==◌}
+use Rattle.reiser_volume.proofs.reiser_bitmap.Ranges.{contains_cases, contains_head, contains_tail}
+use Rattle.unit_plan.specs.declared.tree.NewTree.TheVariants.{Files, SavedImage, Relocation, Checksums, Devices}
 use Rattle.btr_tree.specs.declared.climb.Root.{Root}
 use Rattle.btr_tree_writer.proofs.btr_item_list.Grouping.{smaller}
 use Rattle.extent_pieces.proofs.Lists.{pairs_head, pairs_tail}
@@ -52,16 +54,16 @@ module _ (slots : List ℕ) (items : NewTree → List Item) where
 
     -- one of them, at the slots from a number on
     pub record StandsAt (end : ℕ) (p : PlacedTree) : Type 0 where
-      pub at : ℕ
-      pub within : at + p.root.nodes ≤ end
-      pub stands : TreeStands image form (tree_number p.tree) (drop at slots) (items p.tree) p.root
+      pub first : ℕ
+      pub within : first + p.root.nodes ≤ end
+      pub stands : TreeStands image form (tree_number p.tree) (drop first slots) (items p.tree) p.root
 
     -- each of them is one
     pub each_stands : (n : ℕ) (placed : List PlacedTree) → StandBehind image form slots items n placed → All (StandsAt (slot_behind n placed)) placed
     each_stands n [] stand = All-nil (StandsAt n)
     each_stands n (p ∷ placed) stand =
         All-cons (StandsAt (slot_behind (n + p.root.nodes) placed)) p placed
-        (record { at = n; within = behind_least (n + p.root.nodes) placed; stands = stand.0 })
+        (record { first = n; within = behind_least (n + p.root.nodes) placed; stands = stand.0 })
         (each_stands (n + p.root.nodes) placed stand.1)
 
     -- they take as many slots as their items make nodes
@@ -105,6 +107,27 @@ module _ {X : Type 0} (number : X → ℕ) where
   all-with_all P list [] all also = all
   all-with_all P list (x ∷ more) all also = all-with_all P (inserted number x list) more (all-inserted P x list (All-head P x more also) all) (All-tail P x more also)
 
+  -- no element is lost
+  pub in-inserted : (x y : X) (list : List X) → (x ≡ y) ⊎ Contains list y → Contains (inserted number x list) y
+  in-inserted x y [] among = ⊎_elim (λ (same : x ≡ y). subst (λ (z : X). Contains (x ∷ []) z) same (contains_head x [])) (λ (none : Contains [] y). contains_tail y x [] none) among
+  in-inserted x y (z ∷ list) among = by (nat_lt (number x) (number z))
+    where
+      by : (b : Bool) → Contains (if b then x ∷ (z ∷ list) else z ∷ inserted number x list) y
+      by true = ⊎_elim (λ (same : x ≡ y). subst (λ (w : X). Contains (x ∷ (z ∷ list)) w) same (contains_head x (z ∷ list))) (λ (later : Contains (z ∷ list) y). contains_tail y x (z ∷ list) later) among
+      by false =
+          ⊎_elim (λ (same : x ≡ y). contains_tail y z (inserted number x list) (in-inserted x y list (inl same)))
+          (λ (later : Contains (z ∷ list) y).
+          ⊎_elim (λ (here : z ≡ y). subst (λ (w : X). Contains (z ∷ inserted number x list) w) here (contains_head z (inserted number x list)))
+          (λ (behind : Contains list y). contains_tail y z (inserted number x list) (in-inserted x y list (inr behind))) (contains_cases y z list later))
+          among
+
+  pub in-with_all : (y : X) (list more : List X) → Contains list y ⊎ Contains more y → Contains (with_all number list more) y
+  in-with_all y list [] among = ⊎_elim (λ (here : Contains list y). here) (λ (none : Contains [] y). absurd (omega (arith, none.1))) among
+  in-with_all y list (x ∷ more) among =
+      in-with_all y (inserted number x list) more
+      (⊎_elim (λ (here : Contains list y). inl (in-inserted x y list (inr here)))
+      (λ (later : Contains (x ∷ more) y). ⊎_elim (λ (same : x ≡ y). inl (in-inserted x y list (inl same))) (λ (behind : Contains more y). inr behind) (contains_cases y x more later)) among)
+
   module _ {Y : Type 0} (f : X → Y) (other : Y → ℕ) (same : (x : X) → other (f x) ≡ number x) where
     pub map-inserted : (x : X) (list : List X) → map f (inserted number x list) ≡ inserted other (f x) (map f list)
     map-inserted x [] = refl
@@ -140,6 +163,16 @@ sum-with_all number f list (x ∷ more) =
     let one = sum-inserted number f x list in
     let sum = sum_by-cons f x more in
     omega (arith, rest, one, sum)
+
+-- ---- the list of trees
+
+-- each tree is one of it
+pub every_tree : (t : NewTree) → Contains new_trees t
+every_tree Files = (0, omega arith, refl)
+every_tree SavedImage = (1, omega arith, refl)
+every_tree Relocation = (2, omega arith, refl)
+every_tree Checksums = (3, omega arith, refl)
+every_tree Devices = (4, omega arith, refl)
 
 -- ---- what is tested of all pairs
 
@@ -184,7 +217,7 @@ below {X} number n (y ∷ list) all =
     All-cons (λ (z : X). n < number z) y list (smaller n (number y) (All-head (λ (b : ℕ). nat_lt n b ≡ true) (number y) (map number list) all))
     (below number n list (All-tail (λ (b : ℕ). nat_lt n b ≡ true) (number y) (map number list) all))
 
-pairs_of : {X : Type 0} (number : X → ℕ) (list : List X) → AllPairs (λ a b. nat_lt a b ≡ true) (map number list) → AllPairs (λ x y. number x < number y) list
+pub pairs_of : {X : Type 0} (number : X → ℕ) (list : List X) → AllPairs (λ a b. nat_lt a b ≡ true) (map number list) → AllPairs (λ x y. number x < number y) list
 pairs_of {X} number [] pairs = λ i j d less inside. absurd (omega (arith, inside))
 pairs_of {X} number (x ∷ list) pairs =
     AllPairs-cons (λ (y z : X). number y < number z) x list

@@ -68,8 +68,11 @@ abbrev pub told_roots : List PlacedTree → Root → List TreeRoot
 told_roots placed extents = with_all (λ t. t.tree) (record { tree = EXTENT_TREE; root = extents } ∷ []) (map told_root placed)
 
 -- the trees that are written first, in their order
+abbrev pub placed_in : TreeRoots → NewTree → PlacedTree
+placed_in r t = record { tree = t; root = r.tree t }
+
 abbrev pub placed_trees : TreeRoots → List PlacedTree
-placed_trees r = map (λ t. record { tree = t; root = r.tree t }) new_trees
+placed_trees r = map (placed_in r) new_trees
 
 -- the trees that have a root item
 abbrev pub rooted_trees : TreeRoots → List TreeRoot
@@ -140,6 +143,9 @@ pub record NamedTree : Type 0 where
 
 abbrev pub named : Image → Image → Making → PlacedTree → NamedTree
 named image other m p = record { number = tree_number p.tree; root = p.root; items = items_of image other m p.tree }
+
+abbrev pub named_in : Image → Image → Making → TreeRoots → NewTree → NamedTree
+named_in image other m r t = named image other m (placed_in r t)
 
 abbrev pub named_extents : Making → TreeRoots → List TreeNode → NamedTree
 named_extents m r nodes = record { number = EXTENT_TREE; root = r.extents; items = extent_items m.chunks m.pieces nodes m.options.nodesize }

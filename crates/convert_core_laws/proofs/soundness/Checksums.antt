@@ -1,5 +1,5 @@
 -- The checksums of a converted volume are sound.
-use Rattle.convert_core_laws.proofs.Imports.{◌≡◌, ◌≢◌, ◌≤◌, ◌<◌, ℕ, ◌+◌, ◌*◌, ◌/◌, ◌%◌, ◌^◌, Bool, true, false, List, [], map, Option, Some, None, refl, sym, ap, subst, ◌∙◌, ⊎_elim, true≢false, arith, All, AllPairs, Contains, if◌then◌else◌, is_some, ◌↔◌, append-nil, INODE_ITEM, CONV_IMAGE_SUBVOL, CSUM_TREE, FS_TREE, from_flat_map, in_flat_map, Image, Ids, inode_bytes, inode_of, make_key, Inode, Item, IsNodeSize, data_kind, range_of, form_of, has_no_sums, IsExtent, some_data, DataUse, Recount, TreeOn, all_trees, data_uses, recounted_items, uses_in, AreSums, HasBlockSum, AreSumsRight, IsSumItem, WantsSum, sum_count, place, Form, IsMaking, Making, HasPieces, made_from, file_tree_items, image_tree_items, sum_tree_items, VolumeTrees, well, blocks_few, NewIdsFit, IsNewVolume, map_for, super_for, SumKind, two_cases, piece_bytes, pieces_of_volume, source_block, Source, inode_in, kind_in, ino_of, FilesAreHeld, InodesAreThere, ImageKeysAscend, File, all_from_contains, ObjectKey, HasBytes, block_sum, sum_items, sums_item, TreeNode, Options, Piece, recount_for, tree_for, ConvertedChecksumsAreSound}
+use Rattle.convert_core_laws.proofs.Imports.{◌≡◌, ◌≢◌, ◌≤◌, ◌<◌, ℕ, ◌+◌, ◌*◌, ◌/◌, ◌%◌, ◌^◌, Bool, true, false, List, [], map, Option, Some, None, refl, sym, ap, subst, ◌∙◌, ⊎_elim, true≢false, arith, All, AllPairs, Contains, if◌then◌else◌, is_some, ◌↔◌, append-nil, INODE_ITEM, CONV_IMAGE_SUBVOL, CSUM_TREE, FS_TREE, from_flat_map, in_flat_map, Image, Ids, inode_bytes, inode_of, make_key, Inode, Item, IsNodeSize, data_kind, range_of, form_of, has_no_sums, IsExtent, some_data, DataUse, Recount, TreeOn, all_trees, data_uses, recounted_items, uses_in, AreSums, HasBlockSum, AreSumsRight, IsSumItem, WantsSum, sum_count, place, Form, IsMaking, Making, HasPieces, made_from, file_tree_items, image_tree_items, sum_tree_items, TreeRoots, well, blocks_few, NewIdsFit, IsNewVolume, map_for, super_for, SumKind, two_cases, piece_bytes, pieces_of_volume, source_block, Source, inode_in, kind_in, ino_of, FilesAreHeld, InodesAreThere, ImageKeysAscend, File, all_from_contains, ObjectKey, HasBytes, block_sum, sum_items, sums_item, TreeNode, Options, Piece, recount_for, tree_for, ConvertedChecksumsAreSound}
 use Rattle.convert_core_laws.proofs.reading.SavedExtents.{AreSources, sources_bytes}
 use Rattle.convert_core_laws.proofs.reading.SavedPieces.{are_sources}
 use Rattle.convert_core_laws.proofs.soundness.AllUses.{span_of, uses_are}
@@ -11,11 +11,13 @@ use Rattle.convert_core_laws.proofs.soundness.Flags.{file_no_sums, file_sums, im
 use Rattle.convert_core_laws.proofs.soundness.Keyed.{all_other, files_rise, saved_rise, uses_tree}
 use Rattle.convert_core_laws.proofs.soundness.Runs.{Covers}
 use Rattle.convert_core_laws.proofs.soundness.SumItems.{EndsFirst, IsOfPiece, count_of, form_of_item, items_apart, of_piece, piece_covered, sum_of}
+use Rattle.convert_core_laws.proofs.soundness.Among.{tree_there}
+use Rattle.convert_core.specs.unit_plan.declared.tree.NewTree.TheVariants.{Files, SavedImage}
 
 some_same : {A : Type 0} (a b : A) → Some a ≡ Some b → a ≡ b
 some_same a b e = cc
 
-module _ (o : Options) (ids : Ids) (now : ℕ) (image other : Image) (m : Making) (r : VolumeTrees) (nodes : List TreeNode) (v : IsNewVolume o ids now image other m r nodes) (held : FilesAreHeld) (rising : ImageKeysAscend) (are_there : InodesAreThere) (now_low : now < 2 ^ 63) (bytes : HasBytes image) where
+module _ (o : Options) (ids : Ids) (now : ℕ) (image other : Image) (m : Making) (r : TreeRoots) (nodes : List TreeNode) (v : IsNewVolume o ids now image other m r nodes) (held : FilesAreHeld) (rising : ImageKeysAscend) (are_there : InodesAreThere) (now_low : now < 2 ^ 63) (bytes : HasBytes image) where
   abbrev making : IsMaking image m
   making = v.new.conversion.making
 
@@ -38,10 +40,10 @@ module _ (o : Options) (ids : Ids) (now : ℕ) (image other : Image) (m : Making
   items = sum_tree_items other m
 
   abbrev files : TreeOn
-  files = tree_for other (super_for m r nodes) FS_TREE r.files (file_tree_items image m)
+  files = tree_for other (super_for m r nodes) FS_TREE (r.tree Files) (file_tree_items image m)
 
   abbrev saved : TreeOn
-  saved = tree_for other (super_for m r nodes) CONV_IMAGE_SUBVOL r.image (image_tree_items m)
+  saved = tree_for other (super_for m r nodes) CONV_IMAGE_SUBVOL (r.tree SavedImage) (image_tree_items m)
 
   kind_is : (form_of k.super).sums ≡ sums
   kind_is = ap (λ (f : Form). f.sums) (form_is m r nodes)
@@ -116,10 +118,10 @@ module _ (o : Options) (ids : Ids) (now : ℕ) (image other : Image) (m : Making
       (two_cases (λ (x y : TreeOn). x.number ≢ y.number) (all_trees k) t u (all_other o ids now image other m r nodes v rising) h l)
 
   files_there : Contains (all_trees k) files
-  files_there = (4, omega arith, refl)
+  files_there = tree_there image other m r nodes Files
 
   saved_there : Contains (all_trees k) saved
-  saved_there = (6, omega arith, refl)
+  saved_there = tree_there image other m r nodes SavedImage
 
   -- a use by a tree is one of this tree
   used_by : (u : DataUse) (t : TreeOn) → Contains (all_trees k) t → u.tree ≡ t.number → Contains (data_uses k) u → Contains (uses_in t) u
