@@ -1,5 +1,5 @@
 -- What stands on a disk goes on standing while none of its blocks is written.
-use Rattle.convert_core.proofs.Imports.{◌≡◌, ◌∙◌, ◌⊎◌, inl, inr, ℕ, ◌+◌, ◌-◌, ◌^◌, ◌<◌, ◌≤◌, List, [], ◌++◌, length, take, drop, sym, ap, subst, arith, length-drop, ◌∷◌, refl, Contains, if◌then◌else◌, CHUNK_TREE, EXTENT_TREE, ROOT_TREE, Image, block_at, Item, IsInSlots, Making, new_ids, chunk_slots, slots, HoldMoved, chunk_items, TreeNode, Piece, StandsConverted, TreeRoots, TreesStand, extents_from, form, items_of, nodes_from, placed_trees, root_from, root_tree_items, sum_tree_items}
+use Rattle.convert_core.proofs.Imports.{◌≡◌, ◌∙◌, ◌⊎◌, inl, inr, ℕ, ◌+◌, ◌-◌, ◌<◌, ◌≤◌, List, [], ◌++◌, length, take, drop, sym, ap, arith, length-drop, ◌∷◌, refl, Contains, if◌then◌else◌, CHUNK_TREE, EXTENT_TREE, ROOT_TREE, Image, block_at, Item, IsInSlots, Making, new_ids, chunk_slots, slots, HoldMoved, chunk_items, TreeNode, Piece, StandsConverted, TreeRoots, TreesStand, extents_from, form, items_of, nodes_from, placed_trees, root_from, root_tree_items, sum_tree_items}
 use Rattle.convert_steps.proofs.Row.{nodes_by, stand_by}
 use Rattle.convert_steps.specs.Row.{StandBehind}
 use Rattle.convert_steps.specs.declared.trees.PlacedTree.{PlacedTree}

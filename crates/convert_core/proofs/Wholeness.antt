@@ -1,9 +1,8 @@
 -- What was prepared of a volume is whole.
-use Rattle.convert_core.proofs.Imports.{◌≡◌, ◌≤◌, ◌<◌, ℕ, ◌+◌, ◌^◌, List, length, get_or, Option, Some, None, sym, ap, subst, ◌∙◌, ⊎_elim, arith, All, AllPairs, MatchOption, cases_lt, SUPER_BLOCK, Image, block_at, IsNodeSize, Super, superblock, used_of, Volume, used_length, system_few, need, Counts, Need, Options, Piece, Plan, Ids, HasPieces, IsPrepared, Prepared, IsWhole}
+use Rattle.convert_core.proofs.Imports.{◌≡◌, ◌≤◌, ◌<◌, ℕ, ◌+◌, ◌^◌, List, length, get_or, sym, ap, subst, ◌∙◌, ⊎_elim, arith, All, AllPairs, cases_lt, SUPER_BLOCK, Image, block_at, IsNodeSize, Super, superblock, used_of, Volume, used_length, system_few, need, Counts, Need, Options, Piece, Plan, Ids, HasPieces, IsPrepared, Prepared, IsWhole}
 use Rattle.convert_trees_laws.proofs.Fitting.{pieces_small}
 use Rattle.reiser_volume.specs.reiser_super.Rules.{IsCleanSuper}
 use Rattle.convert_steps.specs.space_items.Stream.{ArePieces, IsSmallPiece}
-use Rattle.unit_plan.specs.Pieces.{ArePlaced}
 use Rattle.convert_core.proofs.Moving.{well}
 
 -- ---- pieces that are looked at one after the other

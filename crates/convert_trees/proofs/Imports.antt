@@ -3,7 +3,7 @@ pub use Rattle.std.proofs.Common.{Bool, Err, IfOk, IsTrue, List, None, Ok, Optio
 pub use Rattle.std.proofs.Math.Nat.{le-max_left, le-max_right, min-le_right}
 pub use Rattle.std.proofs.lemmas.Bool.{cases_eq, eq-eqb}
 pub use Rattle.std.proofs.lemmas.List.{append-nil, drop-drop, drop_all, drop_more, get_or-drop, get_or-take, get_or_default, length-drop, length-map, length-take, map-append, take_all, take_more}
-pub use Rattle.std.proofs.lemmas.List.Elements.{All-cons, All-drop, All-head, All-map, All-nil, All-tail, All-take, Contains-append_cases, Contains-append_left, Contains-append_right}
+pub use Rattle.std.proofs.lemmas.List.Elements.{All-cons, All-drop, All-head, All-nil, All-tail, All-take, Contains-append_cases, Contains-append_left, Contains-append_right}
 pub use Rattle.std.proofs.lemmas.List.Sums.{count_by_more_no, count_by_more_yes, sum_by-cons, sum_by-take-le}
 pub use Rattle.std.proofs.lemmas.Option.{slice_get-get_or, unwrap_or-slice_get}
 pub use Rattle.std.specs.List.{All, AllPairs, flat_map, range_with_len, sum_by}
@@ -35,7 +35,7 @@ pub use Rattle.btr_tree_writer.specs.declared.trees.Trees.{Trees}
 pub use Rattle.btrfs_format.specs.declared.key.TheConstants.{EXTENT_CSUM, ROOT_ITEM}
 pub use Rattle.btrfs_format.specs.declared.object.TheConstants.{CHUNK_TREE, EXTENT_CSUM_OBJECTID, EXTENT_TREE, ROOT_TREE}
 pub use Rattle.convert_options.specs.declared.options.Options.{Options}
-pub use Rattle.convert_steps.proofs.Row.{all-with_all, ascends, behind-append, behind_each, behind_least, few_told, map-with_all, nodes-append, nodes_by, numbers_apart, numbers_ascend, row_counted, stand-append, stand_by}
+pub use Rattle.convert_steps.proofs.Row.{ascends, behind-append, behind_each, behind_least, few_told, nodes-append, nodes_by, numbers_apart, row_counted, stand-append, stand_by}
 pub use Rattle.convert_steps.proofs.extent_pieces.Lists.{all_at, pairs_head, pairs_tail}
 pub use Rattle.convert_steps.specs.Making.{IsMaking, Making, chunk_slots, new_ids, slots}
 pub use Rattle.convert_steps.specs.Row.{StandBehind, inserted, nodes_behind, slot_behind, with_all}

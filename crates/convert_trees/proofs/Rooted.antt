@@ -1,7 +1,5 @@
 -- How long the items of the root tree are goes by no root.
-use Rattle.convert_trees.proofs.Imports.{◌≡◌, ◌∙◌, ℕ, ◌-◌, ◌^◌, ◌<◌, List, [], ◌∷◌, length, length-append, map, refl, sym, ap, ap₂, subst, arith, true, nat_lt, All, AllPairs, All-cons, All-head, All-nil, All-tail, All-map, ROOT_ITEM, EXTENT_TREE, key_layout, make_key, lengths_of, Root, other_root_items, tree_root_item, root_items, map-merge, merge, Ids, pairs_head, pairs_tail, all-with_all, map-with_all, numbers_ascend, with_all, told_root, told_roots, PlacedTree, new_trees, tree_number, TreeRoot}
-use Rattle.convert_steps.proofs.btr_item_list.Grouping.{smaller}
-use Rattle.std.proofs.lemmas.List.Kept.{AllPairs-cons}
+use Rattle.convert_trees.proofs.Imports.{◌≡◌, ◌∙◌, ℕ, ◌-◌, List, [], ◌∷◌, length, length-append, map, refl, sym, ap, ap₂, arith, ROOT_ITEM, key_layout, make_key, lengths_of, Root, other_root_items, tree_root_item, root_items, map-merge, merge, Ids, told_roots, PlacedTree, new_trees, TreeRoot}
 use Rattle.btr_tree.specs.btr_keys.Inode.{inode_layout}
 use Rattle.btr_tree.specs.btr_keys.Stamp.{stamp_layout}
 use Rattle.convert_steps.specs.btr_space_items.RootItem.{root_item_layout}

@@ -1,5 +1,5 @@
 -- Of the items of each tree a tree can be made.
-use Rattle.convert_trees_laws.proofs.Imports.{◌≡◌, ◌≤◌, ◌<◌, ℕ, ◌+◌, ◌*◌, ◌^◌, Bool, true, false, List, [], get_or, length, Option, Some, None, refl, arith, if◌then◌else◌, All-nil, All, MatchOption, Image, Item, places_are_apart, chunk_items_fit, IsMaking, Making, new_ids, used_of, AreIds, FitTree, sum_items, Piece, NewTree, Files, SavedImage, Relocation, Checksums, Devices, FileKeysAscend, ImageKeysAscend, ItemsAreShort}
+use Rattle.convert_trees_laws.proofs.Imports.{◌≤◌, ◌<◌, ℕ, ◌+◌, ◌^◌, Bool, true, false, List, [], get_or, length, Option, Some, None, refl, arith, if◌then◌else◌, All-nil, MatchOption, Image, Item, places_are_apart, chunk_items_fit, IsMaking, Making, new_ids, used_of, AreIds, FitTree, sum_items, Piece, NewTree, Files, SavedImage, Relocation, Checksums, Devices, FileKeysAscend, ImageKeysAscend, ItemsAreShort}
 use Rattle.convert_steps.proofs.space_items.StreamOrder.{sum_items_fit}
 use Rattle.convert_steps.specs.Standing.{items_of}
 use Rattle.convert_steps.specs.btr_tree.csum_kinds.declared.kind.SumKind.{SumKind}

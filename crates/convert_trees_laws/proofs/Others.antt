@@ -1,5 +1,5 @@
 -- The trees but the file tree take no more than was counted for them.
-use Rattle.convert_trees_laws.proofs.Imports.{◌≡◌, ◌≤◌, ◌<◌, ℕ, List, length, get_or, refl, sym, ap, subst, arith, sum_by, Image, IsMaking, Making, new_ids, saved_index, rooted_trees, placed_trees, Pieces, free_runs, used_of, chunk_bound, need, tree_bytes, Counts, Piece, AreIds, FileTreeIsCounted, TreesAreCounted, bytes_in, new_trees, NewTree, Files, SavedImage, Relocation, Checksums, Devices}
+use Rattle.convert_trees_laws.proofs.Imports.{◌≡◌, ◌≤◌, ℕ, List, length, get_or, refl, sym, ap, subst, arith, sum_by, Image, IsMaking, Making, new_ids, saved_index, rooted_trees, placed_trees, Pieces, free_runs, used_of, chunk_bound, need, tree_bytes, Counts, Piece, AreIds, FileTreeIsCounted, TreesAreCounted, bytes_in, new_trees, NewTree, Files, SavedImage, Relocation, Checksums, Devices}
 use Rattle.convert_steps.specs.Standing.{items_of}
 use Rattle.convert_steps.proofs.Row.{ascends, roots_few}
 use Rattle.convert_steps.proofs.unit_plan.Counted.{chunks_few}

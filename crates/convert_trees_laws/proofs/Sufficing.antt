@@ -1,5 +1,5 @@
 -- The units of a plan have the slots for all nodes.
-use Rattle.convert_trees_laws.proofs.Imports.{◌≡◌, ◌≤◌, ◌<◌, ℕ, ◌+◌, ◌*◌, ◌^◌, List, [], ◌∷◌, length, length-append, sym, ap, subst, ◌∙◌, ⊎_elim, arith, get_or, div_ceil, flat_map, range_with_len, div_ceil_times, length-map, length-range_with_len, BLOCK_GROUP_BYTES, EXTENT_BYTES, NODE_BYTES, ROOT_TREE_ROOM, Image, Item, IsNodeSize, node_bound, lengths_of, IsMaking, Making, chunk_slots, new_ids, slots, AllFit, chunk_count, no_trees, nodes_for, other_count, own_count, root_tree_items, FileKeysAscend, ImageKeysAscend, ItemsAreShort, keys, IsOpened, links_in, used_of, chunk_items, AreIds, bound_up, IsSoundPlan, AreSmall, checksum_tree_bytes, chunk_bound, chunk_nodes, chunk_tree_bytes, device_tree_bytes, extent_nodes, extent_tree_bytes, file_tree_bytes, image_tree_bytes, need, nodes_in_unit, other_nodes, tree_bytes, Counts, Options, plans_sound, SumKind, Crc32c, Sha256, AreCounted, FileTreeIsCounted, PlansSuffice, bytes_in, TreesAreCounted, All-head, All-tail, sum_by-cons, new_trees, NewTree, Files, SavedImage, Relocation, Checksums, Devices}
+use Rattle.convert_trees_laws.proofs.Imports.{◌≡◌, ◌≤◌, ◌<◌, ℕ, ◌+◌, ◌*◌, ◌^◌, List, [], ◌∷◌, length, length-append, sym, ap, subst, ◌∙◌, ⊎_elim, arith, get_or, div_ceil, flat_map, range_with_len, div_ceil_times, length-map, length-range_with_len, BLOCK_GROUP_BYTES, EXTENT_BYTES, NODE_BYTES, ROOT_TREE_ROOM, Image, Item, IsNodeSize, node_bound, lengths_of, IsMaking, Making, chunk_slots, new_ids, slots, AllFit, chunk_count, no_trees, nodes_for, other_count, own_count, root_tree_items, FileKeysAscend, ImageKeysAscend, ItemsAreShort, keys, IsOpened, links_in, used_of, chunk_items, AreIds, bound_up, IsSoundPlan, AreSmall, checksum_tree_bytes, chunk_bound, chunk_nodes, chunk_tree_bytes, device_tree_bytes, extent_nodes, extent_tree_bytes, file_tree_bytes, image_tree_bytes, need, nodes_in_unit, other_nodes, tree_bytes, Counts, Options, plans_sound, SumKind, Crc32c, Sha256, AreCounted, PlansSuffice, bytes_in, TreesAreCounted, All-head, All-tail, sum_by-cons, new_trees, NewTree, Files, SavedImage, Relocation, Checksums, Devices}
 use Rattle.std.specs.List.{All, sum_by}
 use Rattle.convert_steps.specs.Standing.{items_of}
 use Rattle.convert_steps.proofs.extent_pieces.Small.{counts_small}

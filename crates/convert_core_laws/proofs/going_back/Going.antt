@@ -1,5 +1,5 @@
 -- A converted volume can be turned back.
-use Rattle.convert_core_laws.proofs.Imports.{◌≡◌, ℕ, ◌*◌, ◌/◌, Bool, true, false, List, length, Option, Some, None, sym, ap, subst, ◌∙◌, arith, Image, IsReserved, is_reserved, Ids, ImageFile, image_in, saved_image, own_map, own_super, AreUnreserved, Super, found, IsMaking, Making, TreeRoots, blocks_inside, NewIdsFit, ChunksMap, ConvertedIsReadable, IsReadableWithTrees, IsNewVolume, used_inside, EntriesAreThere, IsSpareFree, ConvertedVolumesOpen, OpensAsBefore, has, used_length, IsSameVolume, UsedBlocksDecide, superblock, used_of, NamesKeepRules, image_blocks, saved_place, IsInUse, IsReservedFree, ConvertedReservedAreSound, recount_for, TreeNode, blocks_are, Options}
+use Rattle.convert_core_laws.proofs.Imports.{◌≡◌, ℕ, ◌*◌, ◌/◌, Bool, true, false, List, length, Option, Some, None, sym, ap, subst, ◌∙◌, arith, Image, IsReserved, is_reserved, Ids, ImageFile, image_in, saved_image, own_map, own_super, AreUnreserved, Super, found, IsMaking, Making, TreeRoots, blocks_inside, NewIdsFit, ChunksMap, ConvertedIsReadable, IsReadableWithTrees, IsNewVolume, used_inside, EntriesAreThere, IsSpareFree, ConvertedVolumesOpen, OpensAsBefore, has, used_length, IsSameVolume, UsedBlocksDecide, superblock, used_of, NamesKeepRules, image_blocks, saved_place, IsInUse, IsReservedFree, ConvertedReservedAreSound, recount_for, TreeNode, blocks_are, Options, SavedImage}
 use Rattle.reiser_volume.specs.reiser_volume_contents.Laws.{SameUsed}
 use Rattle.reiser_volume.specs.reiser_super.declared.superblock.Super.{Super as OldSuper}
 use Rattle.volume_state.specs.Moved.{AreInPlace}
@@ -14,7 +14,6 @@ use Rattle.convert_core_laws.proofs.going_back.Reserved.{in_use_free}
 use Rattle.convert_core_laws.proofs.going_back.Spare.{lies_apart}
 use Rattle.convert_core_laws.proofs.going_back.Way.{image_is, saved_tree, trees_are}
 use Rattle.convert_core_laws.proofs.reading.Named.{tree_read}
-use Rattle.convert_core.specs.unit_plan.declared.tree.NewTree.TheVariants.{SavedImage}
 
 module _ (o : Options) (ids : Ids) (now : ℕ) (image other : Image) (m : Making) (r : TreeRoots) (nodes : List TreeNode) (v : IsNewVolume o ids now image other m r nodes) (opens : OpensAsBefore image other) where
   abbrev made : IsMaking image m

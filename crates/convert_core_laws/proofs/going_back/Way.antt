@@ -1,10 +1,10 @@
 -- The two file trees of a converted volume.
-use Rattle.convert_core_laws.proofs.Imports.{◌≡◌, ℕ, ◌-◌, ◌^◌, eqb, true, List, [], ◌∷◌, ◌++◌, map, Option, Some, refl, sym, ap, subst, ◌∙◌, arith, Contains, codes, if◌then◌else◌, unwrap_or, flat_map, option_and_then, Contains-append_left, Contains-append_right, ROOT_ITEM, CONV_IMAGE_SUBVOL, FS_TREE, from_map, in_map, Image, make_key, Key, names_tree, dir_indexes, has_root, DirIndex, Item, image_below, image_in, items_at, pointer_in, saved_location as entry_of_saved, saved_image, tree_number, tree_of, own_map, own_super, root_item, roots_on, Super, Root, TreeItem, bare_item, found, MapRange, NodePointer, Tree, IsMaking, Making, made_from, file_tree_items, image_tree_items, TreeRoots, IsReadableWithTrees, ReadsTree, KeepsFileNames, Indexed, entry_to, indexed_in, names_in, next_index, saved_entry, Source, kind_in, ino_of, stat_in, EntriesAreThere, naming_by, namings_by, unplaced, root_first, Kind, Directory, File, ino_of_key, root, same_key, IsDirectory, ObjectStat, kind_by, no_stat, by_inode, volume_items, NamesKeepRules, file_pointer, file_trees, named_by, tree_if, TreeNode, pointer_to_root}
+use Rattle.convert_core_laws.proofs.Imports.{◌≡◌, ℕ, ◌-◌, eqb, true, List, [], ◌∷◌, ◌++◌, Option, Some, ap, ◌∙◌, option_and_then, ROOT_ITEM, CONV_IMAGE_SUBVOL, FS_TREE, Image, Key, names_tree, has_root, image_below, image_in, items_at, pointer_in, saved_location as entry_of_saved, saved_image, tree_of, own_map, own_super, root_item, roots_on, Super, TreeItem, found, MapRange, NodePointer, Tree, IsMaking, Making, file_tree_items, image_tree_items, TreeRoots, IsReadableWithTrees, ReadsTree, KeepsFileNames, EntriesAreThere, NamesKeepRules, file_pointer, file_trees, named_by, tree_if, TreeNode, pointer_to_root, Files, SavedImage}
+use Rattle.btr_reader.specs.Image.{tree_number}
 use Rattle.volume_state.specs.Using.{numbered}
 use Rattle.convert_core_laws.proofs.reading.SavedWay.{HasSavedEntry, pointer_by, saved_there}
 use Rattle.convert_core_laws.proofs.reading.RootKept.{saved_found}
 use Rattle.convert_core_laws.proofs.reading.Named.{tree_read}
-use Rattle.convert_core.specs.unit_plan.declared.tree.NewTree.TheVariants.{Files, SavedImage}
 
 module _ (entries : EntriesAreThere) (names : NamesKeepRules) (image other : Image) (m : Making) (r : TreeRoots) (nodes : List TreeNode) (made : IsMaking image m) (is : IsReadableWithTrees image other m r nodes) where
   abbrev t : Super

@@ -1,11 +1,10 @@
 -- A converted volume opens as it was before.
-use Rattle.convert_core_laws.proofs.Imports.{◌≡◌, inr, ◌<◌, ℕ, ◌^◌, nat_le, nat_lt, Bool, true, false, List, [], ◌∷◌, length, Ok, refl, sym, ap, subst, ◌∙◌, ⊎_elim, arith, Contains, if◌then◌else◌, and_parts, nat_tests, SUPER_BLOCK, SUPER_INFO_OFFSET, SUPER_MAGIC_OFFSET, FS_TREE, format_in, Image, block_at, BtrRefusal, BadBtrfs, Unsupported, SuperCsum, ChecksumType, format, has_bytes_at, has_reiser_magic, Btrfs, Neither, Reiser, Ids, has_root, KeepsNames, BtrfsRowsAreOne, opening_refusals, super_on, tree_of, AreRowsOfBtrfs, IsReadable, own_map, own_super, roots_on, bad_field, failing, field_rules, is_super, super_of, super_refusals, unless_refused, csum_type_of, has_sum, known_kind, super_in, Super, TreeItem, found, ConvertedFilesAreRead, ReadsFiles, BytesAreKept, AreRangesOf, IsMaking, Making, made_from, file_tree_items, TreeRoots, IsNew, HasFsid, NewIdsFit, ConvertedIsReadable, IsReadableWithTrees, SuperblockReads, IsNewVolume, ReadsTree, super_for, ReadsSavedImage, SavedImageIsReadable, AreRowsOf, NamesKeepRules, HasBytes, KeepsBytes, RowsAreKept, AreIds, TreeNode, pointer_to_root, Options, ConvertedVolumesOpen, OpensAsBefore}
+use Rattle.convert_core_laws.proofs.Imports.{◌≡◌, inr, ◌<◌, ℕ, ◌^◌, nat_le, nat_lt, Bool, true, false, List, [], ◌∷◌, length, Ok, refl, sym, ap, subst, ◌∙◌, ⊎_elim, arith, Contains, if◌then◌else◌, and_parts, nat_tests, SUPER_BLOCK, SUPER_INFO_OFFSET, SUPER_MAGIC_OFFSET, FS_TREE, format_in, Image, block_at, BtrRefusal, BadBtrfs, Unsupported, SuperCsum, ChecksumType, format, has_bytes_at, has_reiser_magic, Btrfs, Neither, Reiser, Ids, has_root, KeepsNames, BtrfsRowsAreOne, opening_refusals, super_on, tree_of, AreRowsOfBtrfs, IsReadable, own_map, own_super, roots_on, bad_field, failing, field_rules, is_super, super_of, super_refusals, unless_refused, csum_type_of, has_sum, known_kind, super_in, Super, TreeItem, found, ConvertedFilesAreRead, ReadsFiles, BytesAreKept, AreRangesOf, IsMaking, Making, made_from, file_tree_items, TreeRoots, IsNew, HasFsid, NewIdsFit, ConvertedIsReadable, IsReadableWithTrees, SuperblockReads, IsNewVolume, ReadsTree, super_for, ReadsSavedImage, SavedImageIsReadable, AreRowsOf, NamesKeepRules, HasBytes, KeepsBytes, RowsAreKept, AreIds, TreeNode, pointer_to_root, Options, ConvertedVolumesOpen, OpensAsBefore, Files}
 use Rattle.std.proofs.Common.{codes, is_some}
 use Rattle.btr_reader.specs.Parts.{Tree}
 use Rattle.convert_core.proofs.Wholeness.{blocks_are}
 use Rattle.reiser_volume.specs.fs_rows.Rows.{WholeRow}
 use Rattle.convert_core_laws.proofs.reading.Named.{tree_read}
-use Rattle.convert_core.specs.unit_plan.declared.tree.NewTree.TheVariants.{Files}
 
 -- ---- the format of a disk whose superblock is read
 

@@ -1,5 +1,5 @@
 -- The data of files stays where it is.
-use Rattle.convert_core_laws.proofs.Imports.{ℕ, ◌+◌, ◌<◌, List, subst, FS_TREE, Image, Ids, items_at, own_map, own_super, TreeItem, IsMaking, Making, HasPieces, made_from, file_tree_items, TreeRoots, taken_free, NewIdsFit, ConvertedIsReadable, IsReadableWithTrees, IsNewVolume, ReadsTree, Source, ino_of, FilesAreHeld, root, ObjectKey, Naming, LeadsToObject, volume_items, HasSamePaths, NamesAreKept, TreeNode, pointer_to_root, Options, ConvertedDataStays, IsInPlace, StaysInPlace}
+use Rattle.convert_core_laws.proofs.Imports.{ℕ, ◌+◌, ◌<◌, List, subst, FS_TREE, Image, Ids, items_at, own_map, own_super, TreeItem, IsMaking, Making, HasPieces, made_from, file_tree_items, TreeRoots, taken_free, NewIdsFit, ConvertedIsReadable, IsReadableWithTrees, IsNewVolume, ReadsTree, Source, ino_of, FilesAreHeld, root, ObjectKey, Naming, LeadsToObject, volume_items, HasSamePaths, NamesAreKept, TreeNode, pointer_to_root, Options, ConvertedDataStays, IsInPlace, StaysInPlace, Files}
 use Rattle.reiser_volume.specs.reiser_super.declared.superblock.Super.{Super}
 use Rattle.convert_core.specs.convert_steps.Switch.{IsMirrorOf}
 use Rattle.convert_core.proofs.Putting.{used_not_free}
@@ -9,7 +9,6 @@ use Rattle.convert_core_laws.proofs.reading.SavedWay.{pointer_by}
 use Rattle.convert_core_laws.proofs.soundness.Recounting.{volume_for}
 use Rattle.convert_core_laws.proofs.placement.Files.{blocks_in_place}
 use Rattle.convert_core_laws.proofs.reading.Named.{tree_read}
-use Rattle.convert_core.specs.unit_plan.declared.tree.NewTree.TheVariants.{Files}
 
 module _ (readable : ConvertedIsReadable) (held : FilesAreHeld) (names : NamesAreKept)
     (o : Options) (ids : Ids) (now : ℕ) (image other : Image) (m : Making) (r : TreeRoots) (nodes : List TreeNode) (v : IsNewVolume o ids now image other m r nodes) where

@@ -1,29 +1,6 @@
 -- The trees of the list one by one, and what holds of all trees that have a root item.
-use Rattle.std.proofs.Common.{◌≡◌, ◌∙◌, ℕ, ◌+◌, ◌-◌, ◌≤◌, List, [], ◌∷◌, ◌++◌, take, drop, map, inl, inr, sym, ap, ap₂, arith}
-use Rattle.std.proofs.Math.Seq.{take-add}
-use Rattle.std.proofs.lemmas.List.{drop-drop, map-append}
-use Rattle.std.proofs.lemmas.List.Elements.{All-cons, All-contains, All-nil}
-use Rattle.std.specs.Prelude.{All, Contains}
-use Rattle.convert_core.proofs.extent_pieces.Lists.{all_map}
-use Rattle.convert_core.proofs.space_items.Ascending.{addresses, tree_at}
-use Rattle.convert_core.proofs.convert_steps.Row.{StandsAt, all-with_all, behind_least, each_stands, every_tree, in-with_all}
-use Rattle.convert_core.specs.btr_tree.Roots.{lengths_of}
-use Rattle.convert_core.specs.convert_steps.Making.{Making, slots}
-use Rattle.convert_core.specs.convert_steps.Row.{StandBehind, nodes_behind, slot_behind}
-use Rattle.convert_core.specs.convert_steps.Standing.{NamedTree, TreeRoots, TreesStand, form, items_of, named, named_extents, named_in, named_trees, placed_in, placed_trees, root_from}
-use Rattle.convert_core.specs.convert_steps.declared.trees.PlacedTree.{PlacedTree}
-use Rattle.convert_core.specs.space_items.Nodes.{nodes_of_tree}
-use Rattle.convert_core.specs.space_items.declared.node.TreeNode.{TreeNode}
-use Rattle.convert_core.specs.unit_plan.Trees.{new_trees, tree_number}
-use Rattle.convert_core.specs.unit_plan.declared.tree.NewTree.{NewTree}
-use Rattle.btr_reader.specs.btr_node.Leaf.{Item}
-use Rattle.btr_reader.specs.btr_reader_walk.declared.tree.Form.{Form}
-use Rattle.reiser_volume.proofs.fs_paths.Lists.{in_map}
-use Rattle.reiser_volume.proofs.reiser_bitmap.Ranges.{contains_head}
-use Rattle.reiser_volume.specs.outside.History.{Image}
-use Rattle.btr_reader.specs.btr_super.declared.superblock.Super.{Super}
-use Rattle.btr_reader.specs.btr_reader_walk.declared.map.MapRange.{MapRange}
-use Rattle.convert_core_laws.specs.reading.Opened.{ReadsTree, ReadsTrees}
+use Rattle.convert_core_laws.proofs.Imports.{◌≡◌, ◌∙◌, ℕ, ◌+◌, ◌-◌, ◌≤◌, List, [], ◌∷◌, ◌++◌, take, drop, map, inl, inr, sym, ap, ap₂, arith, take-add, drop-drop, map-append, All-cons, All-contains, All-nil, All, Contains, all_map, addresses, tree_at, StandsAt, all-with_all, behind_least, each_stands, every_tree, in-with_all, lengths_of, Making, slots, StandBehind, nodes_behind, slot_behind, NamedTree, TreeRoots, TreesStand, form, named, named_extents, named_in, named_trees, placed_in, placed_trees, root_from, PlacedTree, nodes_of_tree, TreeNode, new_trees, tree_number, NewTree, Item, Form, in_map, contains_head, Image, Super, MapRange, ReadsTree, ReadsTrees}
+use Rattle.convert_core.specs.convert_steps.Standing.{items_of}
 
 -- nodes behind others
 pub behind : (n i j : ℕ) (list : List ℕ) (xs ys : List TreeNode) → addresses xs ≡ take i (drop n list) → addresses ys ≡ take j (drop (n + i) list) → addresses (xs ++ ys) ≡ take (i + j) (drop n list)

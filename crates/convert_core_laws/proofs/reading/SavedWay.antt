@@ -1,11 +1,10 @@
 -- The way to the saved image of a converted volume.
-use Rattle.convert_core_laws.proofs.Imports.{◌≡◌, ◌<◌, ℕ, ◌-◌, ◌^◌, eqb, true, List, [], ◌∷◌, ◌++◌, map, Option, Some, refl, sym, ap, subst, ◌∙◌, ⊎_elim, arith, Contains, codes, if◌then◌else◌, unwrap_or, flat_map, option_and_then, Contains-append_left, Contains-append_right, ROOT_ITEM, CONV_IMAGE_SUBVOL, FIRST_FREE_OBJECTID, FS_TREE, from_map, in_map, Image, BtrRefusal, Ids, make_key, Key, names_tree, dir_indexes, has_root, DirIndex, after_pointer, after_root, entry_refusals, if_there, image_below, image_in, image_refusals_in, items_at, pointer_in, refusals_below, root_refusals, saved_location as entry_of_saved, tree_number, or_later, tree_of, own_map, own_super, way_refusals, root_item, roots_on, Super, Root, Item, TreeItem, bare_item, found, MapRange, NodePointer, IsMaking, Making, made_from, file_tree_items, image_tree_items, TreeRoots, Indexed, entry_to, indexed_in, names_in, next_index, saved_entry, Source, kind_in, ino_of, stat_in, EntriesAreThere, naming_by, namings_by, unplaced, ImageKeysAscend, root_first, Kind, Directory, File, ino_of_key, root, same_key, IsDirectory, ObjectStat, kind_by, no_stat, by_inode, volume_items, TreeNode, pointer_to_root, Options, IsReadableWithTrees, IsNewVolume, ReadsTree, HasSavedImage, KeepsFileNames, ReadsSavedImage, SavedImageIsReadable}
-use Rattle.btr_reader.specs.Image.{image_from}
+use Rattle.convert_core_laws.proofs.Imports.{◌≡◌, ◌<◌, ℕ, ◌-◌, ◌^◌, eqb, true, List, [], ◌∷◌, ◌++◌, map, Option, Some, refl, sym, ap, subst, ◌∙◌, ⊎_elim, arith, Contains, codes, if◌then◌else◌, unwrap_or, flat_map, option_and_then, Contains-append_left, Contains-append_right, ROOT_ITEM, CONV_IMAGE_SUBVOL, FIRST_FREE_OBJECTID, FS_TREE, from_map, in_map, Image, BtrRefusal, Ids, make_key, Key, names_tree, dir_indexes, has_root, DirIndex, after_pointer, after_root, entry_refusals, if_there, image_below, image_in, image_refusals_in, items_at, pointer_in, refusals_below, root_refusals, saved_location as entry_of_saved, image_from, or_later, tree_of, own_map, own_super, way_refusals, root_item, roots_on, Super, Root, Item, TreeItem, bare_item, found, MapRange, NodePointer, IsMaking, Making, made_from, file_tree_items, image_tree_items, TreeRoots, Indexed, entry_to, indexed_in, names_in, next_index, saved_entry, Source, kind_in, ino_of, stat_in, EntriesAreThere, naming_by, namings_by, unplaced, ImageKeysAscend, root_first, Kind, Directory, File, ino_of_key, root, same_key, IsDirectory, ObjectStat, kind_by, no_stat, by_inode, volume_items, TreeNode, pointer_to_root, Options, IsReadableWithTrees, IsNewVolume, ReadsTree, HasSavedImage, KeepsFileNames, ReadsSavedImage, SavedImageIsReadable, Files, SavedImage}
+use Rattle.btr_reader.specs.Image.{tree_number}
 use Rattle.convert_core_laws.proofs.reading.Reading.{none_of, readable}
 use Rattle.convert_core_laws.proofs.reading.RootKept.{root_sound, saved_found}
 use Rattle.convert_core_laws.proofs.reading.Saved.{has_image}
 use Rattle.convert_core_laws.proofs.reading.Named.{tree_read}
-use Rattle.convert_core.specs.unit_plan.declared.tree.NewTree.TheVariants.{Files, SavedImage}
 
 -- the root directory's entry for the tree of the saved image
 pub record HasSavedEntry (items : List TreeItem) : Type 0 where

@@ -1,17 +1,5 @@
 -- The trees of a recount: which are among them, and what holds of all.
-use Rattle.std.proofs.Common.{◌≡◌, List, ◌∷◌}
-use Rattle.std.proofs.lemmas.List.Elements.{All-cons, All-map}
-use Rattle.std.specs.Prelude.{All, Contains}
-use Rattle.btr_check_rules.specs.Recount.{TreeOn, all_trees}
-use Rattle.convert_core.specs.convert_steps.Making.{Making}
-use Rattle.convert_core.specs.convert_steps.Standing.{NamedTree, TreeRoots, named_extents, named_in, named_trees}
-use Rattle.convert_core.specs.space_items.declared.node.TreeNode.{TreeNode}
-use Rattle.convert_core.specs.unit_plan.declared.tree.NewTree.{NewTree}
-use Rattle.convert_core_laws.specs.reading.Opened.{super_for}
-use Rattle.convert_core_laws.specs.soundness.Recounted.{named_on, recount_for}
-use Rattle.reiser_volume.proofs.fs_paths.Lists.{in_map}
-use Rattle.reiser_volume.proofs.reiser_bitmap.Ranges.{contains_tail}
-use Rattle.reiser_volume.specs.outside.History.{Image}
+use Rattle.convert_core_laws.proofs.Imports.{List, ◌∷◌, All-cons, All-map, All, Contains, TreeOn, all_trees, Making, NamedTree, TreeRoots, named_extents, named_in, named_trees, TreeNode, NewTree, super_for, named_on, recount_for, in_map, contains_tail, Image}
 use Rattle.convert_core_laws.proofs.reading.Named.{every_named, is_named}
 
 module _ (image other : Image) (m : Making) (r : TreeRoots) (nodes : List TreeNode) where

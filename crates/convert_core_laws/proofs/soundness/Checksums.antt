@@ -1,5 +1,5 @@
 -- The checksums of a converted volume are sound.
-use Rattle.convert_core_laws.proofs.Imports.{◌≡◌, ◌≢◌, ◌≤◌, ◌<◌, ℕ, ◌+◌, ◌*◌, ◌/◌, ◌%◌, ◌^◌, Bool, true, false, List, [], map, Option, Some, None, refl, sym, ap, subst, ◌∙◌, ⊎_elim, true≢false, arith, All, AllPairs, Contains, if◌then◌else◌, is_some, ◌↔◌, append-nil, INODE_ITEM, CONV_IMAGE_SUBVOL, CSUM_TREE, FS_TREE, from_flat_map, in_flat_map, Image, Ids, inode_bytes, inode_of, make_key, Inode, Item, IsNodeSize, data_kind, range_of, form_of, has_no_sums, IsExtent, some_data, DataUse, Recount, TreeOn, all_trees, data_uses, recounted_items, uses_in, AreSums, HasBlockSum, AreSumsRight, IsSumItem, WantsSum, sum_count, place, Form, IsMaking, Making, HasPieces, made_from, file_tree_items, image_tree_items, sum_tree_items, TreeRoots, well, blocks_few, NewIdsFit, IsNewVolume, map_for, super_for, SumKind, two_cases, piece_bytes, pieces_of_volume, source_block, Source, inode_in, kind_in, ino_of, FilesAreHeld, InodesAreThere, ImageKeysAscend, File, all_from_contains, ObjectKey, HasBytes, block_sum, sum_items, sums_item, TreeNode, Options, Piece, recount_for, tree_for, ConvertedChecksumsAreSound}
+use Rattle.convert_core_laws.proofs.Imports.{◌≡◌, ◌≢◌, ◌≤◌, ◌<◌, ℕ, ◌+◌, ◌*◌, ◌/◌, ◌%◌, ◌^◌, Bool, true, false, List, [], map, Option, Some, None, refl, sym, ap, subst, ◌∙◌, ⊎_elim, true≢false, arith, All, AllPairs, Contains, if◌then◌else◌, is_some, ◌↔◌, append-nil, INODE_ITEM, CONV_IMAGE_SUBVOL, CSUM_TREE, FS_TREE, from_flat_map, in_flat_map, Image, Ids, inode_bytes, inode_of, make_key, Inode, Item, IsNodeSize, data_kind, range_of, form_of, has_no_sums, IsExtent, some_data, DataUse, Recount, TreeOn, all_trees, data_uses, recounted_items, uses_in, AreSums, HasBlockSum, AreSumsRight, IsSumItem, WantsSum, sum_count, place, Form, IsMaking, Making, HasPieces, made_from, file_tree_items, image_tree_items, sum_tree_items, TreeRoots, well, blocks_few, NewIdsFit, IsNewVolume, map_for, super_for, SumKind, two_cases, piece_bytes, pieces_of_volume, source_block, Source, inode_in, kind_in, ino_of, FilesAreHeld, InodesAreThere, ImageKeysAscend, File, all_from_contains, ObjectKey, HasBytes, block_sum, sum_items, sums_item, TreeNode, Options, Piece, recount_for, tree_for, ConvertedChecksumsAreSound, Files, SavedImage}
 use Rattle.convert_core_laws.proofs.reading.SavedExtents.{AreSources, sources_bytes}
 use Rattle.convert_core_laws.proofs.reading.SavedPieces.{are_sources}
 use Rattle.convert_core_laws.proofs.soundness.AllUses.{span_of, uses_are}
@@ -12,7 +12,6 @@ use Rattle.convert_core_laws.proofs.soundness.Keyed.{all_other, files_rise, save
 use Rattle.convert_core_laws.proofs.soundness.Runs.{Covers}
 use Rattle.convert_core_laws.proofs.soundness.SumItems.{EndsFirst, IsOfPiece, count_of, form_of_item, items_apart, of_piece, piece_covered, sum_of}
 use Rattle.convert_core_laws.proofs.soundness.Among.{tree_there}
-use Rattle.convert_core.specs.unit_plan.declared.tree.NewTree.TheVariants.{Files, SavedImage}
 
 some_same : {A : Type 0} (a b : A) → Some a ≡ Some b → a ≡ b
 some_same a b e = cc

@@ -1,9 +1,5 @@
 -- What each tree of the list is beside the others: its number, and which items it does not have.
-use Rattle.std.proofs.Common.{◌≡◌, ◌≢◌, ◌<◌, ℕ, ◌^◌, arith}
-use Rattle.btrfs_format.specs.declared.object.TheConstants.{CHUNK_TREE, ROOT_TREE, TREE_RELOC}
-use Rattle.convert_core.specs.unit_plan.Trees.{tree_number}
-use Rattle.convert_core.specs.unit_plan.declared.tree.NewTree.{NewTree}
-use Rattle.convert_core.specs.unit_plan.declared.tree.NewTree.TheVariants.{Files, SavedImage, Relocation, Checksums, Devices}
+use Rattle.convert_core_laws.proofs.Imports.{◌≢◌, ◌<◌, ℕ, ◌^◌, arith, CHUNK_TREE, ROOT_TREE, TREE_RELOC, tree_number, NewTree, Files, SavedImage, Relocation, Checksums, Devices}
 
 pub not_chunks : (t : NewTree) → tree_number t ≢ CHUNK_TREE
 not_chunks Files = λ e. omega (arith, e)

@@ -1,11 +1,9 @@
 -- The nodes of a converted volume lie at their slots.
-use Rattle.convert_core_laws.proofs.Imports.{◌≡◌, ◌≢◌, ℕ, suc, ◌+◌, ◌-◌, ◌^◌, List, [], ◌∷◌, length, take, drop, refl, sym, subst, arith, All, Contains, IsPermutation, All-append, All-contains, All-contains_itself, All-cons, All-drop, All-map, All-nil, All-take, All-permutation, IsPermutation-sym, CHUNK_TREE, CONV_IMAGE_SUBVOL, CSUM_TREE, DATA_RELOC_TREE, DEV_TREE, EXTENT_TREE, FS_TREE, ROOT_TREE, Image, Ids, Item, chunk_map, Recount, TreeOn, all_trees, Super, pointer_to, GivesItself, IsSameBy, packed_leaves, tree_levels, level_pointers, lengths_of, pointers_to, Root, agree, TreeEvent, nodes_in, walk_events, identity, MapRange, Form, NodePointer, Making, chunk_slots, new_ids, slots, TreesStand, device_from, extents_from, file_tree_items, form, image_from, image_tree_items, relocation_from, root_from, root_tree_items, sum_tree_items, sums_from, TreeRoots, IsNewVolume, super_for, relocation_items, all_from_contains, chunk_items, device_items, extent_items, TreeNode, TreeStands, pointer_to_root, Options, recount_for, tree_for}
+use Rattle.convert_core_laws.proofs.Imports.{◌≡◌, ◌≢◌, ℕ, suc, ◌+◌, ◌-◌, List, [], ◌∷◌, length, take, drop, refl, sym, subst, arith, All, Contains, IsPermutation, All-append, All-contains, All-contains_itself, All-drop, All-map, All-nil, All-take, All-permutation, IsPermutation-sym, CHUNK_TREE, EXTENT_TREE, ROOT_TREE, Image, Ids, Item, chunk_map, Recount, TreeOn, all_trees, Super, pointer_to, GivesItself, IsSameBy, packed_leaves, tree_levels, level_pointers, lengths_of, pointers_to, Root, agree, TreeEvent, nodes_in, walk_events, identity, MapRange, Form, NodePointer, Making, chunk_slots, new_ids, slots, TreesStand, extents_from, form, root_from, root_tree_items, TreeRoots, IsNewVolume, super_for, all_from_contains, chunk_items, extent_items, TreeNode, TreeStands, pointer_to_root, Options, recount_for, tree_for, tree_number, NewTree}
+use Rattle.convert_core.specs.convert_steps.Standing.{items_of}
 use Rattle.convert_core_laws.proofs.reading.Opening.{maps_chunks}
 use Rattle.convert_core_laws.proofs.soundness.Recounting.{form_is}
 use Rattle.convert_core_laws.proofs.soundness.Trees.{map_is}
-use Rattle.convert_core.specs.convert_steps.Standing.{items_of}
-use Rattle.convert_core.specs.unit_plan.Trees.{tree_number}
-use Rattle.convert_core.specs.unit_plan.declared.tree.NewTree.{NewTree}
 use Rattle.convert_core_laws.proofs.reading.Named.{tree_stands}
 use Rattle.convert_core_laws.proofs.soundness.Among.{extents_in, tree_in, trees_all}
 use Rattle.convert_core_laws.proofs.soundness.Listed.{not_chunks}

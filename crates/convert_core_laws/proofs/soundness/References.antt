@@ -1,5 +1,5 @@
 -- The references of a converted volume are sound: its extent tree is the recount of all nodes and of all uses of data.
-use Rattle.convert_core_laws.proofs.Imports.{◌≡◌, ◌≢◌, ◌⊎◌, ◌≤◌, ◌<◌, ℕ, ◌+◌, ◌-◌, ◌*◌, ◌%◌, ◌^◌, inl, inr, Bool, true, false, List, [], ◌∷◌, length, map, Option, Some, None, refl, sym, ap, subst, ◌∙◌, ⊎_elim, true≢false, arith, AllByRecursion, All, AllPairs, Contains, if◌then◌else◌, is_some, option_map_or, Equal, eq-eqb, All-cons, All-contains, All-map, EXTENT_FLAG_DATA, EXTENT_FLAG_TREE_BLOCK, BLOCK_GROUP_ITEM, EXTENT_ITEM, METADATA_ITEM, CONV_IMAGE_SUBVOL, CSUM_TREE, DATA_RELOC_TREE, DEV_TREE, EXTENT_TREE, FS_TREE, from_map, in_map, keys, Image, Ids, make_key, Key, Item, IsNodeSize, DataUse, Recount, TreeOn, all_trees, data_uses, recounted_items, AreReferences, FitFeatures, HasKey, HasRefs, IsDataItem, IsNodeItem, IsWhole, StandsBefore, is_group, FitsInline, InlineRef, TreeBlock, NodePointer, IsMaking, Making, new_ids, HasPieces, made_from, file_tree_items, image_tree_items, sum_tree_items, TreeRoots, well, NewIdsFit, IsNewVolume, super_for, all_at, two_cases, file_block, source_block, relocation_items, ino_of, FilesAreHeld, ImageKeysAscend, all_from_contains, accepted_is_small, device_items, data_ref, extent_body, extent_items, group_item, hash_of_ref, image_refs, node_item, owner_refs, piece_item, put_refs, used_in, item_cmp, merged, TreeNode, all-merge, append-nil, PlannedChunk, Options, Piece, recount_for, tree_for, ConvertedReferencesAreSound}
+use Rattle.convert_core_laws.proofs.Imports.{◌≡◌, ◌≢◌, ◌⊎◌, ◌≤◌, ◌<◌, ℕ, ◌+◌, ◌-◌, ◌*◌, ◌%◌, ◌^◌, inl, inr, Bool, true, false, List, [], ◌∷◌, length, map, Option, Some, None, refl, sym, ap, subst, ◌∙◌, ⊎_elim, true≢false, arith, AllByRecursion, All, AllPairs, Contains, if◌then◌else◌, is_some, option_map_or, Equal, eq-eqb, All-contains, All-map, EXTENT_FLAG_DATA, EXTENT_FLAG_TREE_BLOCK, BLOCK_GROUP_ITEM, EXTENT_ITEM, METADATA_ITEM, CONV_IMAGE_SUBVOL, EXTENT_TREE, FS_TREE, from_map, in_map, keys, Image, Ids, make_key, Key, Item, IsNodeSize, DataUse, Recount, TreeOn, all_trees, data_uses, recounted_items, AreReferences, FitFeatures, HasKey, HasRefs, IsDataItem, IsNodeItem, IsWhole, StandsBefore, is_group, FitsInline, InlineRef, TreeBlock, NodePointer, IsMaking, Making, HasPieces, made_from, TreeRoots, well, NewIdsFit, IsNewVolume, all_at, two_cases, file_block, source_block, ino_of, FilesAreHeld, ImageKeysAscend, all_from_contains, accepted_is_small, data_ref, extent_body, extent_items, group_item, hash_of_ref, image_refs, node_item, owner_refs, piece_item, put_refs, used_in, item_cmp, merged, TreeNode, all-merge, append-nil, PlannedChunk, Options, Piece, recount_for, ConvertedReferencesAreSound}
 use Rattle.std.specs.Prelude.{nat_lt}
 use Rattle.convert_core_laws.proofs.soundness.AllUses.{from_is, source_low, uses_are}
 use Rattle.convert_core_laws.proofs.soundness.Nodes.{LiesAt, node_lies, of_chunks, of_others}

@@ -1,6 +1,7 @@
 -- The root items and the nodes of a converted volume keep the rules of Linux.
-use Rattle.convert_core_laws.proofs.Imports.{◌≡◌, ◌≢◌, ◌≤◌, ◌<◌, ℕ, suc, ◌+◌, ◌%◌, ◌^◌, ◌-◌, inl, eqb, Bool, true, List, [], ◌∷◌, length, take, drop, refl, sym, ap, arith, length-drop, All, AllPairs, Contains, AllByRecursion, list_any, IsPermutation, All-append, All-cons, All-drop, All-from_recursion, All-map, All-nil, AllPairs-cons, All-permutation, IsPermutation-sym, CONV_IMAGE_SUBVOL, CSUM_TREE, DATA_RELOC_TREE, DEV_TREE, EXTENT_TREE, FIRST_FREE_OBJECTID, FS_TREE, TREE_RELOC, all_from_contains, Image, Ids, Item, IsNodeSize, NodePointer, Super, Recount, TreeOn, all_trees, holds_files, IsRootItem, KeepTreeRules, needed_trees, pointer_to, packed_leaves, tree_levels, level_pointers, lengths_of, pointers_to, Root, TreeStands, Making, chunk_slots, new_ids, slots, TreesStand, device_from, extents_from, file_tree_items, form, image_from, image_tree_items, relocation_from, root_from, root_tree_items, sum_tree_items, sums_from, TreeRoots, relocation_items, device_items, extent_items, root_body, root_dirid, tree_root_item, TreeNode, TreeRoot, Options, NewIdsFit, IsNewVolume, super_for, ConvertedTreesAreSound, recount_for, tree_for}
+use Rattle.convert_core_laws.proofs.Imports.{◌≡◌, ◌≢◌, ◌≤◌, ◌<◌, ℕ, suc, ◌+◌, ◌%◌, ◌^◌, ◌-◌, inl, eqb, Bool, true, List, [], ◌∷◌, length, take, drop, refl, ap, arith, length-drop, All, AllPairs, Contains, list_any, All-append, All-drop, All-from_recursion, All-map, All-nil, All-permutation, IsPermutation-sym, EXTENT_TREE, FIRST_FREE_OBJECTID, TREE_RELOC, all_from_contains, Image, Ids, Item, IsNodeSize, NodePointer, Super, Recount, TreeOn, all_trees, holds_files, IsRootItem, KeepTreeRules, needed_trees, pointer_to, packed_leaves, tree_levels, level_pointers, lengths_of, pointers_to, Root, TreeStands, Making, chunk_slots, new_ids, slots, TreesStand, extents_from, form, root_from, TreeRoots, NamedTree, named_trees, extent_items, root_body, root_dirid, tree_root_item, TreeNode, TreeRoot, Options, NewIdsFit, IsNewVolume, super_for, ConvertedTreesAreSound, recount_for, numbers_ascend, pairs_of, tree_number}
 use Rattle.std.proofs.Common.{if◌then◌else◌}
+use Rattle.convert_core.specs.convert_steps.Standing.{items_of}
 use Rattle.convert_core_laws.proofs.reading.Mapped.{slot_small}
 use Rattle.convert_core_laws.proofs.reading.Numbers.{size_small, slots_few}
 use Rattle.convert_core_laws.proofs.reading.Rooted.{root_reads}
@@ -10,9 +11,6 @@ use Rattle.convert_core_laws.proofs.soundness.Nodes.{AreAt, chunk_at, extents_at
 use Rattle.convert_core_laws.proofs.soundness.Recounting.{generation_is, volume_for}
 use Rattle.convert_core_laws.proofs.soundness.Trees.{trees}
 use Rattle.convert_core_laws.proofs.soundness.Unreserved.{place_whole}
-use Rattle.convert_core.proofs.convert_steps.Row.{numbers_ascend, pairs_of}
-use Rattle.convert_core.specs.convert_steps.Standing.{NamedTree, items_of, named_trees}
-use Rattle.convert_core.specs.unit_plan.Trees.{tree_number}
 use Rattle.convert_core_laws.proofs.reading.Named.{every_named, tree_stands}
 use Rattle.convert_core_laws.proofs.soundness.Among.{extents_in, tree_in, trees_all}
 use Rattle.convert_core_laws.proofs.soundness.Listed.{settled}

@@ -1,15 +1,11 @@
 -- Each tree of a converted volume is there, and its bootstrap array holds the system chunks.
-use Rattle.convert_core_laws.proofs.Imports.{◌≡◌, ◌≤◌, ◌<◌, ℕ, zero, suc, ◌+◌, ◌^◌, ◌-◌, ◌&&◌, ◌||◌, eqb, Bool, true, false, not, List, [], ◌∷◌, ◌++◌, length, get_or, map, refl, sym, ap, subst, ◌∙◌, ⊎_elim, arith, All, AllPairs, Contains, list_any, map-append, All-from_recursion, Contains-append_cases, ROOT_ITEM, CHUNK_TREE, CONV_IMAGE_SUBVOL, CSUM_TREE, DATA_RELOC_TREE, DEV_TREE, EXTENT_TREE, FS_TREE, ROOT_TREE, from_filter, from_map, in_filter, in_map, Image, Ids, has_root, is_root_of, Item, system_kind, IsBtrfsOpened, boot_chunks, boot_list, chunk_map, chunk_tree, form_of, root_tree, ChunkAt, IsRooted, IsTreeOn, Recount, TreeOn, chunks_on, root_items_on, AreTrees, KeepTreeRules, Super, GivesItself, Root, TreeItem, nodes_in, walk_events, IsTree, bare_item, MapRange, Form, NodePointer, IsMaking, Making, chunk_slots, new_ids, TreesStand, file_tree_items, form, image_tree_items, sum_tree_items, relocation_items, extent_items, TreeRoots, is_system_role, new_super, MapsChunks, IsNewVolume, ReadsTree, ReadsTrees, boot_part, chunk_at, map_for, other_part, super_for, two_cases, all_from_contains, chunk_items, chunk_kind, device_items, TreeNode, pointer_to_root, IsChunk, role_of, usable_end, PlannedChunk, Role, System, Metadata, Data, Options, all_at, recount_for, tree_for, trees_for}
+use Rattle.convert_core_laws.proofs.Imports.{◌≡◌, ◌≤◌, ◌<◌, ℕ, ◌+◌, ◌-◌, ◌&&◌, ◌||◌, eqb, Bool, true, false, not, List, [], ◌∷◌, ◌++◌, map, refl, sym, ap, subst, ◌∙◌, ⊎_elim, arith, All, AllPairs, Contains, list_any, map-append, Contains-append_cases, All-map, ROOT_ITEM, CHUNK_TREE, DATA_RELOC_TREE, ROOT_TREE, from_filter, from_map, in_filter, in_map, Image, Ids, has_root, is_root_of, Item, system_kind, IsBtrfsOpened, boot_chunks, boot_list, chunk_map, chunk_tree, form_of, root_tree, ChunkAt, IsRooted, IsTreeOn, Recount, TreeOn, chunks_on, root_items_on, AreTrees, KeepTreeRules, Super, GivesItself, Root, TreeItem, nodes_in, walk_events, IsTree, bare_item, MapRange, Form, NodePointer, IsMaking, Making, chunk_slots, new_ids, TreesStand, form, TreeRoots, named_trees, is_system_role, new_super, MapsChunks, IsNewVolume, ReadsTree, ReadsTrees, boot_part, chunk_at, map_for, other_part, super_for, two_cases, all_from_contains, chunk_items, chunk_kind, TreeNode, pointer_to_root, IsChunk, role_of, usable_end, PlannedChunk, Role, System, Metadata, Data, Options, all_at, recount_for, tree_for, trees_for, named_on, numbers_ascend, pairs_of}
 use Rattle.convert_core_laws.proofs.reading.Opening.{maps_chunks, opened}
 use Rattle.convert_core_laws.proofs.reading.Reading.{all_read}
 use Rattle.convert_core_laws.proofs.reading.Stood.{IsRead, read_by}
 use Rattle.convert_core_laws.proofs.soundness.ChunkList.{Known, chunks_added}
 use Rattle.convert_core_laws.proofs.soundness.Recounting.{form_is}
 use Rattle.convert_core_laws.proofs.soundness.Stripes.{small}
-use Rattle.std.proofs.lemmas.List.Elements.{All-map}
-use Rattle.convert_core.proofs.convert_steps.Row.{numbers_ascend, pairs_of}
-use Rattle.convert_core.specs.convert_steps.Standing.{named_trees}
-use Rattle.convert_core_laws.specs.soundness.Recounted.{named_on}
 
 -- ---- numbers of trees
 

@@ -1,12 +1,11 @@
 -- Each piece of data is used by a tree.
-use Rattle.convert_core_laws.proofs.Imports.{◌≡◌, ◌<◌, ℕ, ◌*◌, ◌^◌, eqb, Bool, true, false, List, [], ◌∷◌, filter, Option, Some, None, refl, sym, ap, subst, ◌∙◌, arith, Contains, if◌then◌else◌, is_some, AllByRecursion, option_map_or, eq-eqb, Contains-append_right, CONV_IMAGE_SUBVOL, FS_TREE, from_filter, in_filter, in_flat_map, in_map, keys, Image, file_extent_bytes, file_extent_of, Item, IsNodeSize, DataUse, IsData, Recount, TreeOn, all_trees, data_uses, use_in, uses_in, IsMaking, Making, HasExtents, HasPieces, made_from, file_tree_items, image_tree_items, TreeRoots, super_for, numbered, extents_at, file_block, is_owned_by, pieces_of, pieces_of_volume, piece_bytes, source_block, image_head, image_items, Source, file_extent_items, inline_in, ino_of, size_in, fs_tree_items, FilesAreHeld, can_move, has_bytes, extent_item, inline_extent, regular_extent, target_bytes, items_of, ascending_filter, contains_head, contains_tail, ObjectKey, TreeNode, Piece, recount_for, tree_for}
+use Rattle.convert_core_laws.proofs.Imports.{◌≡◌, ◌<◌, ℕ, ◌*◌, ◌^◌, eqb, Bool, true, false, List, [], ◌∷◌, filter, Option, Some, None, refl, sym, ap, subst, ◌∙◌, arith, Contains, if◌then◌else◌, is_some, AllByRecursion, option_map_or, eq-eqb, Contains-append_right, CONV_IMAGE_SUBVOL, FS_TREE, from_filter, in_filter, in_flat_map, in_map, keys, Image, file_extent_bytes, file_extent_of, Item, IsNodeSize, DataUse, IsData, Recount, TreeOn, all_trees, data_uses, use_in, uses_in, IsMaking, Making, HasExtents, HasPieces, made_from, file_tree_items, image_tree_items, TreeRoots, super_for, numbered, extents_at, file_block, is_owned_by, pieces_of, pieces_of_volume, piece_bytes, source_block, image_head, image_items, Source, file_extent_items, inline_in, ino_of, size_in, fs_tree_items, FilesAreHeld, can_move, has_bytes, extent_item, inline_extent, regular_extent, target_bytes, items_of, ascending_filter, contains_head, contains_tail, ObjectKey, TreeNode, Piece, recount_for, tree_for, Files, SavedImage}
 use Rattle.convert_core_laws.proofs.Owned.{extents_found}
 use Rattle.convert_core_laws.proofs.Pieces.{one_of_inode}
 use Rattle.convert_core_laws.proofs.ByteReading.{is_extent}
 use Rattle.convert_core_laws.proofs.soundness.AllUses.{from_is, source_low, span_of}
 use Rattle.convert_core_laws.proofs.soundness.Uses.{owner_low, piece_use, use_at, uses_of}
 use Rattle.convert_core_laws.proofs.soundness.Among.{tree_there}
-use Rattle.convert_core.specs.unit_plan.declared.tree.NewTree.TheVariants.{Files, SavedImage}
 
 all_self : {X : Type 0} (P : X → Type 0) (xs : List X) → ((x : X) → Contains xs x → P x) → AllByRecursion P xs
 all_self P [] each = tt

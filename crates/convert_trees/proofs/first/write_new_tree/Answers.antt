@@ -1,4 +1,4 @@
-use Rattle.convert_trees.proofs.Imports.{◌^◌, ◌<◌, arith}
+use Rattle.convert_trees.proofs.Imports.{arith}
 use Rattle.convert_trees.proofs.first.write_new_tree.Goals as goal
 
 pub returns-Files-clause-tree : goal.returns-Files-clause-tree

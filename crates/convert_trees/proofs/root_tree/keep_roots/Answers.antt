@@ -1,4 +1,4 @@
-use Rattle.convert_trees.proofs.Imports.{◌≡◌, ◌∙◌, ℕ, ◌+◌, ◌-◌, ◌≤◌, ◌++◌, List, length, take, drop, refl, sym, ap, subst, arith, All, length-drop, length-take, ROOT_TREE, Item, IsNodeSize, tree_nodes, lengths_of, NodeForm, root_items_fit, roomy, nodes_of_tree, told_roots, ascends}
+use Rattle.convert_trees.proofs.Imports.{◌≡◌, ◌∙◌, ℕ, ◌+◌, ◌-◌, ◌≤◌, ◌++◌, List, length, take, drop, sym, ap, subst, arith, All, length-drop, length-take, ROOT_TREE, Item, IsNodeSize, tree_nodes, lengths_of, NodeForm, root_items_fit, roomy, nodes_of_tree, told_roots, ascends}
 use Rattle.convert_trees.proofs.Adding.{handed}
 use Rattle.convert_trees.proofs.Rooted.{root_lengths}
 use Rattle.convert_trees.proofs.root_tree.keep_roots.Goals as goal

@@ -1,4 +1,4 @@
-use Rattle.convert_trees.proofs.Imports.{◌≡◌, inr, ℕ, refl, sym, ap, subst, arith, reads, writes_then, IsNodeSize, NodeForm, AddsLast, saved_in}
+use Rattle.convert_trees.proofs.Imports.{◌≡◌, inr, ℕ, refl, ap, subst, arith, reads, writes_then, IsNodeSize, NodeForm, AddsLast, saved_in}
 use Rattle.convert_trees.proofs.Adding.{all_of_list, failed}
 use Rattle.convert_trees.proofs.Behind.{IsInRest, later_by}
 use Rattle.convert_trees.proofs.Front.{kept_inside_so, kept_only, kept_serve_so, later_only}

@@ -1,4 +1,4 @@
-use Rattle.convert_trees.proofs.Imports.{◌≡◌, ◌∙◌, List, [], get_or, map, drop, sym, ap, arith, drop_all, drop_more, TreeRoot, with_all, told_root, PlacedTree}
+use Rattle.convert_trees.proofs.Imports.{◌∙◌, List, [], map, drop, sym, ap, arith, drop_all, drop_more, TreeRoot, with_all, told_root, PlacedTree}
 use Rattle.convert_trees.proofs.roots.told_roots.Goals as goal
 
 pub loop-one-preserved : goal.loop-one-preserved

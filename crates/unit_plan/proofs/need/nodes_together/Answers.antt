@@ -1,4 +1,4 @@
-use Rattle.unit_plan.proofs.Imports.{◌≡◌, ◌≤◌, ◌∙◌, ℕ, List, ap, arith, take_all, sum_by, node_bound, tree_bytes}
+use Rattle.unit_plan.proofs.Imports.{◌∙◌, ℕ, List, ap, arith, take_all, sum_by, node_bound, tree_bytes}
 use Rattle.unit_plan.specs.declared.tree.NewTree.{NewTree}
 use Rattle.unit_plan.proofs.Lists.{sum_next}
 use Rattle.unit_plan.proofs.need.nodes_together.Goals as goal
