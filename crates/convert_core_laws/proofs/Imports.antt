@@ -35,7 +35,7 @@ pub use Rattle.btr_reader.proofs.ArrayBack.{arrays_read_back, chunk_made}
 pub use Rattle.btr_reader.proofs.btr_keys.Records.{dir_items_read_back, extrefs_read_back, file_extents_read_back, inode_refs_read_back, inodes_read_back}
 pub use Rattle.btr_reader.proofs.btr_space_items.Records.{block_groups_read_back, dev_extents_read_back, devices_read_back, extent_heads_read_back, root_items_read_back, root_refs_read_back}
 pub use Rattle.btr_reader.proofs.btr_super.SumNumbers.{known-number, number-small}
-pub use Rattle.btr_reader.specs.Apart.{AreExtentsApart, AreNodesApart, IsSpareFree, IsVolumeApart, boot_map, is_spare, is_spare_in}
+pub use Rattle.btr_reader.specs.Apart.{AreExtentsApart, AreNodesApart, IsApart, IsContentApart, IsSpareFree, IsVolumeApart, boot_map, is_spare, is_spare_in, root_of, saved_tree}
 pub use Rattle.btr_reader.specs.Chunks.{beside_refusals, chunk_in, chunk_item_refusals, chunk_refusals, chunks_refusals, data_kind, is_read_kind, items_refusals, lies_on, new_chunk, overlap, range_of, same_body, same_chunk, same_mirror, same_stripe, stripes_of, system_kind, with_chunk, with_items}
 pub use Rattle.btr_reader.specs.Image.{ImageFile, after_pointer, after_root, block_by_extent, content_block, entry_named, entry_refusals, file_if_image, file_refusals, if_there, image_at, image_below, image_entry, image_from, image_in, image_place, image_refusals_in, index_refusals, index_refusals_at, inode_number, is_called, is_image, is_inline, is_root_directory, items_at, location_refusals, name_refusals, own_index_refusals, own_refusals, pointer_in, refusals_below, root_refusals, saved_image, saved_location, twice_refusals}
 pub use Rattle.btr_reader.specs.Laws.{BtrfsRowsAreOne, FitsArray, array_entry}
@@ -73,7 +73,7 @@ pub use Rattle.btr_reader.specs.btr_reader_walk.Events.{TreeEvent, TreeItem, may
 unfoldable pub use Rattle.btr_reader.specs.btr_reader_walk.Events.{node_events}
 pub use Rattle.btr_reader.specs.btr_reader_walk.Map.{holds, identity, place, second_place}
 pub use Rattle.btr_reader.specs.btr_reader_walk.Tree.{IsTree, bare_item, leaf_items, tree_refusals, when_sound}
-pub use Rattle.btr_reader.specs.btr_reader_walk.Walks.{found, wrong}
+pub use Rattle.btr_reader.specs.btr_reader_walk.Walks.{found, met, wrong}
 pub use Rattle.btr_reader.specs.btr_reader_walk.declared.map.MapRange.{MapRange}
 pub use Rattle.btr_reader.specs.btr_reader_walk.declared.tree.Form.{Form}
 pub use Rattle.btr_reader.specs.btr_reader_walk.declared.tree.NodePointer.{NodePointer}
@@ -139,7 +139,7 @@ pub use Rattle.convert_core.specs.convert_options.declared.options.Options.{Opti
 pub use Rattle.convert_core.specs.convert_steps.Making.{IsMaking, Making, chunk_slots, fsid_by, label_by, label_field, new_ids, saved_index, slots}
 pub use Rattle.convert_core.specs.convert_steps.Row.{StandBehind, nodes_behind, slot_behind}
 pub use Rattle.convert_core.specs.convert_steps.Source.{ComesFrom, HasExtents, HasPieces, HoldFiles, in_piece, made_from}
-pub use Rattle.convert_core.specs.convert_steps.Standing.{NamedTree, TreeRoots, TreesStand, extents_from, file_tree_items, form, image_tree_items, named, named_extents, named_in, named_trees, nodes_from, nodes_of_others, placed_in, placed_trees, root_from, root_tree_items, sum_tree_items, used_bytes}
+pub use Rattle.convert_core.specs.convert_steps.Standing.{NamedTree, TreeRoots, TreesStand, extents_from, file_tree_items, form, image_tree_items, named, named_extents, named_in, named_trees, nodes_from, nodes_of_others, placed_in, placed_trees, root_from, root_tree_items, rooted_trees, sum_tree_items, used_bytes}
 pub use Rattle.convert_core.specs.convert_steps.Superblock.{boot_bytes, features, is_system_role, record_bytes}
 unfoldable pub use Rattle.convert_core.specs.convert_steps.Superblock.{new_super}
 pub use Rattle.convert_core.specs.convert_steps.declared.trees.PlacedTree.{PlacedTree}
@@ -256,4 +256,4 @@ pub use Rattle.reiser_volume.specs.vol_block.declared.ids.Ids.{Ids}
 pub use Rattle.vol_block.specs.declared.mode.TheConstants.{DIRECTORY_MODE, IMAGE_MODE}
 pub use Rattle.volume_state.specs.Saved.{block_or_hole, file_blocks, place_by_file, saved_file, saved_place}
 unfoldable pub use Rattle.volume_state.specs.Saved.{image_blocks}
-pub use Rattle.volume_state.specs.Using.{HasPlace, HoldsExtent, HoldsNodeOf, HoldsPartOf, IsInUse, IsReservedFree, chunk_node, content_range, file_part, file_pointer, file_trees, named_by, root_node, tree_if}
+pub use Rattle.volume_state.specs.Using.{HasPlace, HoldsExtent, HoldsNodeOf, HoldsPartOf, IsInUse, IsReservedFree, LieIn, chunk_node, content_range, file_part, file_pointer, file_trees, item_range, named_by, root_node, tree_if}

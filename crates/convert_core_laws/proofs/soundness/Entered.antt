@@ -1,5 +1,5 @@
 -- What the entries of the file tree lead to is there, and so is what the root tree tells of the saved image's tree.
-use Rattle.convert_core_laws.proofs.Imports.{◌≡◌, ◌<◌, ℕ, ◌^◌, Bool, true, false, List, [], ◌∷◌, map, Some, refl, sym, ap, subst, ◌∙◌, ⊎_elim, true≢false, arith, Contains-append_cases, ROOT_BACKREF, ROOT_ITEM, ROOT_REF, CONV_IMAGE_SUBVOL, FIRST_FREE_OBJECTID, FS_TREE, keys, Image, inode_bytes, make_key, Item, AreTreeNames, IndexEntry, IsThere, IsTreeEntry, names_inode_item, root_refs_read_back, NodePointer, IsMaking, Making, new_ids, saved_index, HasPieces, root_tree_items, TreeRoots, IndexedLink as Link, Indexed, indexed, names_in, next_index, saved_entry, Source, inode_in, kind_in, ino_of, index_small, FilesAreHeld, InodesAreThere, Kind, Directory, File, Symlink, Character, Block, Fifo, Socket, Subvolume, from_flat_map, from_map, head_or_tail, saved_name, root, same_key, ObjectKey, same_key-true, HasBytes, good_link, root_number, item_cmp, other_root_items, tree_root_item, saved_ref}
+use Rattle.convert_core_laws.proofs.Imports.{◌≡◌, ◌<◌, ℕ, ◌^◌, Bool, true, false, List, [], ◌∷◌, map, Some, refl, sym, ap, subst, ◌∙◌, ⊎_elim, true≢false, arith, Contains-append_cases, ROOT_BACKREF, ROOT_ITEM, ROOT_REF, CONV_IMAGE_SUBVOL, FIRST_FREE_OBJECTID, FS_TREE, keys, Image, inode_bytes, make_key, Item, AreTreeNames, IndexEntry, IsThere, IsTreeEntry, names_inode_item, root_refs_read_back, NodePointer, IsMaking, Making, new_ids, saved_index, HasPieces, root_tree_items, TreeRoots, rooted_trees as trees_listed, IndexedLink as Link, Indexed, indexed, names_in, next_index, saved_entry, Source, inode_in, kind_in, ino_of, index_small, FilesAreHeld, InodesAreThere, Kind, Directory, File, Symlink, Character, Block, Fifo, Socket, Subvolume, from_flat_map, from_map, head_or_tail, saved_name, root, same_key, ObjectKey, same_key-true, HasBytes, good_link, root_number, item_cmp, other_root_items, tree_root_item, saved_ref}
 use Rattle.std.proofs.Common.{flat_map, Contains, if◌then◌else◌}
 use Rattle.btr_reader.specs.btr_space_items.RootRef.{RootRefValue, root_ref_head, root_ref_of}
 use Rattle.convert_core_laws.proofs.soundness.Flags.{inode_there}
@@ -10,7 +10,6 @@ use Rattle.convert_core_laws.proofs.soundness.Inodes.{inodes_told, tree}
 use Rattle.convert_core_laws.proofs.soundness.Names.{from_order, is_in, objects, same_names, tells_tree}
 use Rattle.convert_core_laws.proofs.soundness.Objects.{indexes, link_among, listed, names, s}
 use Rattle.convert_core_laws.proofs.soundness.Telling.{index_by}
-use Rattle.convert_core.specs.convert_steps.Standing.{rooted_trees as trees_listed}
 
 -- ---- the root tree
 
