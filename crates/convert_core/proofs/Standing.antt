@@ -1,11 +1,10 @@
 -- What stands on a disk goes on standing while none of its blocks is written.
 use Rattle.convert_core.proofs.Imports.{◌≡◌, ◌∙◌, ◌⊎◌, inl, inr, ℕ, ◌+◌, ◌-◌, ◌<◌, ◌≤◌, List, [], ◌++◌, length, take, drop, sym, ap, arith, length-drop, ◌∷◌, refl, Contains, if◌then◌else◌, CHUNK_TREE, EXTENT_TREE, ROOT_TREE, Image, block_at, Item, IsInSlots, Making, new_ids, chunk_slots, slots, HoldMoved, chunk_items, TreeNode, Piece, StandsConverted, TreeRoots, TreesStand, extents_from, form, items_of, nodes_from, placed_trees, root_from, root_tree_items, sum_tree_items}
-use Rattle.convert_steps.proofs.Row.{nodes_by, stand_by}
+use Rattle.convert_steps.proofs.Row.{nodes_by, stand_by, items_by}
 use Rattle.convert_steps.specs.Row.{StandBehind}
 use Rattle.convert_steps.specs.declared.trees.PlacedTree.{PlacedTree}
 use Rattle.unit_plan.specs.Trees.{tree_number}
 use Rattle.unit_plan.specs.declared.tree.NewTree.{NewTree}
-use Rattle.unit_plan.specs.declared.tree.NewTree.TheVariants.{Files, SavedImage, Relocation, Checksums, Devices}
 use Rattle.std.proofs.lemmas.List.{get_or-drop}
 use Rattle.unit_plan.specs.btr_tree.Roots.{lengths_of}
 use Rattle.unit_plan.specs.btr_tree.declared.climb.Root.{Root}
@@ -79,11 +78,7 @@ module _ (image old new : Image) (m : Making) where
 
 -- the items with the checksums of another disk, where they are the same
 items_same : (image mid third : Image) (m : Making) → sum_tree_items third m ≡ sum_tree_items mid m → (t : NewTree) → items_of image mid m t ≡ items_of image third m t
-items_same image mid third m same Files = refl
-items_same image mid third m same SavedImage = refl
-items_same image mid third m same Relocation = refl
-items_same image mid third m same Checksums = sym same
-items_same image mid third m same Devices = refl
+items_same image mid third m same t = items_by m.volume m.options (new_ids m) m.now m.pieces m.chunks image image mid third refl (sym same) t
 
 pub other_sums : (image mid third new : Image) (m : Making) (r : TreeRoots) (nodes : List TreeNode) → sum_tree_items third m ≡ sum_tree_items mid m
     → TreesStand image mid new m r nodes → TreesStand image third new m r nodes

@@ -6,7 +6,7 @@ use Rattle.unit_plan.specs.declared.tree.NewTree.TheVariants.{Files, SavedImage,
 use Rattle.btr_tree.specs.declared.climb.Root.{Root}
 use Rattle.btr_tree_writer.proofs.btr_item_list.Grouping.{smaller}
 use Rattle.extent_pieces.proofs.Lists.{pairs_head, pairs_tail}
-use Rattle.convert_steps.specs.Standing.{told_root, told_roots}
+use Rattle.convert_steps.specs.Standing.{told_root, told_roots, new_tree_items}
 use Rattle.space_items.proofs.Levels.{map-map}
 use Rattle.space_items.specs.declared.node.TreeRoot.{TreeRoot}
 use Rattle.std.proofs.lemmas.List.Kept.{AllPairs-cons}
@@ -21,6 +21,16 @@ use Rattle.space_items.specs.Nodes.{nodes_of_tree}
 use Rattle.space_items.specs.declared.node.TreeNode.{TreeNode}
 use Rattle.unit_plan.specs.Trees.{new_trees, tree_number}
 use Rattle.unit_plan.specs.declared.tree.NewTree.{NewTree}
+use Rattle.std.proofs.lemmas.List.Elements.{All-contains}
+use Rattle.reiser_volume.proofs.fs_paths.Lists.{in_map}
+use Rattle.command_answers.specs.vol_block.declared.ids.Ids.{Ids}
+use Rattle.convert_options.specs.declared.options.Options.{Options}
+use Rattle.convert_steps.specs.Source.{made_from}
+use Rattle.file_items.specs.Tree.{fs_tree_items}
+use Rattle.reiser_volume.specs.declared.volume.Volume.{Volume}
+use Rattle.space_items.specs.Sums.{sum_items}
+use Rattle.unit_plan.specs.declared.chunk.PlannedChunk.{PlannedChunk}
+use Rattle.unit_plan.specs.declared.piece.Piece.{Piece}
 
 -- ---- trees one behind the other
 
@@ -174,19 +184,34 @@ every_tree Relocation = (2, omega arith, refl)
 every_tree Checksums = (3, omega arith, refl)
 every_tree Devices = (4, omega arith, refl)
 
--- ---- what is tested of all pairs
-
-abbrev each : (ℕ → Bool) → List ℕ → Bool
+-- what is tested of each number
+abbrev pub each : (ℕ → Bool) → List ℕ → Bool
 each p [] = true
 each p (x ∷ list) = p x && each p list
-
-abbrev pairwise : (ℕ → ℕ → Bool) → List ℕ → Bool
-pairwise p [] = true
-pairwise p (x ∷ list) = each (p x) list && pairwise p list
 
 each_holds : (p : ℕ → Bool) (list : List ℕ) → each p list ≡ true → All (λ a. p a ≡ true) list
 each_holds p [] is = All-nil (λ (a : ℕ). p a ≡ true)
 each_holds p (x ∷ list) is = let both = and_parts (p x) (each p list) is in All-cons (λ (a : ℕ). p a ≡ true) x list both.0 (each_holds p list both.1)
+
+-- what holds of each number holds of each tree's
+pub number_test : (test : ℕ → Bool) → each test (map tree_number new_trees) ≡ true → (t : NewTree) → test (tree_number t) ≡ true
+number_test test is t = All-contains (λ (n : ℕ). test n ≡ true) (map tree_number new_trees) (tree_number t) (each_holds test (map tree_number new_trees) is) (in_map tree_number new_trees t (every_tree t))
+
+-- The items go by the image of the volume in those of the file tree alone, and by that of the data in the checksums.
+pub items_by : (volume : Volume) (o : Options) (ids : Ids) (now : ℕ) (pieces : List Piece) (chunks : List PlannedChunk) (image image' other other' : Image)
+    → fs_tree_items (made_from volume image o pieces) ≡ fs_tree_items (made_from volume image' o pieces) → (if o.datasum then sum_items o.sums other pieces else []) ≡ (if o.datasum then sum_items o.sums other' pieces else [])
+    → (t : NewTree) → new_tree_items volume o ids now pieces chunks image other t ≡ new_tree_items volume o ids now pieces chunks image' other' t
+items_by volume o ids now pieces chunks image image' other other' files sums Files = files
+items_by volume o ids now pieces chunks image image' other other' files sums SavedImage = refl
+items_by volume o ids now pieces chunks image image' other other' files sums Relocation = refl
+items_by volume o ids now pieces chunks image image' other other' files sums Checksums = sums
+items_by volume o ids now pieces chunks image image' other other' files sums Devices = refl
+
+-- ---- what is tested of all pairs
+
+abbrev pairwise : (ℕ → ℕ → Bool) → List ℕ → Bool
+pairwise p [] = true
+pairwise p (x ∷ list) = each (p x) list && pairwise p list
 
 pairs_hold : (p : ℕ → ℕ → Bool) (list : List ℕ) → pairwise p list ≡ true → AllPairs (λ a b. p a b ≡ true) list
 pairs_hold p [] is = λ i j d less inside. absurd (omega (arith, inside))

@@ -1,11 +1,12 @@
 -- All trees stand in the end.
-use Rattle.convert_trees.proofs.Imports.{◌≡◌, ◌∙◌, ℕ, ◌+◌, ◌≤◌, ◌++◌, ◌∷◌, Bool, List, [], if◌then◌else◌, map, take, drop, refl, sym, ap, ap₂, subst, arith, ◌==◌, true, false, not, All, AllPairs, All-head, All-tail, CHUNK_TREE, EXTENT_TREE, ROOT_TREE, Image, History, reads, WritesOnly, Item, IsNodeSize, AreSlots, lengths_of, IsInSlots, Root, Making, chunk_slots, new_ids, slots, IsFor, form, TreeRoots, TreesStand, items_of, no_root, placed_trees, roots_told, Volume, chunk_items, extent_items, merged_nodes, nodes_of_tree, TreeNode, TreeStands, NodeForm, Trees, AreUnitsApart, node_places, PlannedChunk, Options, Piece, Plan, Ids, Adds, first_items, AddsRow, AddsLast, root_count, saved_in, slots_needed, items_of_root, eq-eqb, pairs_head, pairs_tail, new_trees, tree_number, NewTree, Files, SavedImage, Relocation, Checksums, Devices, nodes_by, numbers_apart, stand_by, StandBehind, nodes_behind, slot_behind, NewRoots, PlacedTree}
+use Rattle.convert_trees.proofs.Imports.{◌≡◌, ◌∙◌, ℕ, ◌+◌, ◌≤◌, ◌++◌, ◌∷◌, Bool, List, [], if◌then◌else◌, map, take, drop, refl, sym, ap, ap₂, subst, arith, ◌==◌, true, false, not, All, AllPairs, All-head, All-tail, CHUNK_TREE, EXTENT_TREE, ROOT_TREE, Image, History, reads, WritesOnly, Item, IsNodeSize, AreSlots, lengths_of, IsInSlots, Root, Making, chunk_slots, new_ids, slots, IsFor, form, TreeRoots, TreesStand, items_of, no_root, placed_trees, roots_told, Volume, chunk_items, extent_items, merged_nodes, nodes_of_tree, TreeNode, TreeStands, NodeForm, Trees, AreUnitsApart, node_places, PlannedChunk, Options, Piece, Plan, Ids, Adds, first_items, AddsRow, AddsLast, root_count, saved_in, slots_needed, items_of_root, eq-eqb, pairs_head, pairs_tail, new_trees, tree_number, NewTree, nodes_by, numbers_apart, stand_by, StandBehind, nodes_behind, slot_behind, NewRoots, PlacedTree}
 use Rattle.convert_trees.proofs.Behind.{IsInRest, row_is, row_with, writes_behind}
 use Rattle.convert_trees.proofs.Front.{in_front}
 use Rattle.convert_trees.proofs.Opening.{files_in}
 use Rattle.convert_trees.proofs.Given.{node_form}
 use Rattle.convert_trees.proofs.Going.{Goes, goes_later, row_stands, stands_beside}
 use Rattle.convert_trees.proofs.Untouched.{units_apart}
+use Rattle.convert_steps.proofs.Row.{items_by}
 
 -- ---- which tree has which root
 
@@ -39,7 +40,7 @@ placed_are (p ∷ placed) apart =
     ∙ placed_are placed (pairs_tail (λ (a b : ℕ). not (a == b) ≡ true) (tree_number p.tree) (map tree_number (map (λ (q : PlacedTree). q.tree) placed)) apart))
 
 -- all trees, where these were written first
-abbrev pub roots_by : List PlacedTree → Root → NewRoots → TreeRoots
+abbrev roots_by : List PlacedTree → Root → NewRoots → TreeRoots
 roots_by placed extents t = record { chunk = t.chunk; tree = root_in placed; root = t.root; extents = extents }
 
 placed_is : (placed : List PlacedTree) (extents : Root) (t : NewRoots) → map (λ p. p.tree) placed ≡ new_trees → placed_trees (roots_by placed extents t) ≡ placed
@@ -91,11 +92,7 @@ module _ (image other : Image) (m : Making) (chunk_row chunk_end row end : Trees
 
   -- the items are those of the volume as it was
   items_are : (u : NewTree) → from_disk u ≡ items_of image other m u
-  items_are Files = ends.files
-  items_are SavedImage = refl
-  items_are Relocation = refl
-  items_are Checksums = refl
-  items_are Devices = refl
+  items_are u = items_by m.volume m.options (new_ids m) m.now m.pieces m.chunks other image other other ends.files refl u
 
   adds : AddsRow (reads h₂) empty end from_disk placed
   adds = subst (λ (x : Trees). AddsRow (reads h₂) x end from_disk placed) ends.row_fresh ends.row_adds

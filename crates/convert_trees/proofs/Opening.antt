@@ -1,5 +1,5 @@
 -- The trees that are written first: what each needs is there, and all stand in the end.
-use Rattle.convert_trees.proofs.Imports.{◌≡◌, ◌∙◌, ℕ, ◌+◌, ◌-◌, ◌<◌, ◌≤◌, ◌++◌, ◌∷◌, Bool, List, [], if◌then◌else◌, drop, take, map, get_or, length, append_assoc, refl, sym, ap, subst, arith, length-drop, append-nil, sum_by, keys, Image, History, WritesOnly, reads, writes_none, Item, IsNodeSize, tree_nodes, lengths_of, IsInSlots, Root, SameUsed, has, links_in, IsAccepted, superblock, used_of, same_volume, FitLeaves, sum_items, TreeNode, nodes_of_tree, roomy, Volume, IsSlotRow, LieApart, SameWhere, AreWritable, read_form, NodeForm, Trees, apart_left, PlannedChunk, Options, Piece, Ids, Adds, first_items, AddsRow, FitRow, row_count, HasPlacedPieces, IsInPieces, IsUsedBlock, sum_by-take-le, tree_number, NewTree, Files, SavedImage, Relocation, Checksums, Devices, behind_least, nodes-append, row_counted, stand-append, nodes_behind, slot_behind, PlacedTree}
+use Rattle.convert_trees.proofs.Imports.{◌≡◌, ◌∙◌, ℕ, ◌+◌, ◌-◌, ◌<◌, ◌≤◌, ◌++◌, ◌∷◌, Bool, List, [], if◌then◌else◌, drop, take, map, get_or, length, append_assoc, refl, sym, ap, subst, arith, length-drop, append-nil, sum_by, keys, Image, History, WritesOnly, reads, writes_none, Item, IsNodeSize, tree_nodes, lengths_of, IsInSlots, Root, SameUsed, has, links_in, IsAccepted, superblock, used_of, same_volume, FitLeaves, sum_items, TreeNode, nodes_of_tree, roomy, Volume, IsSlotRow, LieApart, SameWhere, AreWritable, read_form, NodeForm, Trees, apart_left, PlannedChunk, Options, Piece, Ids, Adds, first_items, AddsRow, FitRow, row_count, HasPlacedPieces, IsInPieces, IsUsedBlock, sum_by-take-le, tree_number, NewTree, behind_least, nodes-append, row_counted, stand-append, nodes_behind, slot_behind, PlacedTree}
 use Rattle.unit_plan.proofs.Lists.{sum_next}
 use Rattle.file_items.specs.Tree.{Source, source_of, fs_tree_items}
 use Rattle.reiser_volume.specs.reiser_walk.Items.{ReiserItem}
@@ -7,6 +7,7 @@ use Rattle.convert_trees.proofs.Staying.{volume_stays}
 use Rattle.convert_trees.proofs.Behind.{IsInRest}
 use Rattle.convert_trees.proofs.Going.{Goes, row_stands, same_where, still_apart}
 use Rattle.convert_trees.proofs.Sums.{sum_items_same}
+use Rattle.convert_steps.proofs.Row.{items_by}
 
 -- nothing was written yet
 pub goes_none : (row : Trees) (h : History) → Goes row row 0 h h
@@ -60,17 +61,16 @@ module _ (volume : Volume) (pieces : List Piece) (row : Trees) (image : Image) (
       (same_where (IsInPieces pieces) row image h₀ h (apart_left (IsInPieces pieces) row.form.nodesize row.taken row.slots begins.placed) begins.blocks goes.only))
 
   pub items_still : (o : Options) (ids : Ids) (now : ℕ) (chunks : List PlannedChunk) (t : NewTree) → first_items volume pieces o ids now chunks (reads h) t ≡ first_items volume pieces o ids now chunks image t
-  items_still o ids now chunks Files =
-      files_same volume o pieces image (reads h) begins.there.accepted
-      (λ b marked. same.blocks b (ap (λ (bits : List Bool). has bits b) begins.there.opened.bitmap ∙ marked))
-      (subst (λ (k : ℕ). (superblock image).blocks ≤ k) (sym same.as_many) begins.there.room)
+  items_still o ids now chunks t = items_by volume o ids now pieces chunks (reads h) image (reads h) image files_still (sums_still o) t
     where
       same : SameWhere (IsUsedBlock volume) image (reads h)
       same = same_where (IsUsedBlock volume) row image h₀ h (apart_left (IsUsedBlock volume) row.form.nodesize row.taken row.slots begins.used) begins.blocks goes.only
-  items_still o ids now chunks SavedImage = refl
-  items_still o ids now chunks Relocation = refl
-  items_still o ids now chunks Checksums = sums_still o
-  items_still o ids now chunks Devices = refl
+
+      files_still : files_in volume o pieces (reads h) ≡ files_in volume o pieces image
+      files_still =
+          files_same volume o pieces image (reads h) begins.there.accepted
+          (λ b marked. same.blocks b (ap (λ (bits : List Bool). has bits b) begins.there.opened.bitmap ∙ marked))
+          (subst (λ (k : ℕ). (superblock image).blocks ≤ k) (sym same.as_many) begins.there.room)
 
 -- a tree can be written where slots are left for its nodes
 pub writable : (row mid : Trees) (n : ℕ) (h₀ h : History) (items : List Item) → IsSlotRow row → Goes row mid n h₀ h → FitLeaves items → row.taken + n + tree_nodes row.form.nodesize (lengths_of items) ≤ length row.slots

@@ -1,11 +1,11 @@
 -- The units of a plan have the slots for all nodes.
-use Rattle.convert_trees_laws.proofs.Imports.{◌≡◌, ◌≤◌, ◌<◌, ℕ, ◌+◌, ◌*◌, ◌^◌, List, [], ◌∷◌, length, length-append, sym, ap, subst, ◌∙◌, ⊎_elim, arith, get_or, div_ceil, flat_map, range_with_len, div_ceil_times, length-map, length-range_with_len, BLOCK_GROUP_BYTES, EXTENT_BYTES, NODE_BYTES, ROOT_TREE_ROOM, Image, Item, IsNodeSize, node_bound, lengths_of, IsMaking, Making, chunk_slots, new_ids, slots, AllFit, chunk_count, no_trees, nodes_for, other_count, own_count, root_tree_items, FileKeysAscend, ImageKeysAscend, ItemsAreShort, keys, IsOpened, links_in, used_of, chunk_items, AreIds, bound_up, IsSoundPlan, AreSmall, checksum_tree_bytes, chunk_bound, chunk_nodes, chunk_tree_bytes, device_tree_bytes, extent_nodes, extent_tree_bytes, file_tree_bytes, image_tree_bytes, need, nodes_in_unit, other_nodes, tree_bytes, Counts, Options, plans_sound, SumKind, Crc32c, Sha256, AreCounted, PlansSuffice, bytes_in, TreesAreCounted, All-head, All-tail, sum_by-cons, new_trees, NewTree, Files, SavedImage, Relocation, Checksums, Devices}
+use Rattle.convert_trees_laws.proofs.Imports.{◌≡◌, ◌≤◌, ◌<◌, ℕ, ◌+◌, ◌*◌, ◌^◌, List, [], ◌∷◌, length, length-append, sym, ap, subst, ◌∙◌, ⊎_elim, arith, get_or, div_ceil, flat_map, range_with_len, div_ceil_times, length-map, length-range_with_len, BLOCK_GROUP_BYTES, EXTENT_BYTES, NODE_BYTES, ROOT_TREE_ROOM, Image, Item, IsNodeSize, node_bound, lengths_of, IsMaking, Making, chunk_slots, new_ids, slots, AllFit, chunk_count, no_trees, nodes_for, other_count, own_count, root_tree_items, FileKeysAscend, ImageKeysAscend, ItemsAreShort, keys, IsOpened, links_in, used_of, chunk_items, AreIds, bound_up, IsSoundPlan, AreSmall, chunk_bound, chunk_nodes, chunk_tree_bytes, extent_nodes, extent_tree_bytes, need, nodes_in_unit, other_nodes, tree_bytes, Counts, Options, plans_sound, AreCounted, PlansSuffice, bytes_in, TreesAreCounted, All-head, All-tail, sum_by-cons, new_trees, NewTree}
 use Rattle.std.specs.List.{All, sum_by}
 use Rattle.convert_steps.specs.Standing.{items_of}
 use Rattle.convert_steps.proofs.extent_pieces.Small.{counts_small}
 use Rattle.convert_steps.specs.space_items.Own.{extent_bytes}
 use Rattle.convert_steps.specs.unit_plan.Places.{node_places, places_in}
-use Rattle.convert_trees_laws.proofs.Fitting.{fits}
+use Rattle.convert_trees_laws.proofs.Fitting.{bound_low, fits, tree_low}
 use Rattle.convert_trees_laws.proofs.NodeCounts.{nodes_few}
 use Rattle.convert_trees_laws.proofs.Others.{few_chunks, pieces_few}
 
@@ -45,31 +45,8 @@ room_for nodesize nodes units size many =
 
 -- ---- what was counted is small
 
-files_low : (c : Counts) → AreSmall c → file_tree_bytes c < 2 ^ 60
-files_low c small = omega (arith, small.objects, small.names, small.letters, small.pieces, small.inlines, small.inline_bytes)
-
-image_low : (c : Counts) → AreSmall c → image_tree_bytes c < 2 ^ 60
-image_low c small = omega (arith, small.pieces)
-
-sums_low : (sums : SumKind) (c : Counts) → AreSmall c → checksum_tree_bytes sums c < 2 ^ 60
-sums_low Crc32c c small = omega (arith, small.pieces, small.piece_blocks)
-sums_low Sha256 c small = omega (arith, small.pieces, small.piece_blocks)
-
-bound_low : (c : Counts) → AreSmall c → chunk_bound c.runs c.blocks < 2 ^ 52
-bound_low c small = omega (arith, small.runs, small.blocks)
-
-device_low : (c : Counts) → AreSmall c → device_tree_bytes (chunk_bound c.runs c.blocks) < 2 ^ 60
-device_low c small = let low = bound_low c small in omega (arith, low)
-
 chunk_low : (c : Counts) → AreSmall c → chunk_tree_bytes (chunk_bound c.runs c.blocks) < 2 ^ 60
 chunk_low c small = let low = bound_low c small in omega (arith, low)
-
-tree_low : (sums : SumKind) (c : Counts) → AreSmall c → (t : NewTree) → tree_bytes sums c t < 2 ^ 60
-tree_low sums c small Files = files_low c small
-tree_low sums c small SavedImage = image_low c small
-tree_low sums c small Relocation = omega arith
-tree_low sums c small Checksums = sums_low sums c small
-tree_low sums c small Devices = device_low c small
 
 -- a sum of less is less
 sums_under : (f g : NewTree → ℕ) (trees : List NewTree) → All (λ t. f t ≤ g t) trees → sum_by f trees ≤ sum_by g trees

@@ -5,6 +5,7 @@ use Rattle.convert_core_laws.proofs.reading.SavedPieces.{member}
 use Rattle.convert_core_laws.proofs.soundness.Lists.{filter_none}
 use Rattle.convert_core_laws.proofs.soundness.Among.{extents_in, tree_in, trees_all}
 use Rattle.convert_core_laws.proofs.soundness.Uses.{IsUse, by_file, by_image, file_uses, piece_use, use_at, uses_from}
+use Rattle.convert_core.specs.convert_steps.Standing.{items_of}
 
 abbrev is_file_extent : Item → Bool
 is_file_extent i = eqb i.0.kind EXTENT_DATA
@@ -107,13 +108,36 @@ module _ (image : Image) (m : Making) (made : IsMaking image m) (size : IsNodeSi
     unfolding relocation_items
     relocation_none = refl
 
-    -- each tree of the list
+    -- which trees of the list have file extents
+    pub data HasUses (t : NewTree) : Type 0 where
+      of_files : t ≡ Files → HasUses t
+      of_image : t ≡ SavedImage → HasUses t
+      of_none : filter is_file_extent (items_of image other m t) ≡ [] → HasUses t
+
+    pub has_uses : (t : NewTree) → HasUses t
+    has_uses Files = of_files refl
+    has_uses SavedImage = of_image refl
+    has_uses Relocation = of_none relocation_none
+    has_uses Checksums = of_none sums_none
+    has_uses Devices = of_none device_none
+
+    -- where there are none there is no use
+    pub none_used : (t : NewTree) → filter is_file_extent (items_of image other m t) ≡ [] → (u : DataUse) → Contains (uses_in (tree_in image other m r nodes t)) u → ⊥
+    none_used t none u h = let at = uses_from (tree_in image other m r nodes t) u h in no_head at.0 (items_of image other m t) none at.1 at.2
+
+    file_tree_uses : OnlyUses (tree_in image other m r nodes Files)
+    file_tree_uses = λ u h. let at = uses_from (tree_in image other m r nodes Files) u h in file_uses image m made at.0 u at.1 at.2 at.3
+
+    image_tree_uses : OnlyUses (tree_in image other m r nodes SavedImage)
+    image_tree_uses = λ u h. let at = uses_from (tree_in image other m r nodes SavedImage) u h in image_uses at.0 u at.1 at.2 at.3
+
     tree_uses : (t : NewTree) → OnlyUses (tree_in image other m r nodes t)
-    tree_uses Files = λ u h. let at = uses_from (tree_in image other m r nodes Files) u h in file_uses image m made at.0 u at.1 at.2 at.3
-    tree_uses SavedImage = λ u h. let at = uses_from (tree_in image other m r nodes SavedImage) u h in image_uses at.0 u at.1 at.2 at.3
-    tree_uses Relocation = no_uses (tree_in image other m r nodes Relocation) relocation_none
-    tree_uses Checksums = no_uses (tree_in image other m r nodes Checksums) sums_none
-    tree_uses Devices = no_uses (tree_in image other m r nodes Devices) device_none
+    tree_uses t = by (has_uses t)
+      where
+        by : HasUses t → OnlyUses (tree_in image other m r nodes t)
+        by (of_files is) = subst (λ (x : NewTree). OnlyUses (tree_in image other m r nodes x)) (sym is) file_tree_uses
+        by (of_image is) = subst (λ (x : NewTree). OnlyUses (tree_in image other m r nodes x)) (sym is) image_tree_uses
+        by (of_none none) = λ u h. absurd (none_used t none u h)
 
     all_uses : All OnlyUses (all_trees k)
     all_uses = trees_all image other m r nodes OnlyUses (no_uses k.chunk_tree chunk_none) (no_uses k.root_tree root_none) (no_uses (extents_in image other m r nodes) extents_none) tree_uses

@@ -1,14 +1,14 @@
 -- A use of data has the key of the file extent that tells it, so no use is told twice.
-use Rattle.convert_core_laws.proofs.Imports.{◌≡◌, ◌≢◌, ◌<◌, ℕ, ◌-◌, ◌*◌, ◌^◌, eqb, Bool, true, false, List, [], ◌∷◌, filter, get_or, Option, Some, None, refl, sym, ap, subst, ◌∙◌, ⊎_elim, arith, All, AllPairs, Contains, if◌then◌else◌, ordering_reverse, Ordering, Less, Equal, Greater, All-cons, All-contains, Contains-append_cases, Contains-get_or, AllPairs-cons, EXTENT_DATA, CONV_IMAGE_SUBVOL, FS_TREE, from_map, in_filter, in_flat_map, Image, Ids, is_hole, ContentValue, FileExtentValue, Inline, Prealloc, Regular, file_extent_of, make_key, Key, Item, IsNodeSize, DataUse, Recount, TreeOn, all_trees, data_uses, use_by, use_in, uses_in, IsMaking, Making, HasPieces, file_tree_items, image_tree_items, TreeRoots, named_extents, IsNewVolume, extents_at, file_block, piece_bytes, pieces_of_volume, source_block, image_head, image_items, ImageKeysAscend, file_keys_ascend, extent_item, regular_extent, contains_cases, item_cmp, TreeNode, Rise, ascends_rise, item_total, Options, Piece, recount_for, NewTree, Files, SavedImage, Relocation, Checksums, Devices}
+use Rattle.convert_core_laws.proofs.Imports.{◌≡◌, ◌≢◌, ◌<◌, ℕ, ◌-◌, ◌*◌, ◌^◌, eqb, Bool, true, false, List, [], ◌∷◌, filter, get_or, Option, Some, None, refl, sym, ap, subst, ◌∙◌, ⊎_elim, arith, All, AllPairs, Contains, if◌then◌else◌, ordering_reverse, Ordering, Less, Equal, Greater, All-cons, All-contains, Contains-append_cases, Contains-get_or, AllPairs-cons, EXTENT_DATA, CONV_IMAGE_SUBVOL, FS_TREE, from_map, in_filter, in_flat_map, Image, Ids, is_hole, ContentValue, FileExtentValue, Inline, Prealloc, Regular, file_extent_of, make_key, Key, Item, IsNodeSize, DataUse, Recount, TreeOn, all_trees, data_uses, use_by, use_in, uses_in, IsMaking, Making, HasPieces, file_tree_items, image_tree_items, TreeRoots, named_extents, IsNewVolume, extents_at, file_block, piece_bytes, pieces_of_volume, source_block, image_head, image_items, ImageKeysAscend, file_keys_ascend, extent_item, regular_extent, contains_cases, item_cmp, TreeNode, Rise, ascends_rise, item_total, Options, Piece, recount_for, NewTree, Files, SavedImage}
 use Rattle.btr_check_rules.specs.Recount.{use_of}
 use Rattle.convert_core_laws.proofs.reading.SavedPieces.{member}
-use Rattle.convert_core_laws.proofs.soundness.AllUses.{from_is, source_low, uses_are}
+use Rattle.convert_core_laws.proofs.soundness.AllUses.{HasUses, from_is, has_uses, none_used, of_files, of_image, of_none, source_low, uses_are}
 use Rattle.convert_core_laws.proofs.soundness.Trees.{all_once}
 use Rattle.convert_core_laws.proofs.soundness.Unreserved.{fit_size}
 use Rattle.convert_core_laws.proofs.soundness.Uses.{IsUse, by_file, by_image, file_piece, owner_low, piece_use, use_at, uses_from}
 use Rattle.convert_core_laws.proofs.soundness.Distinct.{AreDistinct, distinct_flat, distinct_nil, distinct_one}
 use Rattle.convert_core_laws.proofs.reading.Named.{extents_named}
-use Rattle.convert_core_laws.proofs.soundness.Among.{extents_in, others_all, rooted_there, tree_in, tree_there, trees_all}
+use Rattle.convert_core_laws.proofs.soundness.Among.{extents_in, others_all, rooted_there, tree_in, trees_all}
 use Rattle.convert_core_laws.proofs.soundness.Listed.{not_chunks, not_root}
 
 -- ---- one item tells at most one use, of its tree
@@ -173,13 +173,20 @@ module _ (o : Options) (ids : Ids) (now : ℕ) (image other : Image) (m : Making
       let is = uses_tree t u l in
       use_numbers u (in_flat_map uses_in (all_trees k) t u h l) (λ e. one (sym is ∙ e)) (λ e. two (sym is ∙ e)))
 
+  files_once : Once (tree_in image other m r nodes Files)
+  files_once = tree_distinct (tree_in image other m r nodes Files) (files_rise image m making fit) (λ i u h is l. file_key image m making fit i u h is l)
+
+  image_once : Once (tree_in image other m r nodes SavedImage)
+  image_once = tree_distinct (tree_in image other m r nodes SavedImage) (saved_rise image m making fit rising) (λ i u h is l. image_key image m making fit i u h is l)
+
   -- each tree of the list
   tree_once : (t : NewTree) → Once (tree_in image other m r nodes t)
-  tree_once Files = tree_distinct (tree_in image other m r nodes Files) (files_rise image m making fit) (λ i u h is l. file_key image m making fit i u h is l)
-  tree_once SavedImage = tree_distinct (tree_in image other m r nodes SavedImage) (saved_rise image m making fit rising) (λ i u h is l. image_key image m making fit i u h is l)
-  tree_once Relocation = no_uses (tree_in image other m r nodes Relocation) (tree_there image other m r nodes Relocation) (λ e. omega (arith, e)) (λ e. omega (arith, e))
-  tree_once Checksums = no_uses (tree_in image other m r nodes Checksums) (tree_there image other m r nodes Checksums) (λ e. omega (arith, e)) (λ e. omega (arith, e))
-  tree_once Devices = no_uses (tree_in image other m r nodes Devices) (tree_there image other m r nodes Devices) (λ e. omega (arith, e)) (λ e. omega (arith, e))
+  tree_once t = by (has_uses image m making fit other r nodes t)
+    where
+      by : HasUses image m making fit other r nodes t → Once (tree_in image other m r nodes t)
+      by (of_files is) = subst (λ (x : NewTree). Once (tree_in image other m r nodes x)) (sym is) files_once
+      by (of_image is) = subst (λ (x : NewTree). Once (tree_in image other m r nodes x)) (sym is) image_once
+      by (of_none none) = distinct_nil (uses_in (tree_in image other m r nodes t)) (λ u h. absurd (none_used image m making fit other r nodes t none u h))
 
   each_once : All Once (all_trees k)
   each_once =

@@ -1,31 +1,28 @@
--- What each tree of the list is beside the others: its number, and which items it does not have.
-use Rattle.convert_core_laws.proofs.Imports.{◌≢◌, ◌<◌, ℕ, ◌^◌, arith, CHUNK_TREE, ROOT_TREE, TREE_RELOC, tree_number, NewTree, Files, SavedImage, Relocation, Checksums, Devices}
+-- The numbers of the trees of the list.
+use Rattle.std.proofs.Common.{◌≡◌, ◌≢◌, ◌<◌, ℕ, ◌^◌, ◌==◌, nat_lt, Bool, true, false, not, refl}
+use Rattle.std.proofs.lemmas.Bool.{eq-eqb, ltb-true}
+use Rattle.btrfs_format.specs.declared.object.TheConstants.{CHUNK_TREE, ROOT_TREE, TREE_RELOC}
+use Rattle.convert_core.proofs.convert_steps.Row.{number_test}
+use Rattle.convert_core.specs.unit_plan.Trees.{tree_number}
+use Rattle.convert_core.specs.unit_plan.declared.tree.NewTree.{NewTree}
+
+-- a number that a test tells apart is another one
+apart : (a b : ℕ) → not (a == b) ≡ true → a ≢ b
+apart a b is same = by (a == b) (eq-eqb a b same) is
+  where
+    by : (x : Bool) → x ≡ true → not x ≡ true → ⊥
+    by true yes no = cc no
+    by false yes no = cc yes
 
 pub not_chunks : (t : NewTree) → tree_number t ≢ CHUNK_TREE
-not_chunks Files = λ e. omega (arith, e)
-not_chunks SavedImage = λ e. omega (arith, e)
-not_chunks Relocation = λ e. omega (arith, e)
-not_chunks Checksums = λ e. omega (arith, e)
-not_chunks Devices = λ e. omega (arith, e)
+not_chunks t = apart (tree_number t) CHUNK_TREE (number_test (λ (n : ℕ). not (n == CHUNK_TREE)) refl t)
 
 pub not_root : (t : NewTree) → tree_number t ≢ ROOT_TREE
-not_root Files = λ e. omega (arith, e)
-not_root SavedImage = λ e. omega (arith, e)
-not_root Relocation = λ e. omega (arith, e)
-not_root Checksums = λ e. omega (arith, e)
-not_root Devices = λ e. omega (arith, e)
+not_root t = apart (tree_number t) ROOT_TREE (number_test (λ (n : ℕ). not (n == ROOT_TREE)) refl t)
 
 -- it is none that the kernel moves data by for a while
 pub settled : (t : NewTree) → tree_number t ≢ TREE_RELOC
-settled Files = λ e. omega (arith, e)
-settled SavedImage = λ e. omega (arith, e)
-settled Relocation = λ e. omega (arith, e)
-settled Checksums = λ e. omega (arith, e)
-settled Devices = λ e. omega (arith, e)
+settled t = apart (tree_number t) TREE_RELOC (number_test (λ (n : ℕ). not (n == TREE_RELOC)) refl t)
 
 pub number_low : (t : NewTree) → tree_number t < 2 ^ 64
-number_low Files = omega arith
-number_low SavedImage = omega arith
-number_low Relocation = omega arith
-number_low Checksums = omega arith
-number_low Devices = omega arith
+number_low t = ltb-true (tree_number t) (2 ^ 64) (number_test (λ (n : ℕ). nat_lt n (2 ^ 64)) refl t)

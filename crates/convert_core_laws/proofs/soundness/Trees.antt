@@ -1,36 +1,13 @@
 -- Each tree of a converted volume is there, and its bootstrap array holds the system chunks.
-use Rattle.convert_core_laws.proofs.Imports.{◌≡◌, ◌≤◌, ◌<◌, ℕ, ◌+◌, ◌-◌, ◌&&◌, ◌||◌, eqb, Bool, true, false, not, List, [], ◌∷◌, ◌++◌, map, refl, sym, ap, subst, ◌∙◌, ⊎_elim, arith, All, AllPairs, Contains, list_any, map-append, Contains-append_cases, All-map, ROOT_ITEM, CHUNK_TREE, DATA_RELOC_TREE, ROOT_TREE, from_filter, from_map, in_filter, in_map, Image, Ids, has_root, is_root_of, Item, system_kind, IsBtrfsOpened, boot_chunks, boot_list, chunk_map, chunk_tree, form_of, root_tree, ChunkAt, IsRooted, IsTreeOn, Recount, TreeOn, chunks_on, root_items_on, AreTrees, KeepTreeRules, Super, GivesItself, Root, TreeItem, nodes_in, walk_events, IsTree, bare_item, MapRange, Form, NodePointer, IsMaking, Making, chunk_slots, new_ids, TreesStand, form, TreeRoots, named_trees, is_system_role, new_super, MapsChunks, IsNewVolume, ReadsTree, ReadsTrees, boot_part, chunk_at, map_for, other_part, super_for, two_cases, all_from_contains, chunk_items, chunk_kind, TreeNode, pointer_to_root, IsChunk, role_of, usable_end, PlannedChunk, Role, System, Metadata, Data, Options, all_at, recount_for, tree_for, trees_for, named_on, numbers_ascend, pairs_of}
+use Rattle.convert_core_laws.proofs.Imports.{◌≡◌, ◌≤◌, ◌<◌, ℕ, ◌+◌, ◌-◌, eqb, Bool, true, false, not, List, ◌++◌, map, refl, sym, ap, subst, ◌∙◌, ⊎_elim, arith, All, AllPairs, Contains, list_any, map-append, Contains-append_cases, All-map, CHUNK_TREE, ROOT_TREE, from_filter, from_map, in_filter, in_map, Image, Ids, has_root, Item, system_kind, IsBtrfsOpened, boot_chunks, boot_list, chunk_map, chunk_tree, form_of, root_tree, ChunkAt, IsRooted, IsTreeOn, Recount, TreeOn, chunks_on, root_items_on, AreTrees, KeepTreeRules, Super, GivesItself, Root, nodes_in, walk_events, IsTree, MapRange, Form, NodePointer, IsMaking, Making, chunk_slots, new_ids, TreesStand, form, TreeRoots, named_trees, is_system_role, new_super, MapsChunks, IsNewVolume, ReadsTree, ReadsTrees, boot_part, chunk_at, map_for, other_part, super_for, two_cases, all_from_contains, chunk_items, chunk_kind, TreeNode, pointer_to_root, IsChunk, role_of, usable_end, PlannedChunk, Role, System, Metadata, Data, Options, all_at, recount_for, tree_for, trees_for, named_on, numbers_ascend, pairs_of}
 use Rattle.convert_core_laws.proofs.reading.Opening.{maps_chunks, opened}
 use Rattle.convert_core_laws.proofs.reading.Reading.{all_read}
 use Rattle.convert_core_laws.proofs.reading.Stood.{IsRead, read_by}
 use Rattle.convert_core_laws.proofs.soundness.ChunkList.{Known, chunks_added}
 use Rattle.convert_core_laws.proofs.soundness.Recounting.{form_is}
 use Rattle.convert_core_laws.proofs.soundness.Stripes.{small}
-
--- ---- numbers of trees
-
--- which trees have a root item is told by the items without their leaves
-abbrev is_root : ℕ → Item → Bool
-is_root number i = eqb i.0.objectid number && eqb i.0.kind ROOT_ITEM
-
-bare_roots : (number : ℕ) (items : List TreeItem) → has_root items number ≡ list_any (is_root number) (map bare_item items)
-bare_roots number [] = refl
-bare_roots number (i ∷ items) = ap (λ (b : Bool). is_root_of number i || b) (bare_roots number items)
-
--- those that are written have one
-numbers_are : (a b c d e f g : Bool) → (a || (b || (c || (d || (e || (f || false))))))
-    ≡ ((a && true) || ((b && true) || ((c && true) || ((c && false) || ((g && false) || ((g && false) || ((g && false) || ((d && true) || ((e && true) || ((e && false) || ((f && true) || false)))))))))))
-numbers_are true b c d e f g = refl
-numbers_are false true c d e f g = refl
-numbers_are false false true d e f g = refl
-numbers_are false false false true e f true = refl
-numbers_are false false false true e f false = refl
-numbers_are false false false false true f true = refl
-numbers_are false false false false true f false = refl
-numbers_are false false false false false true true = refl
-numbers_are false false false false false true false = refl
-numbers_are false false false false false false true = refl
-numbers_are false false false false false false false = refl
+use Rattle.convert_core.specs.convert_steps.Making.{saved_index}
+use Rattle.convert_core_laws.proofs.reading.Rooted.{numbers_named}
 
 module _ (m : Making) (r : TreeRoots) (nodes : List TreeNode) where
   chunk_root_is : (chunk_tree (super_for m r nodes)).root ≡ pointer_to_root r.chunk
@@ -106,9 +83,7 @@ module _ (o : Options) (ids : Ids) (now : ℕ) (image other : Image) (m : Making
   all_once = pairs_of (λ (t : TreeOn). t.number) others numbers_ascend
 
   all_named : (number : ℕ) → list_any (λ (t : TreeOn). eqb t.number number) others ≡ has_root (root_items_on other (super_for m r nodes)) number
-  all_named number =
-      numbers_are (eqb 2 number) (eqb 4 number) (eqb 5 number) (eqb 7 number) (eqb 256 number) (eqb DATA_RELOC_TREE number) (eqb 6 number)
-      ∙ sym (bare_roots number (root_items_on other s) ∙ ap (list_any (is_root number)) reads.roots_are)
+  all_named number = numbers_named r (saved_index m) (new_ids m) m.now m.options.nodesize (root_items_on other s) reads.roots_are number
 
   -- ---- the chunks
 

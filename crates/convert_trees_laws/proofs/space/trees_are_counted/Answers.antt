@@ -1,4 +1,4 @@
-use Rattle.convert_trees_laws.proofs.Others.{trees_counted}
+use Rattle.convert_trees_laws.proofs.Fitting.{trees_counted}
 use Rattle.convert_trees_laws.proofs.space.trees_are_counted.Goals as goal
 
 pub returns : goal.returns
