@@ -106,7 +106,7 @@ pub use Rattle.convert_core.proofs.Slots.{slot_unit}
 pub use Rattle.convert_core.proofs.Wholeness.{are_pieces, blocks_few, blocks_inside, blocks_some}
 pub use Rattle.convert_core.proofs.btr_item_list.Sorting.{ascending_all, ascending_filter, ascending_sorted}
 pub use Rattle.convert_core.proofs.btr_tree.Maps.{agree}
-pub use Rattle.convert_core.proofs.convert_steps.Row.{StandsAt, all-with_all, behind_least, each_stands, every_tree, in-with_all, numbers_ascend, pairs_of, sum-with_all}
+pub use Rattle.convert_core.proofs.convert_steps.Row.{StandsAt, all-with_all, behind_least, each_stands, every_tree, in-with_all, number_test, numbers_ascend, pairs_of, sum-with_all}
 pub use Rattle.convert_core.proofs.extent_pieces.Covering.{IsCopied, holds_copied, is_copied_piece, pieces_cover_used, used_inside}
 pub use Rattle.convert_core.proofs.extent_pieces.Lists.{all_at, all_map, any_from, pairs_append, pairs_head, pairs_map, pairs_tail}
 pub use Rattle.convert_core.proofs.extent_pieces.Maximal.{kept_are_maximal}

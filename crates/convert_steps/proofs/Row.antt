@@ -1,5 +1,5 @@
 -- Trees one behind the other, and lists in the order of numbers.
-use Rattle.convert_steps.proofs.Imports.{◌≡◌, ◌∙◌, ℕ, ◌+◌, ◌≤◌, ◌&&◌, nat_lt, Bool, true, false, not, List, [], ◌∷◌, ◌++◌, append_assoc, drop, if◌then◌else◌, map, refl, sym, ap, ap₂, subst, arith, ◌<◌, length, ◌⊎◌, inl, inr, ⊎_elim, and_parts, All-cons, All-head, All-nil, All-tail, All-map, sum_by-cons, All, AllPairs, sum_by, EXTENT_TREE, Image, length-map, Contains}
+use Rattle.convert_steps.proofs.Imports.{◌≡◌, ◌∙◌, ℕ, ◌+◌, ◌≤◌, ◌&&◌, nat_lt, Bool, true, false, not, List, [], ◌∷◌, ◌++◌, append_assoc, drop, if◌then◌else◌, map, refl, sym, ap, ap₂, subst, arith, ◌<◌, length, ◌⊎◌, inl, inr, ⊎_elim, and_parts, All-cons, All-head, All-nil, All-tail, All-map, All-contains, sum_by-cons, All, AllPairs, sum_by, EXTENT_TREE, Image, length-map, Contains, Ids, Options, Volume, PlannedChunk, Piece}
 use Rattle.std.proofs.Common.{◌==◌}
 use Rattle.reiser_volume.proofs.reiser_bitmap.Ranges.{contains_cases, contains_head, contains_tail}
 use Rattle.unit_plan.specs.declared.tree.NewTree.TheVariants.{Files, SavedImage, Relocation, Checksums, Devices}
@@ -21,16 +21,10 @@ use Rattle.space_items.specs.Nodes.{nodes_of_tree}
 use Rattle.space_items.specs.declared.node.TreeNode.{TreeNode}
 use Rattle.unit_plan.specs.Trees.{new_trees, tree_number}
 use Rattle.unit_plan.specs.declared.tree.NewTree.{NewTree}
-use Rattle.std.proofs.lemmas.List.Elements.{All-contains}
 use Rattle.reiser_volume.proofs.fs_paths.Lists.{in_map}
-use Rattle.command_answers.specs.vol_block.declared.ids.Ids.{Ids}
-use Rattle.convert_options.specs.declared.options.Options.{Options}
 use Rattle.convert_steps.specs.Source.{made_from}
 use Rattle.file_items.specs.Tree.{fs_tree_items}
-use Rattle.reiser_volume.specs.declared.volume.Volume.{Volume}
 use Rattle.space_items.specs.Sums.{sum_items}
-use Rattle.unit_plan.specs.declared.chunk.PlannedChunk.{PlannedChunk}
-use Rattle.unit_plan.specs.declared.piece.Piece.{Piece}
 
 -- ---- trees one behind the other
 

@@ -1,11 +1,10 @@
 -- What a conversion gives to the writing of its trees, told of its arguments.
-use Rattle.convert_trees.proofs.Imports.{◌≡◌, ◌∙◌, ℕ, ◌+◌, ◌<◌, ◌≤◌, ◌∷◌, Bool, true, List, [], get_or, length, Some, refl, sym, ap, subst, arith, All, sum_by, Contains, Image, sum_by-cons, tree_nodes, lengths_of, IsMaking, Making, new_ids, slots, AllFit, IsFor, SameVolume, chunk_count, no_trees, nodes_for, root_tree_items, items_of, LiesInUnit, all_at, has, IsOpened, superblock, used_of, Volume, chunk_items, FitLeaves, NodeForm, AreChunks, ArePlaced, node_places, PlannedChunk, Options, Piece, Plan, Ids, first_items, row_count, root_count, saved_in, slots_needed, HasPlacedPieces, new_trees, NewTree}
+use Rattle.convert_trees.proofs.Imports.{◌≡◌, ◌∙◌, ℕ, ◌+◌, ◌<◌, ◌≤◌, ◌∷◌, Bool, true, List, [], get_or, length, Some, refl, sym, ap, subst, arith, All, sum_by, Contains, Image, sum_by-cons, tree_nodes, lengths_of, IsMaking, Making, new_ids, slots, AllFit, IsFor, SameVolume, chunk_count, no_trees, nodes_for, root_tree_items, items_of, LiesInUnit, all_at, has, IsOpened, superblock, used_of, Volume, chunk_items, FitLeaves, NodeForm, AreChunks, ArePlaced, node_places, PlannedChunk, Options, Piece, Plan, Ids, first_items, row_count, root_count, saved_in, slots_needed, HasPlacedPieces, new_trees, NewTree, items_by}
 use Rattle.convert_steps.proofs.extent_pieces.Apart.{places_are_apart}
 use Rattle.reiser_volume.proofs.Holding.{used_length}
 use Rattle.convert_trees.proofs.Staying.{volume_stays}
 use Rattle.convert_trees.proofs.Opening.{files_in, files_same}
 use Rattle.convert_trees.proofs.Untouched.{stays_used}
-use Rattle.convert_steps.proofs.Row.{items_by}
 
 -- how nodes are written
 abbrev pub node_form : Options → Ids → NodeForm

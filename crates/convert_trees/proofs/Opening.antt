@@ -1,5 +1,5 @@
 -- The trees that are written first: what each needs is there, and all stand in the end.
-use Rattle.convert_trees.proofs.Imports.{◌≡◌, ◌∙◌, ℕ, ◌+◌, ◌-◌, ◌<◌, ◌≤◌, ◌++◌, ◌∷◌, Bool, List, [], if◌then◌else◌, drop, take, map, get_or, length, append_assoc, refl, sym, ap, subst, arith, length-drop, append-nil, sum_by, keys, Image, History, WritesOnly, reads, writes_none, Item, IsNodeSize, tree_nodes, lengths_of, IsInSlots, Root, SameUsed, has, links_in, IsAccepted, superblock, used_of, same_volume, FitLeaves, sum_items, TreeNode, nodes_of_tree, roomy, Volume, IsSlotRow, LieApart, SameWhere, AreWritable, read_form, NodeForm, Trees, apart_left, PlannedChunk, Options, Piece, Ids, Adds, first_items, AddsRow, FitRow, row_count, HasPlacedPieces, IsInPieces, IsUsedBlock, sum_by-take-le, tree_number, NewTree, behind_least, nodes-append, row_counted, stand-append, nodes_behind, slot_behind, PlacedTree}
+use Rattle.convert_trees.proofs.Imports.{◌≡◌, ◌∙◌, ℕ, ◌+◌, ◌-◌, ◌<◌, ◌≤◌, ◌++◌, ◌∷◌, Bool, List, [], if◌then◌else◌, drop, take, map, get_or, length, append_assoc, refl, sym, ap, subst, arith, length-drop, append-nil, sum_by, keys, Image, History, WritesOnly, reads, writes_none, Item, IsNodeSize, tree_nodes, lengths_of, IsInSlots, Root, SameUsed, has, links_in, IsAccepted, superblock, used_of, same_volume, FitLeaves, sum_items, TreeNode, nodes_of_tree, roomy, Volume, IsSlotRow, LieApart, SameWhere, AreWritable, read_form, NodeForm, Trees, apart_left, PlannedChunk, Options, Piece, Ids, Adds, first_items, AddsRow, FitRow, row_count, HasPlacedPieces, IsInPieces, IsUsedBlock, sum_by-take-le, tree_number, NewTree, behind_least, nodes-append, row_counted, stand-append, items_by, nodes_behind, slot_behind, PlacedTree}
 use Rattle.unit_plan.proofs.Lists.{sum_next}
 use Rattle.file_items.specs.Tree.{Source, source_of, fs_tree_items}
 use Rattle.reiser_volume.specs.reiser_walk.Items.{ReiserItem}
@@ -7,7 +7,6 @@ use Rattle.convert_trees.proofs.Staying.{volume_stays}
 use Rattle.convert_trees.proofs.Behind.{IsInRest}
 use Rattle.convert_trees.proofs.Going.{Goes, row_stands, same_where, still_apart}
 use Rattle.convert_trees.proofs.Sums.{sum_items_same}
-use Rattle.convert_steps.proofs.Row.{items_by}
 
 -- nothing was written yet
 pub goes_none : (row : Trees) (h : History) → Goes row row 0 h h

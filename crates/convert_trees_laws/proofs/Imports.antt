@@ -142,7 +142,6 @@ pub use Rattle.convert_steps.specs.unit_plan.declared.need.Need.{Need}
 pub use Rattle.convert_steps.specs.unit_plan.declared.piece.Piece.{Piece}
 pub use Rattle.convert_steps.specs.unit_plan.declared.plan.Plan.{Plan}
 pub use Rattle.convert_steps.specs.unit_plan.declared.tree.NewTree.{NewTree}
-pub use Rattle.convert_steps.specs.unit_plan.declared.tree.NewTree.TheVariants.{Checksums, Devices, Files, Relocation, SavedImage}
 pub use Rattle.convert_trees_laws.specs.Bounds.{AreCounted, FileTreeIsCounted, PlansSuffice, TreesAreCounted, bytes_in}
 pub use Rattle.convert_trees_laws.specs.Entries.{EntriesAreThere, naming_by, namings_by, unplaced}
 pub use Rattle.convert_trees_laws.specs.Inodes.{InodesAreThere}

@@ -1,10 +1,5 @@
 -- The numbers of the trees of the list.
-use Rattle.std.proofs.Common.{◌≡◌, ◌≢◌, ◌<◌, ℕ, ◌^◌, ◌==◌, nat_lt, Bool, true, false, not, refl}
-use Rattle.std.proofs.lemmas.Bool.{eq-eqb, ltb-true}
-use Rattle.btrfs_format.specs.declared.object.TheConstants.{CHUNK_TREE, ROOT_TREE, TREE_RELOC}
-use Rattle.convert_core.proofs.convert_steps.Row.{number_test}
-use Rattle.convert_core.specs.unit_plan.Trees.{tree_number}
-use Rattle.convert_core.specs.unit_plan.declared.tree.NewTree.{NewTree}
+use Rattle.convert_core_laws.proofs.Imports.{◌≡◌, ◌≢◌, ◌<◌, ℕ, ◌^◌, ◌==◌, nat_lt, Bool, true, false, not, refl, eq-eqb, ltb-true, CHUNK_TREE, ROOT_TREE, TREE_RELOC, number_test, tree_number, NewTree}
 
 -- a number that a test tells apart is another one
 apart : (a b : ℕ) → not (a == b) ≡ true → a ≢ b
