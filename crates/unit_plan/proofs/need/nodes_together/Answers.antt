@@ -10,8 +10,8 @@ loop-tree-preserved c =
     record {
       exact =
           sum_next f c.args.trees.now c.loop-tree.tree-index _ _ _ c.loop-tree-test.true before.exact
-          (c.nodes_for.ensures.exact ∙ ap (λ (b : ℕ). node_bound b c.args.options.now.nodesize) c.tree_bytes.ensures.exact);
-      small = omega (arith, before.small, c.nodes_for.ensures.small);
+          (c.nodes_for-nodes.ensures.exact ∙ ap (λ (b : ℕ). node_bound b c.args.options.now.nodesize) c.tree_bytes.ensures.exact);
+      small = omega (arith, before.small, c.nodes_for-nodes.ensures.small);
     }
 
 pub returns-clause-exact : goal.returns-clause-exact
