@@ -139,15 +139,15 @@ module _ (image : Image) (o : Options) (ids : Ids) (p : Prepared) (is : IsPrepar
           (piece_not_node p.volume image o p.plan p.pieces.items.items of size at.0 at.1 b at.2 at.3)
 
       stand_there : (t : NewRoots) (stand : TreesStandFor image (reads h₁) (reads h₂) m t) → HoldMoved p.volume image (reads h₁) p.pieces.items.items
-          → StandsConverted image (reads h₃) m stand.0 stand.1.0
+          → StandsConverted image (reads h₃) m stand.0 stand.1
       stand_there t stand hold = record {
         size =
             ap (λ (i : Image). length i) last ∙ (writes_length (λ b _. InSystem o.nodesize p.plan b ⊎ InMetadata o.nodesize p.plan b) h₁ h₂ then
             ∙ (writes_length (λ b _. IsMovedPlace p.pieces.items.items b) h₀ h₁ first ∙ ap (λ (i : Image). length i) told));
         pieces = pieces_stay image (reads h₁) (reads h₃) m (piece_some p.volume image o p.plan p.pieces.items.items of) same_pieces hold;
         trees =
-            other_sums image (reads h₁) (reads h₃) (reads h₃) m stand.0 stand.1.0 (sums_stay image (reads h₁) (reads h₃) m same_pieces)
-            (subst (λ (i : Image). TreesStand image (reads h₁) i m stand.0 stand.1.0) (sym last) stand.1.1.0);
+            other_sums image (reads h₁) (reads h₃) (reads h₃) m stand.0 stand.1 (sums_stay image (reads h₁) (reads h₃) m same_pieces)
+            (subst (λ (i : Image). TreesStand image (reads h₁) i m stand.0 stand.1) (sym last) stand.2);
       }
 
       -- nothing else differs
@@ -164,13 +164,13 @@ module _ (image : Image) (o : Options) (ids : Ids) (p : Prepared) (is : IsPrepar
       put_down w t hold stand bytes blocks summary = record {
         m = m;
         r = stand.0;
-        nodes = stand.1.0;
+        nodes = stand.1;
         conversion = record { making = making; options_are = refl; ids_are = refl; now_is = refl };
         stands = stand_there t stand hold;
         others = others;
         superblock =
             bytes ∙ (ap (λ (i : Ids). bytes_by t i p.label) is.ids_are
-            ∙ (ap (λ (l : List ℕ). bytes_by t (new_ids m) l) is.label_is ∙ ap (λ (x : NewRoots). bytes_by x (new_ids m) (label_field (label_by p.volume.sup o.label))) stand.1.1.1));
+            ∙ (ap (λ (l : List ℕ). bytes_by t (new_ids m) l) is.label_is ∙ ap (λ (x : NewRoots). bytes_by x (new_ids m) (label_field (label_by p.volume.sup o.label))) stand.3));
         blocks = blocks;
         summary = subst (IsSummary o image) (sym summary) summed;
       }

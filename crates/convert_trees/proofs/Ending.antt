@@ -171,9 +171,9 @@ module _ (image other : Image) (m : Making) (chunk_row chunk_end row end : Trees
         record {
           chunk = chunk_stands;
           row = all.0;
-          root = all.1.0;
-          nodes_are = record { is = all.1.1.1 };
-          extents = all.1.1.0;
+          root = all.1;
+          nodes_are = record { is = all.3 };
+          extents = all.2;
         },
         ap (λ (n : ℕ). let x : NewRoots = record { chunk = t.chunk; root = t.root; used = n } in x) last.used,
       )

@@ -110,7 +110,10 @@ module _ (row : Trees) (items : NewTree → List Item) (trees : List NewTree) wh
       let least = behind_least row.taken placed in
       let more = sum_next f trees i d (sum_by f (take i trees)) (f t) inside refl refl in
       let all = sum_by-take-le f trees (i + 1) in
-      writable row mid (slot_behind row.taken placed - row.taken) h₀ h (items t) is goes (fit.each i d inside) (omega (arith, fit.few, before, least, more, all))
+      writable row mid (slot_behind row.taken placed - row.taken) h₀ h (items t) is goes (fit.each i d inside) (room _ _ _ _ _ _ _ before least more all fit.few)
+    where
+      room : (behind taken first own after all long : ℕ) → behind ≡ taken + first → taken ≤ behind → first + own ≡ after → after ≤ all → taken + all ≤ long → taken + (behind - taken) + own ≤ long
+      room behind taken first own after all long a b c d e = omega (arith, a, b, c, d, e)
 
   -- and stands then behind the others
   pub adds_more : (mid new : Trees) (placed : List PlacedTree) (t : NewTree) (root : Root) (h₁ h₂ : History) → IsSlotRow row → (mid.form ≡ row.form) × (mid.slots ≡ row.slots) → mid.taken ≡ slot_behind row.taken placed

@@ -31,9 +31,13 @@ adds_by image old new items others same placed adds = record {
 pub counted_by : (row : Trees) (form : NodeForm) (end : Trees) (placed : List PlacedTree) (image : Image) (items : NewTree → List Item) → row.form ≡ form → row.taken ≡ 0 → map (λ p. p.tree) placed ≡ new_trees
     → AddsRow image row end items placed → slot_behind 0 placed ≡ row_count form.nodesize items new_trees
 counted_by row form end placed image items same none are adds =
-    let all = row_counted row.slots items image (read_form row.form) row.taken placed adds.stand in
-    sym (ap (λ (n : ℕ). slot_behind n placed) none)
-    ∙ (all ∙ (ap₂ (λ (n k : ℕ). n + k) none (ap₂ (λ (f : NodeForm) (ts : List NewTree). row_count f.nodesize items ts) same are)))
+    let all : slot_behind row.taken placed ≡ row.taken + row_count row.form.nodesize items (map (λ p. p.tree) placed) = row_counted row.slots items image (read_form row.form) row.taken placed adds.stand in
+    let at : slot_behind row.taken placed ≡ slot_behind 0 placed = ap (λ (n : ℕ). slot_behind n placed) none in
+    let count : row_count row.form.nodesize items (map (λ p. p.tree) placed) ≡ row_count form.nodesize items new_trees = ap₂ (λ (f : NodeForm) (ts : List NewTree). row_count f.nodesize items ts) same are in
+    sum_is _ _ _ _ _ all at none count
+  where
+    sum_is : (a b t c d : ℕ) → a ≡ t + c → a ≡ b → t ≡ 0 → c ≡ d → b ≡ d
+    sum_is a b t c d x y z w = omega (arith, x, y, z, w)
 
 module _ (volume : Volume) (o : Options) (ids : Ids) (now : ℕ) (plan : Plan) (pieces : List Piece) (chunks : List PlannedChunk) (image other : Image) (given : Given volume o ids now plan pieces chunks image other) (size : IsNodeSize o.nodesize) where
   -- slots of units that are free, and not for data

@@ -20,7 +20,7 @@ ghost use Rattle.convert_trees.specs.RootTree.{AddsLast, root_count, saved_in, s
 ghost use Rattle.unit_plan.specs.Trees.{new_trees};
 ghost use Rattle.convert_steps.specs.Standing.{told_roots};
 
-use crate::last::{WrittenExtents, write_extents};
+use crate::last::write_extents;
 use crate::roots::{counted, root_list, saved_index};
 use crate::writing::Writing;
 use btr_tree::{Access, Disk, Memory, Root, Slots};
