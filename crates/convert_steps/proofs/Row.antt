@@ -75,10 +75,11 @@ module _ (slots : List ℕ) (items : NewTree → List Item) where
         → slot_behind n placed ≡ n + sum_by (λ t. tree_nodes form.nodesize (lengths_of (items t))) (map (λ p. p.tree) placed)
     row_counted n [] stand = omega arith
     row_counted n (p ∷ placed) stand =
-        let more = row_counted (n + p.root.nodes) placed stand.1 in
-        let own = stand.0.count in
-        let sum = sum_by-cons (λ (t : NewTree). tree_nodes form.nodesize (lengths_of (items t))) p.tree (map (λ (q : PlacedTree). q.tree) placed) in
-        omega (arith, more, own, sum)
+        step _ _ _ _ _ _ (row_counted (n + p.root.nodes) placed stand.1) stand.0.count
+        (sum_by-cons (λ (t : NewTree). tree_nodes form.nodesize (lengths_of (items t))) p.tree (map (λ (q : PlacedTree). q.tree) placed))
+      where
+        step : (end before nodes own rest all : ℕ) → end ≡ before + nodes + rest → nodes ≡ own → all ≡ own + rest → end ≡ before + all
+        step end before nodes own rest all x y z = omega (arith, x, y, z)
 
 -- the same by other names of the items
 pub stand_by : (image : Image) (form : Form) (slots : List ℕ) (items others : NewTree → List Item) → ((t : NewTree) → items t ≡ others t) → (n : ℕ) (placed : List PlacedTree)
@@ -152,21 +153,19 @@ pub sum-inserted : {X : Type 0} (number f : X → ℕ) (x : X) (list : List X) �
 sum-inserted number f x [] = sum_by-cons f x []
 sum-inserted number f x (y ∷ list) = by (nat_lt (number x) (number y))
   where
+    step : (whole one rest other more all : ℕ) → whole ≡ one + rest → rest ≡ other + more → all ≡ one + more → whole ≡ other + all
+    step whole one rest other more all a b c = omega (arith, a, b, c)
+
     by : (b : Bool) → sum_by f (if b then x ∷ (y ∷ list) else y ∷ inserted number x list) ≡ f x + sum_by f (y ∷ list)
     by true = sum_by-cons f x (y ∷ list)
-    by false =
-        let first = sum_by-cons f y (inserted number x list) in
-        let more = sum-inserted number f x list in
-        let last = sum_by-cons f y list in
-        omega (arith, first, more, last)
+    by false = step _ _ _ _ _ _ (sum_by-cons f y (inserted number x list)) (sum-inserted number f x list) (sum_by-cons f y list)
 
 pub sum-with_all : {X : Type 0} (number f : X → ℕ) (list more : List X) → sum_by f (with_all number list more) ≡ sum_by f list + sum_by f more
 sum-with_all number f list [] = omega arith
-sum-with_all number f list (x ∷ more) =
-    let rest = sum-with_all number f (inserted number x list) more in
-    let one = sum-inserted number f x list in
-    let sum = sum_by-cons f x more in
-    omega (arith, rest, one, sum)
+sum-with_all number f list (x ∷ more) = step _ _ _ _ _ _ (sum-with_all number f (inserted number x list) more) (sum-inserted number f x list) (sum_by-cons f x more)
+  where
+    step : (whole first rest one list all : ℕ) → whole ≡ first + rest → first ≡ one + list → all ≡ one + rest → whole ≡ list + all
+    step whole first rest one list all a b c = omega (arith, a, b, c)
 
 -- ---- the list of trees
 

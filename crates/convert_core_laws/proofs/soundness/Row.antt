@@ -226,7 +226,7 @@ module _ (o : Options) (ids : Ids) (now : ℕ) (image other : Image) (m : Making
 
     by_trees : (ts : List NamedTree) → sum_by met_at (flat_map (λ (u : TreeOn). u.nodes) (map (named_on other s) ts)) ≡ sum_by weight ts
     by_trees [] = refl
-    by_trees (t ∷ ts) = let one = one_more (named_on other s t) (map (named_on other s) ts) in let rest = by_trees ts in let all = sum_by-cons weight t ts in omega (arith, one, rest, all)
+    by_trees (t ∷ ts) = one_more (named_on other s t) (map (named_on other s) ts) ∙ (ap (λ (c : ℕ). weight t + c) (by_trees ts) ∙ sym (sum_by-cons weight t ts))
 
     -- those of the trees that are written first
     by_row : (k : ℕ) (placed : List PlacedTree) → StandBehind other (form m) (slots m) (items_of image other m) k placed
@@ -236,10 +236,9 @@ module _ (o : Options) (ids : Ids) (now : ℕ) (image other : Image) (m : Making
         let t : TreeOn = named_on other s (named image other m p) in
         let list : List ℕ = drop k (slots m) in
         let own = tree_sum (tree_number p.tree) list t (at_list o ids now image other m r nodes v list (tree_number p.tree) (items_of image other m p.tree) p.root stands.0 (later_give o ids now image other m r nodes v k)) in
-        let rest = by_row (k + p.root.nodes) placed stands.1 in
-        let one = sum_by-cons weight (named image other m p) (map (named image other m) placed) in
-        let both = sum_by-append at (nodes_of_tree (tree_number p.tree) n (lengths_of (items_of image other m p.tree)) list) (nodes_behind n (slots m) (items_of image other m) (k + p.root.nodes) placed) in
-        omega (arith, own, rest, one, both)
+        sum_by-cons weight (named image other m p) (map (named image other m) placed)
+        ∙ (ap₂ (λ (c d : ℕ). c + d) own (by_row (k + p.root.nodes) placed stands.1)
+        ∙ sym (sum_by-append at (nodes_of_tree (tree_number p.tree) n (lengths_of (items_of image other m p.tree)) list) (nodes_behind n (slots m) (items_of image other m) (k + p.root.nodes) placed)))
 
     -- A sum over the nodes that a walk of all trees meets is that over the nodes that are told.
     pub nodes_sum : sum_by met_at (flat_map (λ (t : TreeOn). t.nodes) (all_trees k)) ≡ sum_by at nodes
@@ -247,12 +246,19 @@ module _ (o : Options) (ids : Ids) (now : ℕ) (image other : Image) (m : Making
         let extents : TreeOn = named_on other s (named_extents m r nodes) in
         let all = one_more k.chunk_tree (k.root_tree ∷ k.others) in
         let more = one_more k.root_tree k.others in
-        let others = by_trees (named_trees image other m r nodes) in
-        let ordered = sum-with_all (λ (t : NamedTree). t.number) weight (named_extents m r nodes ∷ []) (map (named image other m) (placed_trees r)) in
-        let one = sum_by-cons weight (named_extents m r nodes) [] in
+        let others : sum_by met_at (flat_map (λ (t : TreeOn). t.nodes) k.others) ≡ sum_by at extended + sum_by at first =
+        by_trees (named_trees image other m r nodes)
+        ∙ (sum-with_all (λ (t : NamedTree). t.number) weight (named_extents m r nodes ∷ []) (map (named image other m) (placed_trees r))
+        ∙ ap₂ (λ (c d : ℕ). c + d) (one_weight (named_extents m r nodes) ∙ tree_sum EXTENT_TREE (drop (extents_from r) (slots m)) extents (extents_at o ids now image other m r nodes v)) (by_row 0 (placed_trees r) stand.row)) in
         let chunk = tree_sum CHUNK_TREE (chunk_slots m) k.chunk_tree (chunk_at o ids now image other m r nodes v) in
-        let root = root_sum in
-        let last = tree_sum EXTENT_TREE (drop (extents_from r) (slots m)) extents (extents_at o ids now image other m r nodes v) in
-        let row = by_row 0 (placed_trees r) stand.row in
-        let told = told_sum in
-        omega (arith, all, more, others, ordered, one, chunk, root, last, row, told)
+        sum_up _ _ _ _ _ _ _ _ _ _ all more others chunk root_sum told_sum
+      where
+        one_weight : (t : NamedTree) → sum_by weight (t ∷ []) ≡ weight t
+        one_weight t = sum_by-cons weight t [] ∙ none (weight t)
+          where
+            none : (c : ℕ) → c + 0 ≡ c
+            none c = omega arith
+
+        sum_up : (all chunk more root others first rooted extended chunked told : ℕ) → all ≡ chunk + more → more ≡ root + others → others ≡ extended + first → chunk ≡ chunked → root ≡ rooted
+            → told ≡ first + rooted + chunked + extended → all ≡ told
+        sum_up all chunk more root others first rooted extended chunked told a b c d e f = omega (arith, a, b, c, d, e, f)
