@@ -102,11 +102,11 @@ nodes_by nodesize slots items others same n (p ∷ placed) =
 module _ {X : Type 0} (number : X → ℕ) where
   pub all-inserted : (P : X → Type 0) (x : X) (list : List X) → P x → All P list → All P (inserted number x list)
   all-inserted P x [] one all = All-cons P x [] one all
-  all-inserted P x (y ∷ list) one all = by (nat_lt (number x) (number y))
+  all-inserted P x (y ∷ list) one all = by (all-inserted P x list one (All-tail P y list all)) (nat_lt (number x) (number y))
     where
-      by : (b : Bool) → All P (if b then x ∷ (y ∷ list) else y ∷ inserted number x list)
-      by true = All-cons P x (y ∷ list) one all
-      by false = All-cons P y (inserted number x list) (All-head P y list all) (all-inserted P x list one (All-tail P y list all))
+      by : All P (inserted number x list) → (b : Bool) → All P (if b then x ∷ (y ∷ list) else y ∷ inserted number x list)
+      by rest true = All-cons P x (y ∷ list) one all
+      by rest false = All-cons P y (inserted number x list) (All-head P y list all) rest
 
   pub all-with_all : (P : X → Type 0) (list more : List X) → All P list → All P more → All P (with_all number list more)
   all-with_all P list [] all also = all
@@ -115,15 +115,15 @@ module _ {X : Type 0} (number : X → ℕ) where
   -- no element is lost
   pub in-inserted : (x y : X) (list : List X) → (x ≡ y) ⊎ Contains list y → Contains (inserted number x list) y
   in-inserted x y [] among = ⊎_elim (λ (same : x ≡ y). subst (λ (z : X). Contains (x ∷ []) z) same (contains_head x [])) (λ (none : Contains [] y). contains_tail y x [] none) among
-  in-inserted x y (z ∷ list) among = by (nat_lt (number x) (number z))
+  in-inserted x y (z ∷ list) among = by (in-inserted x y list) (nat_lt (number x) (number z))
     where
-      by : (b : Bool) → Contains (if b then x ∷ (z ∷ list) else z ∷ inserted number x list) y
-      by true = ⊎_elim (λ (same : x ≡ y). subst (λ (w : X). Contains (x ∷ (z ∷ list)) w) same (contains_head x (z ∷ list))) (λ (later : Contains (z ∷ list) y). contains_tail y x (z ∷ list) later) among
-      by false =
-          ⊎_elim (λ (same : x ≡ y). contains_tail y z (inserted number x list) (in-inserted x y list (inl same)))
+      by : ((x ≡ y) ⊎ Contains list y → Contains (inserted number x list) y) → (b : Bool) → Contains (if b then x ∷ (z ∷ list) else z ∷ inserted number x list) y
+      by rest true = ⊎_elim (λ (same : x ≡ y). subst (λ (w : X). Contains (x ∷ (z ∷ list)) w) same (contains_head x (z ∷ list))) (λ (later : Contains (z ∷ list) y). contains_tail y x (z ∷ list) later) among
+      by rest false =
+          ⊎_elim (λ (same : x ≡ y). contains_tail y z (inserted number x list) (rest (inl same)))
           (λ (later : Contains (z ∷ list) y).
           ⊎_elim (λ (here : z ≡ y). subst (λ (w : X). Contains (z ∷ inserted number x list) w) here (contains_head z (inserted number x list)))
-          (λ (behind : Contains list y). contains_tail y z (inserted number x list) (in-inserted x y list (inr behind))) (contains_cases y z list later))
+          (λ (behind : Contains list y). contains_tail y z (inserted number x list) (rest (inr behind))) (contains_cases y z list later))
           among
 
   pub in-with_all : (y : X) (list more : List X) → Contains list y ⊎ Contains more y → Contains (with_all number list more) y
@@ -136,13 +136,13 @@ module _ {X : Type 0} (number : X → ℕ) where
   module _ {Y : Type 0} (f : X → Y) (other : Y → ℕ) (same : (x : X) → other (f x) ≡ number x) where
     pub map-inserted : (x : X) (list : List X) → map f (inserted number x list) ≡ inserted other (f x) (map f list)
     map-inserted x [] = refl
-    map-inserted x (y ∷ list) = by (nat_lt (number x) (number y)) (nat_lt (other (f x)) (other (f y))) (ap₂ nat_lt (same x) (same y))
+    map-inserted x (y ∷ list) = by (map-inserted x list) (nat_lt (number x) (number y)) (nat_lt (other (f x)) (other (f y))) (ap₂ nat_lt (same x) (same y))
       where
-        by : (a b : Bool) → b ≡ a → map f (if a then x ∷ (y ∷ list) else y ∷ inserted number x list) ≡ (if b then f x ∷ (f y ∷ map f list) else f y ∷ inserted other (f x) (map f list))
-        by true true e = refl
-        by true false e = absurd (cc e)
-        by false true e = absurd (cc e)
-        by false false e = ap (λ (l : List Y). f y ∷ l) (map-inserted x list)
+        by : map f (inserted number x list) ≡ inserted other (f x) (map f list) → (a b : Bool) → b ≡ a → map f (if a then x ∷ (y ∷ list) else y ∷ inserted number x list) ≡ (if b then f x ∷ (f y ∷ map f list) else f y ∷ inserted other (f x) (map f list))
+        by rest true true e = refl
+        by rest true false e = absurd (cc e)
+        by rest false true e = absurd (cc e)
+        by rest false false e = ap (λ (l : List Y). f y ∷ l) rest
 
     pub map-with_all : (list more : List X) → map f (with_all number list more) ≡ with_all other (map f list) (map f more)
     map-with_all list [] = refl
@@ -151,14 +151,14 @@ module _ {X : Type 0} (number : X → ℕ) where
 -- a sum goes by no order
 pub sum-inserted : {X : Type 0} (number f : X → ℕ) (x : X) (list : List X) → sum_by f (inserted number x list) ≡ f x + sum_by f list
 sum-inserted number f x [] = sum_by-cons f x []
-sum-inserted number f x (y ∷ list) = by (nat_lt (number x) (number y))
+sum-inserted number f x (y ∷ list) = by (sum-inserted number f x list) (nat_lt (number x) (number y))
   where
     step : (whole one rest other more all : ℕ) → whole ≡ one + rest → rest ≡ other + more → all ≡ one + more → whole ≡ other + all
     step whole one rest other more all a b c = omega (arith, a, b, c)
 
-    by : (b : Bool) → sum_by f (if b then x ∷ (y ∷ list) else y ∷ inserted number x list) ≡ f x + sum_by f (y ∷ list)
-    by true = sum_by-cons f x (y ∷ list)
-    by false = step _ _ _ _ _ _ (sum_by-cons f y (inserted number x list)) (sum-inserted number f x list) (sum_by-cons f y list)
+    by : sum_by f (inserted number x list) ≡ f x + sum_by f list → (b : Bool) → sum_by f (if b then x ∷ (y ∷ list) else y ∷ inserted number x list) ≡ f x + sum_by f (y ∷ list)
+    by rest true = sum_by-cons f x (y ∷ list)
+    by rest false = step _ _ _ _ _ _ (sum_by-cons f y (inserted number x list)) rest (sum_by-cons f y list)
 
 pub sum-with_all : {X : Type 0} (number f : X → ℕ) (list more : List X) → sum_by f (with_all number list more) ≡ sum_by f list + sum_by f more
 sum-with_all number f list [] = omega arith
