@@ -1,5 +1,5 @@
 // The items of the root tree.
-ghost use Rattle.std.specs.Prelude.{◌≡◌, ◌<◌, ◌≤◌, ◌+◌, ◌^◌, ◌++◌, ◌∷◌, [], All, count_by, if◌then◌else◌, length, List, map, IfOk, OnOk};
+ghost use Rattle.std.specs.Prelude.{◌≡◌, ◌&&◌, nat_lt, ◌<◌, ◌≤◌, ◌+◌, ◌^◌, ◌++◌, ◌∷◌, [], All, count_by, if◌then◌else◌, length, List, map, IfOk, OnOk};
 ghost use Rattle.btr_tree.specs.outside.History.{Image};
 ghost use Rattle.btr_tree.specs.btr_node.NodeSize.{IsNodeSize};
 ghost use Rattle.btr_tree.specs.Counting.{Counted};
@@ -68,9 +68,10 @@ fn with_root(alloc: Global, roots: &[TreeRoot], root: TreeRoot) -> Result<RootLi
     for other in roots {
         waits = add_in_order(&mut list, root, waits, *other)?;
     }
-    if waits {
-        list.add(root)?;
+    if !waits {
+        return Ok(list);
     }
+    list.add(root)?;
     Ok(list)
 }
 
@@ -84,13 +85,20 @@ fn add_in_order(
     ensures { (rest : List TreeRootOf) → IfOk result (λ still. list.new ++ (if still then inserted (λ t. t.tree) root rest else rest)
         ≡ list.old ++ (if waits then inserted (λ t. t.tree) root (other ∷ rest) else other ∷ rest)) }
 {
-    if waits && root.tree < other.tree {
+    if comes_first(waits, root.tree, other.tree) {
         list.add(root)?;
         list.add(other)?;
         return Ok(false);
     }
     list.add(other)?;
     Ok(waits)
+}
+
+/// Whether a root waits, and its number is below another.
+fn comes_first(waits: bool, number: u64, other: u64) -> bool
+    ensures { result ≡ (waits && nat_lt number other) }
+{
+    waits && number < other
 }
 
 /// The index of the root's entry for the tree of the saved image: it is the root's last.

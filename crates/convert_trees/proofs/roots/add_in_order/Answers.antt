@@ -23,12 +23,12 @@ goes_later true true old root other rest e = absurd (cc e)
 goes_later true false old root other rest e = refl
 goes_later false less old root other rest e = refl
 
-pub returns-then-waits : goal.returns-then-waits
-returns-then-waits c = λ rest.
+pub returns-then-comes_first : goal.returns-then-comes_first
+returns-then-comes_first c = λ rest.
     two_more c.args.list.now _ _ rest c.args.root c.args.other c.in_ok-add.ensures.ok c.in_ok-add-2.ensures.ok
-    ∙ sym (goes_first c.args.waits (nat_lt c.args.root.tree c.args.other.tree) c.args.list.now c.args.root c.args.other rest c.if-waits.true)
+    ∙ sym (goes_first c.args.waits (nat_lt c.args.root.tree c.args.other.tree) c.args.list.now c.args.root c.args.other rest (sym c.comes_first.ensures ∙ c.if-comes_first.true))
 
 pub returns : goal.returns
 returns c = λ rest.
     one_more c.args.list.now _ (if c.args.waits then inserted (λ (t : TreeRoot). t.tree) c.args.root rest else rest) c.args.other c.in_ok-add-3.ensures.ok
-    ∙ sym (goes_later c.args.waits (nat_lt c.args.root.tree c.args.other.tree) c.args.list.now c.args.root c.args.other rest c.if-waits.false)
+    ∙ sym (goes_later c.args.waits (nat_lt c.args.root.tree c.args.other.tree) c.args.list.now c.args.root c.args.other rest (sym c.comes_first.ensures ∙ c.if-comes_first.false))
