@@ -3,7 +3,7 @@ use Rattle.convert_trees.proofs.roots.told_roots.Goals as goal
 
 pub loop-one-preserved : goal.loop-one-preserved
 loop-one-preserved c =
-    ap (λ (list : List TreeRoot). with_all (λ (t : TreeRoot). t.tree) list (map told_root (drop (c.loop-one.one-index + 1) c.args.placed.now))) c.in_ok-with_root.ensures
+    ap (λ (list : List TreeRoot). with_all (λ (t : TreeRoot). t.tree) list (map told_root (drop (c.loop-one.one-index + 1) c.args.placed.now))) c.in_ok-list.ensures
     ∙ (sym (ap (λ (ps : List PlacedTree). with_all (λ (t : TreeRoot). t.tree) c.loop-one.list (map told_root ps)) (drop_more c.args.placed.now c.loop-one.one-index _ c.loop-one-test.true))
     ∙ c.loop-one.invariant)
 

@@ -3,7 +3,7 @@ use Rattle.convert_trees.proofs.roots.with_root.Goals as goal
 
 pub loop-other-preserved : goal.loop-other-preserved
 loop-other-preserved c =
-    c.in_ok-add_in_order.ensures (drop (c.loop-other.other-index + 1) c.args.roots.now)
+    c.in_ok-waits.ensures (drop (c.loop-other.other-index + 1) c.args.roots.now)
     ∙ (sym (ap (λ (ts : List TreeRoot). c.loop-other.list ++ (if c.loop-other.waits then inserted (λ (t : TreeRoot). t.tree) c.args.root ts else ts)) (drop_more c.args.roots.now c.loop-other.other-index _ c.loop-other-test.true))
     ∙ c.loop-other.invariant)
 
