@@ -1,5 +1,10 @@
-use Rattle.convert_trees.proofs.Imports.{◌∙◌, List, [], map, drop, sym, ap, arith, drop_all, drop_more, TreeRoot, with_all, told_root, PlacedTree}
+use Rattle.convert_trees.proofs.Imports.{◌∙◌, ◌++◌, ◌∷◌, ◌+◌, EXTENT_TREE, List, [], map, drop, sym, ap, arith, drop_all, drop_more, TreeRoot, with_all, told_root, PlacedTree}
 use Rattle.convert_trees.proofs.roots.told_roots.Goals as goal
+
+pub loop-one-init : goal.loop-one-init
+loop-one-init c =
+    ap (λ (list : List TreeRoot). with_all (λ (t : TreeRoot). t.tree) list (map told_root c.args.placed.now))
+    (c.in_ok-add.ensures.ok ∙ ap (λ (list : List TreeRoot). list ++ record { tree = EXTENT_TREE; root = c.args.extents } ∷ []) c.new-list.ensures)
 
 pub loop-one-preserved : goal.loop-one-preserved
 loop-one-preserved c =

@@ -1,6 +1,9 @@
 use Rattle.convert_trees.proofs.Imports.{◌≡◌, ◌∙◌, ◌++◌, ◌∷◌, Bool, List, [], if◌then◌else◌, drop, sym, ap, arith, append-nil, drop_all, drop_more, TreeRoot, inserted}
 use Rattle.convert_trees.proofs.roots.with_root.Goals as goal
 
+pub loop-other-init : goal.loop-other-init
+loop-other-init c = ap (λ (list : List TreeRoot). list ++ inserted (λ (t : TreeRoot). t.tree) c.args.root c.args.roots.now) c.new-list.ensures
+
 pub loop-other-preserved : goal.loop-other-preserved
 loop-other-preserved c =
     c.in_ok-waits.ensures (drop (c.loop-other.other-index + 1) c.args.roots.now)
