@@ -1,4 +1,4 @@
-use Rattle.convert_trees.proofs.Imports.{◌∙◌, ◌++◌, ◌∷◌, ◌+◌, EXTENT_TREE, List, [], map, drop, sym, ap, arith, drop_all, drop_more, TreeRoot, with_all, told_root, PlacedTree}
+use Rattle.convert_trees.proofs.Imports.{◌∙◌, ◌++◌, ◌∷◌, ◌+◌, List, [], map, drop, sym, ap, arith, EXTENT_TREE, drop_all, drop_more, TreeRoot, with_all, told_root, PlacedTree}
 use Rattle.convert_trees.proofs.roots.told_roots.Goals as goal
 
 pub loop-one-init : goal.loop-one-init
