@@ -137,7 +137,7 @@ module _ (image : Image) (m : Making) (made : IsMaking image m) (size : IsNodeSi
         first_few : length first ≤ 2 ^ 37
         first_few =
             let long = length-map first (λ (t : TreeNode). t.address) in
-            let at = ap (λ (as : List ℕ). length as) (row_places other (form m) (slots m) (items_of image other m) 0 (placed_trees r) has.row) in
+            let at = ap (λ (xs : List ℕ). length xs) (row_places other (form m) (slots m) (items_of image other m) 0 (placed_trees r) has.row) in
             let few = length-take (root_from r - 0) (slots m) in
             let most = slots_few in
             omega (arith, long, at, few, most)

@@ -7,7 +7,7 @@ use Rattle.convert_core_laws.proofs.soundness.Lists.{filter_none}
 use Rattle.convert_core_laws.proofs.soundness.Among.{extents_in, tree_in, trees_all}
 use Rattle.convert_core_laws.proofs.soundness.Uses.{IsUse, by_file, by_image, file_uses, piece_use, use_at, uses_from}
 
-abbrev is_file_extent : Item → Bool
+abbrev pub is_file_extent : Item → Bool
 is_file_extent i = eqb i.0.kind EXTENT_DATA
 
 -- the range of a piece

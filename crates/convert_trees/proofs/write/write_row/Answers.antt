@@ -126,3 +126,6 @@ loop-tree-preserved g c =
 
 pub returns-clause-trees : goal.returns-clause-trees
 returns-clause-trees g c = c.loop-tree.invariant.trees ∙ take_all c.loop-tree.tree-index c.args.trees.now c.loop-tree-test.false
+
+pub returns-clause-stand : goal.returns-clause-stand
+returns-clause-stand g c = λ tells other is chunks are has used placed fit. c.loop-tree.invariant.stand tells other is chunks are has used placed fit
