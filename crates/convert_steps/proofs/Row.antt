@@ -39,22 +39,22 @@ behind_each n (p ∷ placed) =
     let more = behind_least (n + p.root.nodes) placed in
     All-cons (λ (q : PlacedTree). q.root.nodes ≤ slot_behind (n + p.root.nodes) placed) p placed (omega (arith, more)) (behind_each (n + p.root.nodes) placed)
 
-pub behind-append : (n : ℕ) (first then : List PlacedTree) → slot_behind n (first ++ then) ≡ slot_behind (slot_behind n first) then
-behind-append n [] then = refl
-behind-append n (p ∷ first) then = behind-append (n + p.root.nodes) first then
+pub behind-append : (n : ℕ) (first others : List PlacedTree) → slot_behind n (first ++ others) ≡ slot_behind (slot_behind n first) others
+behind-append n [] others = refl
+behind-append n (p ∷ first) others = behind-append (n + p.root.nodes) first others
 
 module _ (slots : List ℕ) (items : NewTree → List Item) where
-  pub nodes-append : (nodesize n : ℕ) (first then : List PlacedTree) → nodes_behind nodesize slots items n (first ++ then) ≡ nodes_behind nodesize slots items n first ++ nodes_behind nodesize slots items (slot_behind n first) then
-  nodes-append nodesize n [] then = refl
-  nodes-append nodesize n (p ∷ first) then =
+  pub nodes-append : (nodesize n : ℕ) (first others : List PlacedTree) → nodes_behind nodesize slots items n (first ++ others) ≡ nodes_behind nodesize slots items n first ++ nodes_behind nodesize slots items (slot_behind n first) others
+  nodes-append nodesize n [] others = refl
+  nodes-append nodesize n (p ∷ first) others =
       let own : List TreeNode = nodes_of_tree (tree_number p.tree) nodesize (lengths_of (items p.tree)) (drop n slots) in
-      ap (λ (ns : List TreeNode). own ++ ns) (nodes-append nodesize (n + p.root.nodes) first then)
-      ∙ sym (append_assoc own (nodes_behind nodesize slots items (n + p.root.nodes) first) (nodes_behind nodesize slots items (slot_behind (n + p.root.nodes) first) then))
+      ap (λ (ns : List TreeNode). own ++ ns) (nodes-append nodesize (n + p.root.nodes) first others)
+      ∙ sym (append_assoc own (nodes_behind nodesize slots items (n + p.root.nodes) first) (nodes_behind nodesize slots items (slot_behind (n + p.root.nodes) first) others))
 
   module _ (image : Image) (form : Form) where
-    pub stand-append : (n : ℕ) (first then : List PlacedTree) → StandBehind image form slots items n first → StandBehind image form slots items (slot_behind n first) then → StandBehind image form slots items n (first ++ then)
-    stand-append n [] then here behind = behind
-    stand-append n (p ∷ first) then here behind = (here.0, stand-append (n + p.root.nodes) first then here.1 behind)
+    pub stand-append : (n : ℕ) (first others : List PlacedTree) → StandBehind image form slots items n first → StandBehind image form slots items (slot_behind n first) others → StandBehind image form slots items n (first ++ others)
+    stand-append n [] others here behind = behind
+    stand-append n (p ∷ first) others here behind = (here.0, stand-append (n + p.root.nodes) first others here.1 behind)
 
     -- one of them, at the slots from a number on
     pub record StandsAt (end : ℕ) (p : PlacedTree) : Type 0 where

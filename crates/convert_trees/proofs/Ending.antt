@@ -1,5 +1,5 @@
 -- All trees stand in the end.
-use Rattle.convert_trees.proofs.Imports.{◌≡◌, ◌∙◌, ℕ, ◌+◌, ◌≤◌, ◌++◌, ◌∷◌, Bool, List, [], if◌then◌else◌, map, take, drop, refl, sym, ap, ap₂, subst, arith, ◌==◌, true, false, not, All, AllPairs, All-head, All-tail, CHUNK_TREE, EXTENT_TREE, ROOT_TREE, Image, History, reads, WritesOnly, Item, IsNodeSize, AreSlots, lengths_of, IsInSlots, Root, Making, chunk_slots, new_ids, slots, IsFor, form, TreeRoots, TreesStand, items_of, no_root, placed_trees, roots_told, Volume, chunk_items, extent_items, merged_nodes, nodes_of_tree, TreeNode, TreeStands, NodeForm, Trees, AreUnitsApart, node_places, PlannedChunk, Options, Piece, Plan, Ids, Adds, first_items, AddsRow, AddsLast, root_count, saved_in, slots_needed, items_of_root, eq-eqb, pairs_head, pairs_tail, new_trees, tree_number, NewTree, nodes_by, numbers_apart, stand_by, items_by, StandBehind, nodes_behind, slot_behind, NewRoots, PlacedTree}
+use Rattle.convert_trees.proofs.Imports.{◌≡◌, ◌∙◌, ℕ, ◌+◌, ◌≤◌, ◌++◌, ◌∷◌, Bool, List, [], if◌then◌else◌, map, take, drop, length, refl, sym, ap, ap₂, subst, arith, ◌==◌, true, false, not, All, AllPairs, All-head, All-tail, CHUNK_TREE, EXTENT_TREE, ROOT_TREE, Image, History, reads, WritesOnly, Item, IsNodeSize, AreSlots, lengths_of, IsInSlots, Root, Making, chunk_slots, new_ids, slots, IsFor, form, TreeRoots, TreesStand, items_of, no_root, placed_trees, roots_told, Volume, chunk_items, extent_items, merged_nodes, nodes_of_tree, TreeNode, TreeStands, NodeForm, Trees, AreUnitsApart, node_places, PlannedChunk, Options, Piece, Plan, Ids, Adds, first_items, AddsRow, AddsLast, root_count, saved_in, slots_needed, items_of_root, eq-eqb, pairs_head, pairs_tail, new_trees, tree_number, NewTree, nodes_by, numbers_apart, stand_by, items_by, StandBehind, nodes_behind, slot_behind, NewRoots, PlacedTree}
 use Rattle.convert_trees.proofs.Behind.{IsInRest, row_is, row_with, writes_behind}
 use Rattle.convert_trees.proofs.Front.{in_front}
 use Rattle.convert_trees.proofs.Opening.{files_in}
@@ -154,13 +154,13 @@ module _ (image other : Image) (m : Making) (chunk_row chunk_end row end : Trees
   placed_stand : Stand placed
   placed_stand = (
     row_stand,
-    (last.root,
-    (last.extents,
+    last.root,
+    last.extents,
     last.are_all
     ∙ ap₂ (λ (ns cs : List TreeNode). merged_nodes
     (merged_nodes (ns ++ nodes_of_tree ROOT_TREE size (lengths_of (items_of_root written (saved_in m.volume) m.now placed last.extents_at)) (drop behind (slots m))) cs)
     (nodes_of_tree EXTENT_TREE size (lengths_of (extent_items m.chunks m.pieces last.nodes size)) (drop (behind + t.root.nodes) (slots m))))
-    (nodes_by size (slots m) from_disk (items_of image other m) items_are 0 placed) added.nodes)),
+    (nodes_by size (slots m) from_disk (items_of image other m) items_are 0 placed) added.nodes,
   )
 
   pub trees_stand : (r : TreeRoots) × (nodes : List TreeNode) × TreesStand image other (reads h₃) m r nodes × (t ≡ roots_told m r nodes)

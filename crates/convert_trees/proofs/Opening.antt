@@ -4,7 +4,7 @@ use Rattle.unit_plan.proofs.Lists.{sum_next}
 use Rattle.file_items.specs.Tree.{Source, source_of, fs_tree_items}
 use Rattle.reiser_volume.specs.reiser_walk.Items.{ReiserItem}
 use Rattle.convert_trees.proofs.Staying.{volume_stays}
-use Rattle.convert_trees.proofs.Behind.{IsInRest}
+use Rattle.convert_trees.proofs.Behind.{IsInRest, row_is}
 use Rattle.convert_trees.proofs.Going.{Goes, row_stands, same_where, still_apart}
 use Rattle.convert_trees.proofs.Sums.{sum_items_same}
 

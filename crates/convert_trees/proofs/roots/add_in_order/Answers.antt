@@ -3,8 +3,8 @@ use Rattle.convert_trees.proofs.roots.add_in_order.Goals as goal
 
 -- a list with two elements more
 two_more : (old mid new rest : List TreeRoot) (a b : TreeRoot) → mid ≡ old ++ a ∷ [] → new ≡ mid ++ b ∷ [] → new ++ rest ≡ old ++ (a ∷ (b ∷ rest))
-two_more old mid new rest a b first then =
-    ap (λ (l : List TreeRoot). l ++ rest) (then ∙ ap (λ (l : List TreeRoot). l ++ b ∷ []) first)
+two_more old mid new rest a b one two =
+    ap (λ (l : List TreeRoot). l ++ rest) (two ∙ ap (λ (l : List TreeRoot). l ++ b ∷ []) one)
     ∙ (append_assoc (old ++ a ∷ []) (b ∷ []) rest ∙ append_assoc old (a ∷ []) (b ∷ rest))
 
 one_more : (old new rest : List TreeRoot) (b : TreeRoot) → new ≡ old ++ b ∷ [] → new ++ rest ≡ old ++ (b ∷ rest)
