@@ -35,7 +35,7 @@ pub use Rattle.btr_tree_writer.specs.declared.trees.Trees.{Trees}
 pub use Rattle.btrfs_format.specs.declared.key.TheConstants.{EXTENT_CSUM, ROOT_ITEM}
 pub use Rattle.btrfs_format.specs.declared.object.TheConstants.{CHUNK_TREE, EXTENT_CSUM_OBJECTID, EXTENT_TREE, ROOT_TREE}
 pub use Rattle.convert_options.specs.declared.options.Options.{Options}
-pub use Rattle.convert_steps.proofs.Row.{ascends, behind-append, behind_each, behind_least, few_told, items_by, nodes-append, nodes_by, numbers_apart, row_counted, stand-append, stand_by}
+pub use Rattle.convert_steps.proofs.Row.{ascends, behind-append, behind_each, behind_least, few_told, items_by, nodes-append, nodes_by, numbers_apart, numbers_of, row_counted, stand-append, stand_by}
 pub use Rattle.convert_steps.proofs.extent_pieces.Lists.{all_at, pairs_head, pairs_tail}
 pub use Rattle.convert_steps.specs.Making.{IsMaking, Making, chunk_slots, new_ids, slots}
 pub use Rattle.convert_steps.specs.Row.{StandBehind, inserted, nodes_behind, slot_behind, with_all}

@@ -1,7 +1,7 @@
 -- The numbers of a converted volume fit their fields.
-use Rattle.convert_core_laws.proofs.Imports.{◌≡◌, ◌≤◌, ◌<◌, ℕ, suc, ◌+◌, ◌-◌, ◌*◌, ◌^◌, Bool, List, [], ◌∷◌, ◌++◌, length, take, drop, refl, sym, ap, subst, ◌∙◌, ⊎_elim, arith, length-append, length-drop, AllPairs, flat_map, range_with_len, sum, length-map, length-take, length-range_with_len, sum_by-cons, sum_by-le, mul-le, nat_cmp, CHUNK_TREE, EXTENT_TREE, ROOT_TREE, Image, IsNodeSize, Item, tree_nodes, packed_leaves, tree_levels, level_pointers, lengths_of, pointers_to, pointer_to, Root, IsMaking, Making, chunk_slots, new_ids, slots, HasPieces, TreesStand, extents_from, form, nodes_from, nodes_of_others, root_from, root_tree_items, used_bytes, TreeRoots, sound, are_pieces, free_units, is_free_unit, unit_count, used_of, chunk_items, bytes_of_nodes, bytes_of_pieces, extent_items, merged_nodes, nodes_of_tree, TreeNode, length-merge, chunks_of, used_few, TreeStands, IsSoundPlan, need, nodes_in_unit, node_places, places_in, PlannedChunk, nodes_behind, placed_trees}
-use Rattle.convert_core.specs.convert_steps.Standing.{items_of}
+use Rattle.convert_core_laws.proofs.Imports.{◌≡◌, ◌≤◌, ◌<◌, ℕ, suc, ◌+◌, ◌-◌, ◌*◌, ◌^◌, Bool, List, [], ◌∷◌, ◌++◌, length, take, drop, refl, sym, ap, subst, ◌∙◌, ⊎_elim, arith, length-append, length-drop, AllPairs, flat_map, range_with_len, sum, length-map, length-take, length-range_with_len, sum_by-cons, sum_by-le, mul-le, nat_cmp, CHUNK_TREE, EXTENT_TREE, ROOT_TREE, Image, IsNodeSize, Item, tree_nodes, packed_leaves, tree_levels, level_pointers, lengths_of, pointers_to, pointer_to, Root, IsMaking, Making, chunk_slots, new_ids, slots, HasPieces, TreesStand, extents_from, form, nodes_from, nodes_of_others, root_from, root_tree_items, used_bytes, TreeRoots, placed_trees, sound, are_pieces, free_units, is_free_unit, unit_count, used_of, chunk_items, bytes_of_nodes, bytes_of_pieces, extent_items, merged_nodes, nodes_of_tree, TreeNode, length-merge, chunks_of, used_few, TreeStands, IsSoundPlan, need, nodes_in_unit, node_places, places_in, PlannedChunk, nodes_behind}
 use Rattle.std.proofs.Common.{sum_by}
+use Rattle.convert_core.specs.convert_steps.Standing.{items_of}
 use Rattle.convert_core.proofs.extent_pieces.Bounding.{filter_few}
 use Rattle.convert_core.proofs.space_items.Counting.{apart_counted, node_place, piece_bytes, piece_place, pieces_fit}
 use Rattle.convert_core_laws.proofs.reading.Named.{row_places}

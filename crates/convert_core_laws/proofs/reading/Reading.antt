@@ -1,5 +1,5 @@
 -- The trees of a converted volume are read, and it is readable.
-use Rattle.convert_core_laws.proofs.Imports.{◌≡◌, ◌⊎◌, ◌≤◌, ◌<◌, ℕ, ◌^◌, ◌-◌, inl, inr, List, [], ◌∷◌, map, drop, length, Option, Some, None, Ok, Err, sym, ap, subst, ◌∙◌, ⊎_elim, arith, length-drop, Contains, All-drop, SUPER_BLOCK, CONV_IMAGE_SUBVOL, EXTENT_TREE, FIRST_FREE_OBJECTID, FS_TREE, Image, block_at, BtrRefusal, Ids, has_root, BreaksNames, Item, chunk_map, opening_refusals, tree_of, own_map, own_super, pointer_of, root_item, BreaksExtents, IsFileTreeRefusal, roots_on, no_root_item, bad_root_item, bad_tree, bad_names, bad_extents, Super, super_refusals, unless_refused, super_of, super_in, Root, TreeItem, bare_item, found, wrong, MapRange, NodePointer, IsMaking, Making, new_ids, saved_index, slots, TreesStand, extents_from, file_tree_items, form, root_tree_items, TreeRoots, all_from_contains, extent_items, tree_root_item as item_of_root, TreeNode, TreeRoot, TreeStands, pointer_to_root, Options, ConvertedIsReadable, IsReadableWithTrees, OpensWithTrees, TreesRead, AreRangesFor, GivesItsOwn, IsNewVolume, ReadsTree, ReadsTrees, map_for, super_for, Files, SavedImage, NamedTree, named_trees, tree_number, All}
+use Rattle.convert_core_laws.proofs.Imports.{◌≡◌, ◌⊎◌, ◌≤◌, ◌<◌, ℕ, ◌^◌, ◌-◌, inl, inr, List, [], ◌∷◌, map, drop, length, Option, Some, None, Ok, Err, sym, ap, subst, ◌∙◌, ⊎_elim, arith, length-drop, Contains, All, All-drop, SUPER_BLOCK, CONV_IMAGE_SUBVOL, EXTENT_TREE, FIRST_FREE_OBJECTID, FS_TREE, Image, block_at, BtrRefusal, Ids, has_root, BreaksNames, Item, chunk_map, opening_refusals, tree_of, own_map, own_super, pointer_of, root_item, BreaksExtents, IsFileTreeRefusal, roots_on, no_root_item, bad_root_item, bad_tree, bad_names, bad_extents, Super, super_refusals, unless_refused, super_of, super_in, Root, TreeItem, bare_item, found, wrong, MapRange, NodePointer, IsMaking, Making, new_ids, saved_index, slots, TreesStand, extents_from, file_tree_items, form, root_tree_items, TreeRoots, NamedTree, named_trees, all_from_contains, extent_items, tree_root_item as item_of_root, TreeNode, TreeRoot, TreeStands, pointer_to_root, Options, ConvertedIsReadable, IsReadableWithTrees, OpensWithTrees, TreesRead, AreRangesFor, GivesItsOwn, IsNewVolume, ReadsTree, ReadsTrees, map_for, super_for, Files, SavedImage, tree_number}
 use Rattle.convert_core.specs.convert_steps.Standing.{items_of}
 use Rattle.convert_core_laws.proofs.reading.Mapped.{slot_small}
 use Rattle.convert_core_laws.proofs.reading.Numbers.{size_small, slots_few}

@@ -1,5 +1,5 @@
 -- The nodes that the extent tree tells of are those of all trees, each once.
-use Rattle.convert_core_laws.proofs.Imports.{◌≡◌, ◌≢◌, ◌⊎◌, ◌≤◌, ◌<◌, ℕ, zero, suc, ◌+◌, ◌-◌, ◌/◌, ◌^◌, inl, inr, List, [], ◌∷◌, ◌++◌, length, take, drop, get_or, refl, sym, ap, subst, ◌∙◌, ⊎_elim, arith, All, AllPairs, Contains, flat_map, sum_by, nat_cmp, Ordering, Less, Equal, Greater, cases_lt, All-contains, All-contains_itself, All-drop, All-take, sum_by-IsPermutation, sum_by-append, sum_by-cons, CHUNK_TREE, EXTENT_TREE, ROOT_TREE, Image, Ids, Recount, TreeOn, all_trees, Super, tree_nodes, lengths_of, NodePointer, IsMaking, Making, chunk_slots, new_ids, slots, TreesStand, extents_from, nodes_from, nodes_of_others, root_from, root_tree_items, TreeRoots, NamedTree, named, named_extents, named_trees, placed_trees, sound, slot_unit, IsNewVolume, super_for, all_at, pairs_head, pairs_tail, sum_mapped, contains_cases, contains_head, contains_tail, used_of, chunk_items, extent_items, merged_nodes, nodes_of_tree, TreeNode, addresses, tree_at, all-merge, merge, merge-greater, merge-less, nat_greater, nat_less, node_cmp, used_few, places_serve, Options, in_map, recount_for, named_on, sum-with_all, StandBehind, nodes_behind, PlacedTree, tree_number, map, form, ap₂}
+use Rattle.convert_core_laws.proofs.Imports.{◌≡◌, ◌≢◌, ◌⊎◌, ◌≤◌, ◌<◌, ℕ, zero, suc, ◌+◌, ◌-◌, ◌/◌, ◌^◌, inl, inr, List, [], ◌∷◌, ◌++◌, length, take, drop, get_or, refl, sym, ap, subst, ◌∙◌, ⊎_elim, arith, map, ap₂, All, AllPairs, Contains, flat_map, sum_by, nat_cmp, Ordering, Less, Equal, Greater, cases_lt, All-contains, All-contains_itself, All-drop, All-take, sum_by-IsPermutation, sum_by-append, sum_by-cons, CHUNK_TREE, EXTENT_TREE, ROOT_TREE, Image, Ids, Recount, TreeOn, all_trees, Super, tree_nodes, lengths_of, NodePointer, IsMaking, Making, chunk_slots, new_ids, slots, TreesStand, extents_from, nodes_from, nodes_of_others, root_from, root_tree_items, TreeRoots, NamedTree, named, named_extents, named_trees, placed_trees, form, sound, slot_unit, IsNewVolume, super_for, all_at, pairs_head, pairs_tail, sum_mapped, contains_cases, contains_head, contains_tail, used_of, chunk_items, extent_items, merged_nodes, nodes_of_tree, TreeNode, addresses, tree_at, all-merge, merge, merge-greater, merge-less, nat_greater, nat_less, node_cmp, used_few, places_serve, Options, in_map, recount_for, named_on, sum-with_all, StandBehind, nodes_behind, PlacedTree, tree_number}
 use Rattle.convert_core.specs.convert_steps.Standing.{items_of}
 use Rattle.convert_core_laws.proofs.soundness.Nodes.{AreAt, at_list, chunk_at, extents_at, later_give, packed_at, root_at}
 use Rattle.convert_core_laws.proofs.soundness.Unreserved.{fit_size, slot_holds}

@@ -1,5 +1,5 @@
 -- Each node that the extent tree tells of is one that a walk meets, and the other way round.
-use Rattle.convert_core_laws.proofs.Imports.{◌≡◌, ◌≢◌, ◌≤◌, ℕ, suc, ◌+◌, ◌-◌, eqb, Bool, cond, List, [], ◌∷◌, ◌++◌, length, map, take, drop, refl, sym, ap, ap₂, subst, ◌∙◌, ⊎_elim, arith, All, Contains, flat_map, sum_by, cases_eq, eq-eqb, ne_eqb, drop-take, take-take, All-append, All-contains, All-map, All-head, All-nil, All-tail, Contains-permutation, IsPermutation-sym, sum_by-cons, ROOT_TREE, Image, Ids, Recount, TreeOn, all_trees, Super, pointer_to, packed_leaves, tree_levels, level_pointers, lengths_of, NodePointer, Making, chunk_slots, slots, TreesStand, extents_from, nodes_from, nodes_of_others, root_from, root_tree_items, TreeRoots, named, named_extents, named_trees, placed_in, placed_trees, IsNewVolume, super_for, two_cases, in_flat_map, all_from_contains, contains_cases, contains_head, contains_tail, nodes_of_tree, TreeNode, all-merge, node_cmp, Options, recount_for, named_on, all_map, StandBehind, nodes_behind, PlacedTree, new_trees, tree_number, form}
+use Rattle.convert_core_laws.proofs.Imports.{◌≡◌, ◌≢◌, ◌≤◌, ℕ, suc, ◌+◌, ◌-◌, eqb, Bool, cond, List, [], ◌∷◌, ◌++◌, length, map, take, drop, refl, sym, ap, ap₂, subst, ◌∙◌, ⊎_elim, arith, All, Contains, flat_map, sum_by, cases_eq, eq-eqb, ne_eqb, drop-take, take-take, All-append, All-contains, All-map, All-head, All-nil, All-tail, Contains-permutation, IsPermutation-sym, sum_by-cons, ROOT_TREE, Image, Ids, Recount, TreeOn, all_trees, Super, pointer_to, packed_leaves, tree_levels, level_pointers, lengths_of, NodePointer, Making, chunk_slots, slots, TreesStand, extents_from, nodes_from, nodes_of_others, root_from, root_tree_items, TreeRoots, named, named_extents, named_trees, placed_in, placed_trees, form, IsNewVolume, super_for, two_cases, in_flat_map, all_from_contains, contains_cases, contains_head, contains_tail, nodes_of_tree, TreeNode, all-merge, node_cmp, Options, recount_for, named_on, all_map, StandBehind, nodes_behind, PlacedTree, new_trees, tree_number}
 use Rattle.std.proofs.Common.{sum}
 use Rattle.convert_core.specs.convert_steps.Standing.{items_of}
 use Rattle.convert_core_laws.proofs.soundness.Nodes.{AreAt, at_list, chunk_at, extents_at, later_give, packed_at, root_at}

@@ -1,5 +1,5 @@
 -- The root items and the nodes of a converted volume keep the rules of Linux.
-use Rattle.convert_core_laws.proofs.Imports.{◌≡◌, ◌≢◌, ◌≤◌, ◌<◌, ℕ, suc, ◌+◌, ◌%◌, ◌^◌, ◌-◌, inl, eqb, Bool, true, List, [], ◌∷◌, length, take, drop, refl, ap, arith, length-drop, All, AllPairs, Contains, list_any, All-append, All-drop, All-from_recursion, All-map, All-nil, All-permutation, IsPermutation-sym, EXTENT_TREE, FIRST_FREE_OBJECTID, TREE_RELOC, all_from_contains, Image, Ids, Item, IsNodeSize, NodePointer, Super, Recount, TreeOn, all_trees, holds_files, IsRootItem, KeepTreeRules, needed_trees, pointer_to, packed_leaves, tree_levels, level_pointers, lengths_of, pointers_to, Root, TreeStands, Making, chunk_slots, new_ids, slots, TreesStand, extents_from, form, root_from, TreeRoots, NamedTree, named_trees, extent_items, root_body, root_dirid, tree_root_item, TreeNode, TreeRoot, Options, NewIdsFit, IsNewVolume, super_for, ConvertedTreesAreSound, recount_for, numbers_ascend, pairs_of, tree_number, map, get_or}
+use Rattle.convert_core_laws.proofs.Imports.{◌≡◌, ◌≢◌, ◌≤◌, ◌<◌, ℕ, suc, ◌+◌, ◌%◌, ◌^◌, ◌-◌, inl, eqb, Bool, true, List, [], ◌∷◌, length, take, drop, refl, ap, arith, length-drop, map, get_or, All, AllPairs, Contains, list_any, All-append, All-drop, All-from_recursion, All-map, All-nil, All-permutation, IsPermutation-sym, EXTENT_TREE, FIRST_FREE_OBJECTID, TREE_RELOC, all_from_contains, Image, Ids, Item, IsNodeSize, NodePointer, Super, Recount, TreeOn, all_trees, holds_files, IsRootItem, KeepTreeRules, needed_trees, pointer_to, packed_leaves, tree_levels, level_pointers, lengths_of, pointers_to, Root, TreeStands, Making, chunk_slots, new_ids, slots, TreesStand, extents_from, form, root_from, TreeRoots, NamedTree, named_trees, extent_items, root_body, root_dirid, tree_root_item, TreeNode, TreeRoot, Options, NewIdsFit, IsNewVolume, super_for, ConvertedTreesAreSound, recount_for, numbers_ascend, pairs_of, tree_number}
 use Rattle.std.proofs.Common.{if◌then◌else◌}
 use Rattle.convert_core.specs.convert_steps.Standing.{items_of}
 use Rattle.convert_core_laws.proofs.reading.Mapped.{slot_small}

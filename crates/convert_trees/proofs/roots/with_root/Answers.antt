@@ -1,4 +1,4 @@
-use Rattle.convert_trees.proofs.Imports.{◌≡◌, ◌∙◌, ◌++◌, ◌∷◌, Bool, List, [], if◌then◌else◌, drop, sym, ap, arith, append-nil, drop_all, drop_more, TreeRoot, inserted, ◌+◌}
+use Rattle.convert_trees.proofs.Imports.{◌≡◌, ◌∙◌, ◌++◌, ◌∷◌, Bool, List, [], if◌then◌else◌, drop, sym, ap, arith, ◌+◌, append-nil, drop_all, drop_more, TreeRoot, inserted}
 use Rattle.convert_trees.proofs.roots.with_root.Goals as goal
 
 pub loop-other-init : goal.loop-other-init

@@ -1,4 +1,4 @@
-use Rattle.convert_trees.proofs.Imports.{◌≡◌, ◌∙◌, ℕ, ◌+◌, ◌-◌, ◌<◌, ◌++◌, ◌∷◌, List, [], map, take, drop, get_or, length, refl, sym, ap, ap₂, subst, arith, All, map-append, take_more, take_all, History, reads, WritesOnly, writes_none, Root, Item, AreWritable, NodeForm, Trees, Adds, first_items, AddsRow, tree_number, NewTree, behind-append, behind_least, slot_behind, PlacedTree, ◌*◌, ◌≤◌}
+use Rattle.convert_trees.proofs.Imports.{◌≡◌, ◌∙◌, ℕ, ◌+◌, ◌-◌, ◌<◌, ◌++◌, ◌∷◌, List, [], map, take, drop, get_or, length, refl, sym, ap, ap₂, subst, arith, ◌*◌, ◌≤◌, All, map-append, take_more, take_all, History, reads, WritesOnly, writes_none, Root, Item, AreWritable, NodeForm, Trees, Adds, first_items, AddsRow, tree_number, NewTree, behind-append, behind_least, slot_behind, PlacedTree}
 use Rattle.convert_trees.proofs.Adding.{failed}
 use Rattle.convert_trees.proofs.Behind.{IsInRest, later_by, writes_behind}
 use Rattle.convert_trees.proofs.Going.{Goes}
