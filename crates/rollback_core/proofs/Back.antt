@@ -109,7 +109,7 @@ module _ (disk : Image) (way : WayBack) (p : IsWayBack disk way) where
             let old : IsOld used b = record { marked = marked; outside = free } in
             let outside : ¬ IsSavedPlace way.reserved.items b = λ at. true≢false (sym ((place_restored b at).reserved) ∙ free) in
             let same : block_at other b ≡ block_at disk b =
-            ⊎_elim (λ kept. kept) (λ wiping. absurd (true≢false (sym marked ∙ free_unused b (wiped_free b wiping.0).1))) (is.others b rest outside) in
+            ⊎_elim (λ kept. kept) (λ wiped. absurd (true≢false (sym marked ∙ free_unused b (wiped_free b wiped).1))) (is.others b rest outside) in
             same ∙ sym (image_in_place disk p.can b old)
 
     -- and the old volume is back
@@ -120,7 +120,7 @@ module _ (disk : Image) (way : WayBack) (p : IsWayBack disk way) where
       others = λ b free.
           let rest : b ≢ 16 = λ first. true≢false (sym superblock_used ∙ (ap (has used) (sym first) ∙ free)) in
           let outside : ¬ IsSavedPlace way.reserved.items b = λ at. true≢false (sym ((place_restored b at).used) ∙ free) in
-          ⊎_elim (λ kept. inl kept) (λ wiping. let of = wiped_free b wiping.0 in inr (of.0, of.1, wiping.1)) (is.others b rest outside);
+          ⊎_elim (λ kept. inl kept) (λ wiped. inr (wiped_free b wiped)) (is.others b rest outside);
     }
       where
         superblock_used : has used 16 ≡ true

@@ -1,6 +1,7 @@
 pub mod Apart
 pub mod Back
 pub mod Fronts
+pub mod Halfway
 pub mod Imaged
 pub mod Imports
 pub mod Leaving

@@ -2,6 +2,7 @@
 use Rattle.rollback_core.proofs.Imports.{◌≡◌, ◌≢◌, inl, inr, ⊎_elim, ℕ, ◌≤◌, ◌+◌, eqb, nat_lt, Bool, true, false, not, ◌&&◌, List, length, codes, refl, sym, ◌∙◌, ap, subst, arith, true≢false, and_parts, nat_tests, SUPER_MAGIC_OFFSET, Image, block_at, image_blocks, image_short, IsSameOutside, has, superblock, used_of, used_length, same_volume, has_bytes_at, is_reserved, RollbackGoesOn, RollbackKeeps, IsBack, IsRolledBack, StillStands, is_wiped, CanGoBack, old_used}
 use Rattle.volume_state.specs.Laws.{is_spare}
 use Rattle.volume_state.proofs.Staying.{spare_blocks_decide_nothing}
+use Rattle.super_turn.specs.PutBack.{put_back}
 use Rattle.rollback_core.proofs.Back.{equal_or}
 
 -- a reserved block other than 16 is a spare one
@@ -24,6 +25,8 @@ outside_spare disk other is = record { size = is.size; others = λ b free. ⊎_e
 pub rollback_keeps : RollbackKeeps
 rollback_keeps = record {
   standing = λ disk other u is. spare_blocks_decide_nothing disk other u (outside_spare disk other is);
+  half = λ disk other u is.
+      same_volume (image_blocks disk) (put_back other) u.accepted is.back.used (room disk (put_back other) u is.back);
   back = λ disk other u is.
       same_volume (image_blocks disk) other u.accepted is.used (room disk other u is);
 }
@@ -63,7 +66,7 @@ module _ (disk left other : Image) (u : CanGoBack disk) (is : StillStands disk l
       size = done.back.size ∙ is.size;
       used = λ b marked. done.back.used b (subst (λ (used : List Bool). has used b ≡ true) (sym used_same) marked) ∙ ap (λ (i : Image). block_at i b) image_same;
       others = λ b free.
-          ⊎_elim (λ same. inl (same ∙ left_same b free)) (λ wiped. inr (wiped.0, sym (wiped_same b free) ∙ wiped.1, wiped.2))
+          ⊎_elim (λ same. inl (same ∙ left_same b free)) (λ wiped. inr (wiped.0, sym (wiped_same b free) ∙ wiped.1))
           (done.back.others b (subst (λ (used : List Bool). has used b ≡ false) (sym used_same) free));
     };
     wiped = λ b mirror wiped. done.wiped b mirror (wiped_same b (unused b wiped) ∙ wiped);

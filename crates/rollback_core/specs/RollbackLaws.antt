@@ -1,5 +1,5 @@
 -- What a rollback and its crashes keep.
-use Rattle.std.specs.Prelude.{◌≢◌}
+use Rattle.std.specs.Prelude.{◌≡◌, ◌≢◌, ◌^◌, ◌<◌, length}
 use Rattle.reiser_bitmap.specs.outside.History.{Image}
 use Rattle.convert_steps.specs.command_answers.declared.answer.Answer.{Answer}
 use Rattle.convert_steps.specs.command_answers.declared.answer.Answer.TheVariants as answer
@@ -9,14 +9,16 @@ use Rattle.volume_state.specs.GoingBack.{CanGoBack}
 use Rattle.reiser_volume.specs.Laws.{IsSameVolume}
 use Rattle.rollback_core.specs.RollbackAnswers.{RefusesRollback}
 use Rattle.rollback_core.specs.Prepared.{IsWayBack}
-use Rattle.rollback_core.specs.RolledBack.{IsBack, IsRolledBack, StillStands}
-use Rattle.rollback_core.specs.Writing.{AreWritesApart, AreWiped, IsTurned, IsUnturned}
+use Rattle.super_turn.specs.PutBack.{put_back}
+use Rattle.rollback_core.specs.RolledBack.{IsBack, IsHalfBack, IsRolledBack, StillStands}
+use Rattle.rollback_core.specs.Writing.{AreWritesApart, AreWiped, IsHalfway, IsTurned, IsUnturned}
 use Rattle.rollback_core.specs.declared.way.WayBack.{WayBack}
 
--- What each of the two states means. The Btrfs volume that a crash leaves is the same, with its rows and its saved image, and can be rolled
+-- What each of the three states means. The Btrfs volume that a crash leaves is the same, with its rows and its saved image, and can be rolled
 -- back. The old volume that a crash leaves, or that is rolled back to, is that in the saved image: it is accepted, with the same rows.
 pub record RollbackKeeps : Type 0 where
   pub standing : (disk other : Image) → CanGoBack disk → StillStands disk other → CanGoBackToo disk other
+  pub half : (disk other : Image) → CanGoBack disk → IsHalfBack disk other → IsSameVolume (image_blocks disk) (put_back other)
   pub back : (disk other : Image) → CanGoBack disk → IsBack disk other → IsSameVolume (image_blocks disk) other
 
 -- After a crash that left the Btrfs volume another rollback ends as the first one would have: it makes the same blocks of the same image.
@@ -32,5 +34,7 @@ RefusedCanNotGoBack = (disk : Image) (e : Answer) → RefusesRollback disk e →
 -- the old one.
 pub record WritingRollsBack : Type 0 where
   pub standing : (disk : Image) (way : WayBack) (other : Image) → IsWayBack disk way → AreWritesApart way → IsUnturned way disk other → StillStands disk other
+  pub half : (disk : Image) (way : WayBack) (other : Image) → IsWayBack disk way → AreWritesApart way → length way.superblock.bytes ≡ 4096 → way.copy < 2 ^ 64
+      → IsHalfway way disk other → IsHalfBack disk other
   pub back : (disk : Image) (way : WayBack) (other : Image) → IsWayBack disk way → IsTurned way disk other → IsBack disk other
   pub done : (disk : Image) (way : WayBack) (other : Image) → IsWayBack disk way → IsTurned way disk other → AreWiped way other → IsRolledBack disk other

@@ -1,5 +1,6 @@
-use Rattle.rollback_core.proofs.Imports.{refl, one_sync, one_write, then_writes}
-use Rattle.rollback_core.proofs.restore.write_superblock.Goals as goal
+use Rattle.std.proofs.Common.{refl}
+use Rattle.outside.proofs.Writes.{one_sync, one_write, then_writes}
+use Rattle.super_turn.proofs.steps.write_step.Goals as goal
 
 pub returns-in_err-write-clause-writes : goal.returns-in_err-write-clause-writes
 returns-in_err-write-clause-writes g c = one_write _ _ _ (refl, refl) c.write.ensures.open c.write.ensures.size c.write.ensures.borrow c.write.ensures.effect

@@ -1,0 +1,53 @@
+-- Block 16 is written step by step: what stands behind each, and what a crash of it leaves.
+use Rattle.std.proofs.Common.{◌≡◌, ◌≢◌, ◌⊎◌, inl, inr, ⊎_elim, ℕ, ◌<◌, List, [], length, set, refl, sym, ◌∙◌, ap, subst, get_or-set_same, get_or-set_other}
+use Rattle.std.proofs.lemmas.List.{length-set}
+use Rattle.outside.specs.History.{History, Image, IsBlock, IsSettled, IsTorn, LeftSince, WritesOnly, block_at, clock, reads}
+use Rattle.outside.proofs.Crash.{writes_weaker}
+use Rattle.outside.proofs.Phases.{left_one, left_then}
+use Rattle.super_turn.specs.Turned.{IsStep, StandsWith}
+
+-- a write of block 16
+abbrev pub IsSuperWrite : ℕ → List ℕ → Type 0
+IsSuperWrite b bytes = b ≡ 16
+
+pub stands_start : (start : Image) → StandsWith (block_at start 16) start start
+stands_start start = record { size = refl; others = λ b other. refl; superblock = refl }
+
+module _ (from to : List ℕ) (start : Image) (h h' : History) (stands : StandsWith from start (reads h)) where
+  pub step_stands : 16 < length (reads h) → reads h' ≡ set (reads h) 16 to → StandsWith to start (reads h')
+  step_stands long is = record {
+    size = ap (λ (i : Image). length i) is ∙ length-set (reads h) 16 to ∙ stands.size;
+    others = λ b other. ap (λ (i : Image). block_at i b) is ∙ get_or-set_other (reads h) 16 b to [] other ∙ stands.others b other;
+    superblock = ap (λ (i : Image). block_at i 16) is ∙ get_or-set_same (reads h) 16 to [] long;
+  }
+
+  pub step_crash : IsSettled h → WritesOnly (IsBlock 16 to) h h' → (image : Image) → LeftSince (clock h) h' image → IsStep from to start image
+  step_crash settled only image left =
+      let one = left_one 16 to h h' only settled image left in
+      record {
+        size = one.0 ∙ stands.size;
+        others = λ b other. one.1 b other ∙ stands.others b other;
+        torn = subst (λ (bytes : List ℕ). IsTorn (λ value. value ≡ to) bytes (block_at image 16)) stands.superblock one.2;
+      }
+
+pub step_writes : (bytes : List ℕ) (h h' : History) → WritesOnly (IsBlock 16 bytes) h h' → WritesOnly IsSuperWrite h h'
+step_writes bytes = writes_weaker (IsBlock 16 bytes) IsSuperWrite (λ b other is. is.0)
+
+-- two steps, of which the first stands
+pub two_crash : (a b : List ℕ) (h₀ h₁ h₂ : History) → IsSettled h₀ → WritesOnly (IsBlock 16 a) h₀ h₁ → IsSettled h₁ → StandsWith a (reads h₀) (reads h₁) → WritesOnly (IsBlock 16 b) h₁ h₂
+    → (image : Image) → LeftSince (clock h₀) h₂ image → IsStep (block_at (reads h₀) 16) a (reads h₀) image ⊎ IsStep a b (reads h₀) image
+two_crash a b h₀ h₁ h₂ settled₀ only₁ settled₁ stands only₂ image left =
+    ⊎_elim
+    (λ early. inl (step_crash (block_at (reads h₀) 16) a (reads h₀) h₀ h₁ (stands_start (reads h₀)) settled₀ only₁ image early))
+    (λ late. inr (step_crash a b (reads h₀) h₁ h₂ stands settled₁ only₂ image late))
+    (left_then (IsBlock 16 a) (IsBlock 16 b) h₀ h₁ h₂ only₁ only₂ image left)
+
+-- and one more
+pub three_crash : (a b c : List ℕ) (h₀ h₂ h₃ : History) → WritesOnly IsSuperWrite h₀ h₂ → IsSettled h₂ → StandsWith b (reads h₀) (reads h₂) → WritesOnly (IsBlock 16 c) h₂ h₃
+    → ((image : Image) → LeftSince (clock h₀) h₂ image → IsStep (block_at (reads h₀) 16) a (reads h₀) image ⊎ IsStep a b (reads h₀) image)
+    → (image : Image) → LeftSince (clock h₀) h₃ image → IsStep (block_at (reads h₀) 16) a (reads h₀) image ⊎ (IsStep a b (reads h₀) image ⊎ IsStep b c (reads h₀) image)
+three_crash a b c h₀ h₂ h₃ only₂ settled₂ stands only₃ two image left =
+    ⊎_elim
+    (λ early. ⊎_elim (λ first. inl first) (λ second. inr (inl second)) (two image early))
+    (λ late. inr (inr (step_crash b c (reads h₀) h₂ h₃ stands settled₂ only₃ image late)))
+    (left_then IsSuperWrite (IsBlock 16 c) h₀ h₂ h₃ only₂ only₃ image left)
