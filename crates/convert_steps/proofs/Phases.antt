@@ -18,12 +18,13 @@ switched superblock blocks old image size is others = record {
 }
 
 -- while block 16 is turned
-pub superblock_crash : (superblock : List ℕ) (place blocks : ℕ) (old image : Image) → IsTurning (block_at old 16) place superblock old image → IsLeftBySwitch place superblock blocks old image
-superblock_crash superblock place blocks old image is =
+pub superblock_crash : (superblock : List ℕ) (place blocks : ℕ) (old image : Image) → (image ≡ old) ⊎ IsTurning (block_at old 16) place superblock old image → IsLeftBySwitch place superblock blocks old image
+superblock_crash superblock place blocks old image (inl same) = inl same
+superblock_crash superblock place blocks old image (inr is) =
     ⊎_elim
     (λ same. inl (ext_get_or [] image old is.size (λ b below.
     ⊎_elim (λ here. subst (λ (n : ℕ). block_at image n ≡ block_at old n) (sym here) same) (λ other. is.others b other) (cases_eq b 16))))
-    (λ turned. ⊎_elim (λ half. inr (inl (record { size = is.size; others = is.others; half = half }))) (λ new. inr (inr (switched superblock blocks old image is.size new is.others))) turned)
+    (λ turned. ⊎_elim (λ half. inr (inl (record { size = is.size; others = is.others; whole = is.whole; small = is.small; half = half }))) (λ new. inr (inr (switched superblock blocks old image is.size new is.others))) turned)
     is.superblock
 
 -- the superblock stands

@@ -1,5 +1,5 @@
 -- What the switch to a Btrfs superblock leaves.
-use Rattle.std.specs.Prelude.{◌≡◌, ◌≢◌, ◌⊎◌, ℕ, ◌+◌, ◌<◌, nat_lt, if◌then◌else◌, Option, Some, None, List, [], ◌∷◌, length}
+use Rattle.std.specs.Prelude.{◌≡◌, ◌≢◌, ◌⊎◌, ℕ, ◌+◌, ◌^◌, ◌<◌, nat_lt, if◌then◌else◌, Option, Some, None, List, [], ◌∷◌, length}
 use Rattle.btrfs_format.specs.declared.block.TheConstants.{FIRST_MIRROR, SECOND_MIRROR, SUPER_BLOCK}
 use Rattle.command_answers.specs.outside.History.{Image, block_at}
 use Rattle.btr_super.specs.Super.{mirror_bytes}
@@ -45,6 +45,8 @@ pub record IsSwitched (superblock : List ℕ) (blocks : ℕ) (old image : Image)
 pub record IsHalfSwitched (place : ℕ) (old image : Image) : Type 0 where
   pub size : length image ≡ length old
   pub others : (b : ℕ) → b ≢ 16 → block_at image b ≡ block_at old b
+  pub whole : length (block_at old SUPER_BLOCK) ≡ 4096
+  pub small : place < 2 ^ 64
   pub half : IsHalf (block_at old SUPER_BLOCK) place (block_at image SUPER_BLOCK)
 
 -- what a crash of a switch leaves: the disk as it was, half turned, or with the new superblock

@@ -1,5 +1,5 @@
 -- Where block 16 is half turned over the restored blocks, the old volume stands once it is put back.
-use Rattle.std.proofs.Common.{◌≡◌, ◌≢◌, inl, ⊎_elim, ℕ, ◌^◌, ◌<◌, ◌≤◌, true, false, true≢false, List, [], length, set, Option, Some, None, refl, sym, ◌∙◌, ap, subst, arith, get_or-set_same, get_or-set_other}
+use Rattle.std.proofs.Common.{◌≡◌, ◌≢◌, inl, ⊎_elim, ℕ, ◌<◌, true, false, true≢false, List, [], length, set, Option, Some, None, refl, sym, ◌∙◌, ap, subst, arith, get_or-set_same, get_or-set_other}
 use Rattle.std.proofs.lemmas.Bool.{cases_lt}
 use Rattle.std.proofs.lemmas.List.{get_or_past, length-set}
 use Rattle.std.specs.Option.{unwrap_or}
@@ -100,9 +100,9 @@ module _ (disk : Image) (way : WayBack) (p : IsWayBack disk way) where
       others = λ b rest outside. inl (get_or-set_other other 16 b old [] rest ∙ is.others b rest outside);
     }
 
-    pub half_back : length old ≡ 4096 → way.copy < 2 ^ 64 → IsHalfBack disk other
-    half_back whole small =
+    pub half_back : IsHalfBack disk other
+    half_back =
         let has : HasHalf old way.copy other =
-        record { whole = whole; other_magic = no_other; inside = inside; elsewhere = elsewhere; small = small; copy = copy_there; half = is.half } in
+        record { whole = is.whole; other_magic = no_other; inside = inside; elsewhere = elsewhere; small = is.small; copy = copy_there; half = is.half } in
         let both = half_turned old way.copy other has in
         record { half = both.0; back = subst (IsBack disk) (sym both.1) (back disk way p (set other 16 old) turned) }

@@ -1,6 +1,9 @@
 -- What is to stand in the blocks of copies, and how many of them are to change.
 use Rattle.rollback_core.proofs.Imports.{◌≡◌, ◌≢◌, ◌∙◌, ℕ, ◌+◌, Bool, true, false, cond, not, ◌&&◌, nat_lt, List, [], ◌∷◌, length, Some, None, codes, refl, sym, ap, true≢false, bytes_eq, bytes_eq-Decides, FIRST_MIRROR, SECOND_MIRROR, SUPER_BLOCK, SUPER_MAGIC_OFFSET, Image, block_at, mirror_bytes, has, superblock_fields, superblock, used_of, has_bytes_at, zeros, Block, Format, Reiser, Btrfs, Neither, Gives, blocks_of, copied, mended_by, wiped, copy_blocks}
 use Rattle.std.specs.Prelude.{◌+◌, filter}
+use Rattle.std.proofs.Common.{◌⊎◌, inl, inr, ⊎_elim, ◌<◌, ◌≤◌, arith}
+use Rattle.std.proofs.lemmas.Bool.{cases_lt}
+use Rattle.convert_steps.specs.Switch.{IsMirror}
 
 -- ---- one of two lists
 same_both : (t : Bool) (z : List ℕ) → cond t z z ≡ z
@@ -144,3 +147,13 @@ gives_same bytes wanted same = record { bytes_are = sym same; needed = sym (same
 
 pub gives_other : (bytes wanted : List ℕ) (block : Block) → block.bytes ≡ wanted → wanted ≢ bytes → Gives bytes wanted (Some block)
 gives_other bytes wanted block is other = record { bytes_are = is; needed = sym (ap not (not_true (bytes_eq wanted bytes) (λ same. other ((bytes_eq-Decides wanted bytes).0 same)))) }
+
+-- ---- the blocks of copies
+equal_or : (a b : ℕ) → (a ≡ b) ⊎ (a ≢ b)
+equal_or a b =
+    ⊎_elim (λ (less : a < b). inr (λ same. omega (arith, less, same)))
+    (λ (least : b ≤ a). ⊎_elim (λ (more : b < a). inr (λ same. omega (arith, more, same))) (λ (most : a ≤ b). inl (let e : a ≡ b = omega (arith, least, most) in e)) (cases_lt b a)) (cases_lt a b)
+
+pub mirror_or : (b : ℕ) → IsMirror b ⊎ (IsMirror b → ⊥)
+mirror_or b =
+    ⊎_elim (λ one. inl (inl one)) (λ not_one. ⊎_elim (λ two. inl (inr two)) (λ not_two. inr (λ mirror. ⊎_elim not_one not_two mirror)) (equal_or b SECOND_MIRROR)) (equal_or b FIRST_MIRROR)

@@ -70,6 +70,8 @@ module _ (way : WayBack) (apart : AreWritesApart way) (old : Image) where
       (λ rest. ⊎_elim
       (λ half. inr (inl (record {
         size = t.size ∙ before.size;
+        whole = t.whole;
+        small = t.small;
         half = half;
         written = saved_stay mid image stand t.others;
         others = λ b not_superblock outside. t.others b not_superblock ∙ before.others b outside;
@@ -107,11 +109,12 @@ saved_crash way h₀ h₁ settled only image left =
 -- while block 16 is turned, over the saved blocks
 pub superblock_crash : (way : WayBack) (h₀ h₁ h₂ : History) → AreWritesApart way → IsSettled h₀ → WritesSaved way.reserved.items h₀ h₁
     → AreWrittenBack way.reserved.items (reads h₁) → WritesOnly (λ b _. b ≡ 16) h₁ h₂
-    → ((image : Image) → LeftSince (clock h₁) h₂ image → IsTurning way.superblock.bytes way.copy (block_at (reads h₁) 16) (reads h₁) image)
+    → ((image : Image) → LeftSince (clock h₁) h₂ image → (image ≡ reads h₁) ⊎ IsTurning way.superblock.bytes way.copy (block_at (reads h₁) 16) (reads h₁) image)
     → (image : Image) → LeftSince (clock h₀) h₂ image → IsUnturned way (reads h₀) image ⊎ (IsHalfway way (reads h₀) image ⊎ IsTurned way (reads h₀) image)
 superblock_crash way h₀ h₁ h₂ apart settled₀ only₁ stand only₂ turning image left =
     ⊎_elim (λ early. inl (saved_crash way h₀ h₁ settled₀ only₁ image early))
-    (λ late. over_turning way apart (reads h₀) (reads h₁) image (reads_unturned way h₀ h₁ only₁) stand (turning image late))
+    (λ late. ⊎_elim (λ same. inl (subst (IsUnturned way (reads h₀)) (sym same) (reads_unturned way h₀ h₁ only₁)))
+    (λ turned. over_turning way apart (reads h₀) (reads h₁) image (reads_unturned way h₀ h₁ only₁) stand turned) (turning image late))
     (left_then (λ b _. IsSavedPlace way.reserved.items b) (λ b _. b ≡ 16) h₀ h₁ h₂ only₁ only₂ image left)
 
 -- block 16 stands over the saved blocks

@@ -1,5 +1,5 @@
 -- What a rollback and its crashes keep.
-use Rattle.std.specs.Prelude.{◌≡◌, ◌≢◌, ◌^◌, ◌<◌, length}
+use Rattle.std.specs.Prelude.{◌≢◌}
 use Rattle.reiser_bitmap.specs.outside.History.{Image}
 use Rattle.convert_steps.specs.command_answers.declared.answer.Answer.{Answer}
 use Rattle.convert_steps.specs.command_answers.declared.answer.Answer.TheVariants as answer
@@ -34,7 +34,6 @@ RefusedCanNotGoBack = (disk : Image) (e : Answer) → RefusesRollback disk e →
 -- the old one.
 pub record WritingRollsBack : Type 0 where
   pub standing : (disk : Image) (way : WayBack) (other : Image) → IsWayBack disk way → AreWritesApart way → IsUnturned way disk other → StillStands disk other
-  pub half : (disk : Image) (way : WayBack) (other : Image) → IsWayBack disk way → AreWritesApart way → length way.superblock.bytes ≡ 4096 → way.copy < 2 ^ 64
-      → IsHalfway way disk other → IsHalfBack disk other
+  pub half : (disk : Image) (way : WayBack) (other : Image) → IsWayBack disk way → AreWritesApart way → IsHalfway way disk other → IsHalfBack disk other
   pub back : (disk : Image) (way : WayBack) (other : Image) → IsWayBack disk way → IsTurned way disk other → IsBack disk other
   pub done : (disk : Image) (way : WayBack) (other : Image) → IsWayBack disk way → IsTurned way disk other → AreWiped way other → IsRolledBack disk other

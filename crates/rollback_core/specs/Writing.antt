@@ -1,5 +1,5 @@
 -- What is written back, and what that leaves.
-use Rattle.std.specs.Prelude.{◌≡◌, ◌≢◌, ◌⊎◌, ℕ, ◌<◌, true, All, AllPairs, Any, List, length}
+use Rattle.std.specs.Prelude.{◌≡◌, ◌≢◌, ◌⊎◌, ℕ, ◌^◌, ◌<◌, true, All, AllPairs, Any, List, length}
 use Rattle.btrfs_format.specs.declared.block.TheConstants.{FIRST_MIRROR, SECOND_MIRROR, SUPER_BLOCK}
 use Rattle.reiser_bitmap.specs.outside.History.{Image, block_at}
 use Rattle.reiser_bitmap.specs.vol_block.Volume.{zeros}
@@ -58,6 +58,8 @@ AreWrittenBack saved other = All (λ s. block_at other s.at ≡ s.block.bytes) s
 -- The saved blocks stand, and block 16 is half turned: its first sector is that of the old superblock, with a mark.
 pub record IsHalfway (way : WayBack) (old other : Image) : Type 0 where
   pub size : length other ≡ length old
+  pub whole : length way.superblock.bytes ≡ 4096
+  pub small : way.copy < 2 ^ 64
   pub half : IsHalf way.superblock.bytes way.copy (block_at other SUPER_BLOCK)
   pub written : AreWrittenBack way.reserved.items other
   pub others : (b : ℕ) → b ≢ 16 → ¬ IsSavedPlace way.reserved.items b → block_at other b ≡ block_at old b

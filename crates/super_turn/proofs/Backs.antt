@@ -111,7 +111,7 @@ module _ (image : Image) where
   put_front = ap (take 128) super_put ∙ super_front
 
 -- two disks that have the same in block 16 and elsewhere
-same_disks : (one two : Image) → length one ≡ length two → block_at one 16 ≡ block_at two 16 → ((b : ℕ) → b ≢ 16 → block_at one b ≡ block_at two b) → one ≡ two
+pub same_disks : (one two : Image) → length one ≡ length two → block_at one 16 ≡ block_at two 16 → ((b : ℕ) → b ≢ 16 → block_at one b ≡ block_at two b) → one ≡ two
 same_disks one two size here others =
     ext_get_or [] one two size (λ b below. ⊎_elim (λ same. subst (λ (n : ℕ). block_at one n ≡ block_at two n) (sym same) here) (λ other. others b other) (cases_eq b 16))
 

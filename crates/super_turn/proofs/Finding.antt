@@ -1,11 +1,13 @@
 -- What a read of block 16 finds, and what a crash leaves while it is put back.
-use Rattle.std.proofs.Common.{◌≡◌, ◌⊎◌, inl, inr, ⊎_elim, ℕ, Bool, true, false, cond, List, length, take, sym, ◌∙◌, ap, subst}
+use Rattle.std.proofs.Common.{◌≡◌, ◌⊎◌, inl, inr, ⊎_elim, ℕ, Bool, true, false, cond, List, length, take, Result, Ok, Err, OnOk, refl, sym, ◌∙◌, ap, subst}
 use Rattle.std.specs.Prelude.{◌&&◌}
-use Rattle.outside.specs.History.{Image, block_at}
+use Rattle.outside.specs.History.{History, Image, IsSettled, LeftSince, block_at, clock, reads}
+use Rattle.outside.proofs.Phases.{left_unwritten}
 use Rattle.outside.proofs.Sectors.{torn_alike, torn_first}
 use Rattle.super_turn.specs.Marked.{is_half, marked_place, names_copy, with_first}
-use Rattle.super_turn.specs.PutBack.{IsPuttingBack, copy_place, is_half_turned, super_before}
-use Rattle.super_turn.specs.Turned.{IsStep}
+use Rattle.super_turn.specs.PutBack.{IsPuttingBack, copy_place, is_half_turned, put_back, super_before}
+use Rattle.super_turn.specs.Turned.{IsStep, StandsWith}
+use Rattle.super_turn.proofs.Backs.{put_none, put_others, put_size, same_disks, super_put}
 use Rattle.super_turn.proofs.Halves.{joined_first, joined_rest}
 
 module _ (image : Image) (block : List ℕ) (blocks : ℕ) (is : block ≡ block_at image 16) (count : blocks ≡ length image) where
@@ -54,3 +56,38 @@ module _ (start image : Image) (bytes before : List ℕ) (whole : length bytes �
       ⊎_elim
       (λ one. record { size = one.size; others = one.others; superblock = leaves_one one })
       (λ two. record { size = two.size; others = two.others; superblock = leaves_two two }) steps
+
+-- ---- the whole of it
+-- a disk that is not written is one that a crash may leave
+pub putting_none : (start : Image) → IsPuttingBack start start
+putting_none start = record { size = refl; others = λ b other. refl; superblock = by (is_half_turned start) refl }
+  where
+    by : (t : Bool) → is_half_turned start ≡ t → (block_at start 16 ≡ super_before start) ⊎ ((is_half_turned start ≡ true) × (take 512 (block_at start 16) ≡ take 512 (block_at start 16)))
+    by true half = inr (half, refl)
+    by false half = inl (sym (ap (λ (t : Bool). cond t (block_at start (copy_place start)) (block_at start 16)) half))
+
+pub unwritten_crash : (h₀ h₁ : History) → IsSettled h₀ → h₁ ≡ h₀ → (image : Image) → LeftSince (clock h₀) h₁ image → IsPuttingBack (reads h₀) image
+unwritten_crash h₀ h₁ settled same image left = subst (IsPuttingBack (reads h₀)) (sym (left_unwritten h₀ h₁ settled same image left)) (putting_none (reads h₀))
+
+module _ (h₀ h₁ h₂ : History) (same : h₁ ≡ h₀) (bytes before : List ℕ) (read : bytes ≡ block_at (reads h₀) 16) (copy : before ≡ block_at (reads h₀) (copy_place (reads h₀))) (half : is_half_turned (reads h₀) ≡ true) where
+  pub back_crash : (first : List ℕ) → length bytes ≡ 4096 → first ≡ with_first bytes before → IsSettled h₀
+      → (IsSettled h₁ → (image : Image) → LeftSince (clock h₁) h₂ image → IsStep (block_at (reads h₁) 16) first (reads h₁) image ⊎ IsStep first before (reads h₁) image)
+      → (image : Image) → LeftSince (clock h₀) h₂ image → IsPuttingBack (reads h₀) image
+  back_crash first whole is_first settled each image left =
+      let here = subst (λ (h : History). IsSettled h → (x : Image) → LeftSince (clock h) h₂ x → IsStep (block_at (reads h) 16) first (reads h) x ⊎ IsStep first before (reads h) x) same each settled image left in
+      putting_back (reads h₀) image bytes before whole read copy half
+      (subst (λ (zs : List ℕ). IsStep (block_at (reads h₀) 16) zs (reads h₀) image ⊎ IsStep zs before (reads h₀) image) is_first here)
+
+  back_stands : StandsWith before (reads h₁) (reads h₂) → reads h₂ ≡ put_back (reads h₀)
+  back_stands stands =
+      let here = subst (λ (h : History). StandsWith before (reads h) (reads h₂)) same stands in
+      same_disks (reads h₂) (put_back (reads h₀)) (here.size ∙ sym (put_size (reads h₀)))
+      (here.superblock ∙ copy ∙ sym (super_put (reads h₀) ∙ ap (λ (t : Bool). cond t (block_at (reads h₀) (copy_place (reads h₀))) (block_at (reads h₀) 16)) half))
+      (λ b elsewhere. here.others b elsewhere ∙ sym (put_others (reads h₀) b elsewhere))
+
+  pub back_written : {T E : Type 0} (result : Result T E) → OnOk result (StandsWith before (reads h₁) (reads h₂)) → OnOk result (reads h₂ ≡ put_back (reads h₀))
+  back_written (Ok x) stands = back_stands stands
+  back_written (Err e) stands = tt
+
+pub unwritten_back : (h₀ h₁ : History) → h₁ ≡ h₀ → is_half_turned (reads h₀) ≡ false → reads h₁ ≡ put_back (reads h₀)
+unwritten_back h₀ h₁ same none = ap reads same ∙ sym (put_none (reads h₀) none)

@@ -1,9 +1,10 @@
 -- Block 16 is written step by step: what stands behind each, and what a crash of it leaves.
-use Rattle.std.proofs.Common.{◌≡◌, ◌≢◌, ◌⊎◌, inl, inr, ⊎_elim, ℕ, ◌<◌, List, [], length, set, refl, sym, ◌∙◌, ap, subst, get_or-set_same, get_or-set_other}
+use Rattle.std.proofs.Common.{◌≡◌, ◌≢◌, ◌⊎◌, inl, inr, ⊎_elim, ℕ, ◌<◌, List, [], length, set, IsTrue, Result, Ok, Err, OnOk, refl, sym, ◌∙◌, ap, subst, get_or-set_same, get_or-set_other}
 use Rattle.std.proofs.lemmas.List.{length-set}
 use Rattle.outside.specs.History.{History, Image, IsBlock, IsSettled, IsTorn, LeftSince, WritesOnly, block_at, clock, reads}
-use Rattle.outside.proofs.Crash.{writes_weaker}
+use Rattle.outside.proofs.Crash.{writes_none, writes_weaker}
 use Rattle.outside.proofs.Phases.{left_one, left_then}
+use Rattle.outside.specs.Writes.{View, Writes}
 use Rattle.super_turn.specs.Turned.{IsStep, StandsWith}
 
 -- a write of block 16
@@ -51,3 +52,19 @@ three_crash a b c h₀ h₂ h₃ only₂ settled₂ stands only₃ two image lef
     (λ early. ⊎_elim (λ first. inl first) (λ second. inr (inl second)) (two image early))
     (λ late. inr (inr (step_crash b c (reads h₀) h₂ h₃ stands settled₂ only₃ image late)))
     (left_then IsSuperWrite (IsBlock 16 c) h₀ h₂ h₃ only₂ only₃ image left)
+
+-- what was written stands, where it was
+pub step_written : {T E : Type 0} (result : Result T E) (from to : List ℕ) (start : Image) (h h' : History) → StandsWith from start (reads h) → 16 < length (reads h)
+    → OnOk result (reads h' ≡ set (reads h) 16 to) → OnOk result (StandsWith to start (reads h'))
+step_written (Ok x) from to start h h' stands long is = step_stands from to start h h' stands long is
+step_written (Err e) from to start h h' stands long is = tt
+
+-- a call that only read
+pub same_writes : {D : Type 0} {d : View D} {P : ℕ → List ℕ → Type 0} {a b : D} → d.opened b ≡ d.opened a → d.size b ≡ d.size a → d.borrow b ≡ d.borrow a
+    → (IsTrue d.tells → d.history b ≡ d.history a) → Writes d P a b
+same_writes {D} {d} {P} {a} {b} opened size borrow same = record {
+  opened = opened;
+  size = size;
+  borrow = borrow;
+  only = λ tells. subst (λ (h : History). WritesOnly P (d.history a) h) (sym (same tells)) (writes_none P (d.history a));
+}

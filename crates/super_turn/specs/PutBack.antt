@@ -1,7 +1,7 @@
 -- A disk whose block 16 is put back, where turning it was cut off.
-use Rattle.std.specs.Prelude.{◌≡◌, ◌≢◌, ◌⊎◌, ℕ, Bool, true, ◌&&◌, List, length, take, slice_set, if◌then◌else◌}
+use Rattle.std.specs.Prelude.{◌≡◌, ◌≢◌, ◌⊎◌, ℕ, Bool, true, false, ◌&&◌, List, length, take, slice_set, if◌then◌else◌}
 use Rattle.btrfs_format.specs.declared.block.TheConstants.{SUPER_BLOCK}
-use Rattle.outside.specs.History.{Image, block_at}
+use Rattle.outside.specs.History.{History, Image, block_at, reads}
 use Rattle.super_turn.specs.Marked.{is_half, marked_place, names_copy}
 
 -- the block that the mark of block 16 names
@@ -25,3 +25,8 @@ pub record IsPuttingBack (image other : Image) : Type 0 where
   pub size : length other ≡ length image
   pub others : (b : ℕ) → b ≢ 16 → block_at other b ≡ block_at image b
   pub superblock : (block_at other SUPER_BLOCK ≡ super_before image) ⊎ ((is_half_turned image ≡ true) × (take 512 (block_at other SUPER_BLOCK) ≡ take 512 (block_at image SUPER_BLOCK)))
+
+-- Nothing was changed, but that block 16 is put back.
+pub record IsPutBackAlone (old new : History) : Type 0 where
+  pub put : reads new ≡ put_back (reads old)
+  pub same : is_half_turned (reads old) ≡ false → new ≡ old

@@ -1,5 +1,5 @@
 // Block 16 is turned from one format to the other.
-ghost use Rattle.std.specs.Prelude.{◌≡◌, ◌<◌, Some, IsTrue, OnOk};
+ghost use Rattle.std.specs.Prelude.{◌≡◌, ◌⊎◌, ◌<◌, Some, IsTrue, OnOk};
 ghost use Rattle.outside.specs.Fault.{HasCause};
 ghost use Rattle.outside.specs.History.{EachCrash, IsSettled, block_at, reads};
 ghost use Rattle.outside.specs.Writes.{Writes};
@@ -18,15 +18,15 @@ use outside::{Access, Block, BlockNo, Disk, Fault};
 pub fn to_btrfs<D: Disk>(disk: &mut D, place: BlockNo, superblock: &Block) -> Result<(), Fault>
     requires open { D.opened disk.old ≡ Some Access.Write }
     requires in_range { 16 < D.size disk.old }
-    ensures crash { EachCrash D.tells (D.history disk.old) (D.history disk.new) (λ image.
-        IsTurning (block_at (reads (D.history disk.old)) 16) place superblock.now.bytes (reads (D.history disk.old)) image) }
+    ensures crash { EachCrash D.tells (D.history disk.old) (D.history disk.new) (λ image. (image ≡ reads (D.history disk.old))
+        ⊎ IsTurning (block_at (reads (D.history disk.old)) 16) place superblock.now.bytes (reads (D.history disk.old)) image) }
     ensures writes { Writes D.Disk (λ b _. b ≡ 16) disk.old disk.new }
     ensures written { IsTrue D.tells → OnOk result (StandsWith superblock.now.bytes (reads (D.history disk.old)) (reads (D.history disk.new))) }
     ensures settled { IsTrue D.tells → OnOk result (IsSettled (D.history disk.new)) }
     ensures cause { HasCause (D.faults disk.old) (D.faults disk.new) result }
 {
-    let old = read_block(disk, SUPER_BLOCK)?;
-    let turned = marked(&old, place);
+    let before = read_block(disk, SUPER_BLOCK)?;
+    let turned = marked(&before, place);
     let joined = with_first(&turned, superblock);
     turn_three(disk, &turned, &joined, superblock)
 }
@@ -35,15 +35,15 @@ pub fn to_btrfs<D: Disk>(disk: &mut D, place: BlockNo, superblock: &Block) -> Re
 pub fn to_reiser<D: Disk>(disk: &mut D, place: BlockNo, superblock: &Block) -> Result<(), Fault>
     requires open { D.opened disk.old ≡ Some Access.Write }
     requires in_range { 16 < D.size disk.old }
-    ensures crash { EachCrash D.tells (D.history disk.old) (D.history disk.new) (λ image.
-        IsTurning superblock.now.bytes place (block_at (reads (D.history disk.old)) 16) (reads (D.history disk.old)) image) }
+    ensures crash { EachCrash D.tells (D.history disk.old) (D.history disk.new) (λ image. (image ≡ reads (D.history disk.old))
+        ⊎ IsTurning superblock.now.bytes place (block_at (reads (D.history disk.old)) 16) (reads (D.history disk.old)) image) }
     ensures writes { Writes D.Disk (λ b _. b ≡ 16) disk.old disk.new }
     ensures written { IsTrue D.tells → OnOk result (StandsWith superblock.now.bytes (reads (D.history disk.old)) (reads (D.history disk.new))) }
     ensures settled { IsTrue D.tells → OnOk result (IsSettled (D.history disk.new)) }
     ensures cause { HasCause (D.faults disk.old) (D.faults disk.new) result }
 {
-    let old = read_block(disk, SUPER_BLOCK)?;
+    let before = read_block(disk, SUPER_BLOCK)?;
     let turned = marked(superblock, place);
-    let joined = with_first(&turned, &old);
+    let joined = with_first(&turned, &before);
     turn_three(disk, &joined, &turned, superblock)
 }

@@ -1,5 +1,5 @@
-use Rattle.convert_core.proofs.Imports.{◌≡◌, ◌≢◌, ◌∙◌, inl, refl, sym, ap, subst, both_ways, err_from_is_err_and, Btrfs, format_in, History, reads, reads_only, left_unwritten, IsSwitchPart, GoesOn, goes_on, stays_on, then_goes_on, RefusesConvert}
-use Rattle.convert_core.proofs.Crashing.{MayWrite, behind_for, converted, early_crash, keeps_behind, may_go_on, may_keep, switch_crash}
+use Rattle.convert_core.proofs.Imports.{◌≡◌, ◌≢◌, ◌∙◌, inl, refl, sym, ap, subst, both_ways, err_from_is_err_and, Btrfs, format_in, History, reads, left_unwritten, GoesOn, goes_on, stays_on, then_goes_on, RefusesConvert}
+use Rattle.convert_core.proofs.Crashing.{MayWrite, behind_for, converted, early_crash, keeps_behind, may_go_on, may_keep, switch_crash, switch_outside}
 use Rattle.convert_core.proofs.Ending.{refuses}
 use Rattle.convert_core.proofs.in_place.convert_settled.Goals as goal
 
@@ -59,7 +59,7 @@ returns-clause-converted g c = λ tells image is.
     let may = subst (λ (h : History). MayWrite c.args.options.now h (g.D.Disk.history c.write_volume.new.disk)) same (c.write_volume.ensures.only tells _ refl) in
     let behind =
     keeps_behind c.args.options.now c.args.ids.now c.args.now _ _ may _ (c.in_ok-written.ensures.written tells _ (ap reads same)) c.in_ok-written.ensures.room.0 _
-    (reads_only (IsSwitchPart _ _) _ _ (c.switch_to.ensures.only tells)) in
+    (switch_outside _ _ _ _ (c.switch_to.ensures.only tells)) in
     let down = c.in_ok-written.ensures.written tells image (ap reads same ∙ is) in
     (converted c.args.options.now c.args.ids.now c.args.now image _ _ down c.requires.size _ (c.in_ok-switch_to.ensures.written tells) (behind_for image _ _ is behind) (c.in_ok-switch_to.ensures.copies tells), down.summary)
 

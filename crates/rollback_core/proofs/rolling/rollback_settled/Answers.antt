@@ -1,5 +1,4 @@
 use Rattle.rollback_core.proofs.Imports.{◌≡◌, ◌∙◌, inl, sym, ap, subst, err_from_is_err_and, History, Image, reads, Answer, left_unwritten, GoesOn, goes_on, stays_on, RefusesRollback, IsTurned}
-use Rattle.std.proofs.Common.{◌^◌, ◌<◌, arith, length}
 use Rattle.rollback_core.proofs.Back.{rolled_back}
 use Rattle.rollback_core.proofs.Leaving.{writing_crash}
 use Rattle.rollback_core.proofs.rolling.rollback_settled.Goals as goal
@@ -18,17 +17,13 @@ pub returns-clause-crash : goal.returns-clause-crash
 returns-clause-crash g c = λ tells settled.
     let same : g.D.Disk.history c.read_way.new.disk ≡ g.D.Disk.history c.args.disk.now = g.met.D.Disk.kept_history _ _ tells c.read_way.ensures.kept in
     let prepared = c.in_ok-way.ensures.prepared tells _ (g.met.D.Disk.open_blocks c.args.disk.now _ tells c.requires.«open») in
-    let whole : length c.in_ok-way.way.superblock.bytes ≡ 4096 = omega arith in
-    let small : c.in_ok-way.way.copy < 2 ^ 64 = omega arith in
-    writing_crash _ _ _ _ same prepared c.in_ok-way.ensures.apart whole small settled (c.write_back.ensures.crash tells)
+    writing_crash _ _ _ _ same prepared c.in_ok-way.ensures.apart settled (c.write_back.ensures.crash tells)
 
 pub returns-in_err-write_back-clause-crash : goal.returns-in_err-write_back-clause-crash
 returns-in_err-write_back-clause-crash g c = λ tells settled.
     let same : g.D.Disk.history c.read_way.new.disk ≡ g.D.Disk.history c.args.disk.now = g.met.D.Disk.kept_history _ _ tells c.read_way.ensures.kept in
     let prepared = c.in_ok-way.ensures.prepared tells _ (g.met.D.Disk.open_blocks c.args.disk.now _ tells c.requires.«open») in
-    let whole : length c.in_ok-way.way.superblock.bytes ≡ 4096 = omega arith in
-    let small : c.in_ok-way.way.copy < 2 ^ 64 = omega arith in
-    writing_crash _ _ _ _ same prepared c.in_ok-way.ensures.apart whole small settled (c.write_back.ensures.crash tells)
+    writing_crash _ _ _ _ same prepared c.in_ok-way.ensures.apart settled (c.write_back.ensures.crash tells)
 
 pub returns-clause-rolled_back : goal.returns-clause-rolled_back
 returns-clause-rolled_back g c = λ tells image is.

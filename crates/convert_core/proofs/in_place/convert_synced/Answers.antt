@@ -1,0 +1,35 @@
+use Rattle.convert_core.proofs.Imports.{◌≢◌, ◌≡◌, ◌∙◌, inl, inr, ⊎_elim, ap, subst, IfErr, History, Image, reads, left_then, GoesOn, goes_on, then_goes_on, DiffersInFree, IsEither}
+use Rattle.std.proofs.Common.{Unit}
+use Rattle.convert_steps.specs.command_answers.declared.answer.Answer.TheVariants as answer
+use Rattle.super_turn.specs.PutBack.{put_back}
+use Rattle.convert_core.proofs.Ending.{refused_alone}
+use Rattle.convert_core.proofs.in_place.convert_synced.Goals as goal
+
+pub returns-in_err-put_back-clause-crash : goal.returns-in_err-put_back-clause-crash
+returns-in_err-put_back-clause-crash g c = λ tells settled image left. inl (c.put_back.ensures.crash tells settled image left)
+
+pub returns-in_err-put_back-clause-grows : goal.returns-in_err-put_back-clause-grows
+returns-in_err-put_back-clause-grows g c = λ tells. goes_on _ _ _ (c.put_back.ensures.writes.only tells)
+
+pub returns-clause-crash : goal.returns-clause-crash
+returns-clause-crash g c = λ tells settled image left.
+    ⊎_elim (λ early. inl (c.put_back.ensures.crash tells settled image early))
+    (λ late. inr (subst (λ (i : Image). IsEither c.args.options.now c.args.ids.now c.args.now i image) (c.in_ok-put_back.ensures.written tells)
+    (c.convert_settled.ensures.crash tells (c.in_ok-put_back.ensures.settled tells settled) image late)))
+    (left_then (λ b _. b ≡ 16) (λ b bytes. Unit {0}) (g.D.Disk.history c.args.disk.now) (g.D.Disk.history c.put_back.new.disk) (g.D.Disk.history c.convert_settled.new.disk)
+    (c.put_back.ensures.writes.only tells) (c.convert_settled.ensures.grows tells) image left)
+
+pub returns-clause-grows : goal.returns-clause-grows
+returns-clause-grows g c = λ tells. then_goes_on _ _ _ (goes_on _ _ _ (c.put_back.ensures.writes.only tells)) (c.convert_settled.ensures.grows tells)
+
+pub returns-clause-converted : goal.returns-clause-converted
+returns-clause-converted g c = λ tells image is. c.convert_settled.ensures.converted tells (put_back image) (c.in_ok-put_back.ensures.written tells ∙ ap put_back is)
+
+pub returns-clause-refused : goal.returns-clause-refused
+returns-clause-refused g c = λ tells.
+    refused_alone c.convert_settled.result _ (g.D.Disk.history c.put_back.new.disk) _ (c.in_ok-put_back.ensures.written tells) (c.put_back.ensures.unwritten tells) (c.convert_settled.ensures.refused tells)
+
+pub returns-clause-memory : goal.returns-clause-memory
+returns-clause-memory g c = λ tells.
+    subst (λ (i : Image). IfErr c.convert_settled.result (λ e. e ≡ answer.Memory → DiffersInFree i (reads (g.D.Disk.history c.convert_settled.new.disk)))) (c.in_ok-put_back.ensures.written tells)
+    (c.convert_settled.ensures.memory tells)
