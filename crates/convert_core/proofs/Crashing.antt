@@ -1,17 +1,9 @@
 -- What a crash leaves in each phase of a conversion.
-use Rattle.convert_core.proofs.Imports.{◌≡◌, ◌≢◌, ◌∙◌, ◌⊎◌, inl, inr, ⊎_elim, ℕ, ◌≤◌, ◌<◌, ◌+◌, List, length, refl, sym, ap, subst, arith, Btrfs, Ids, format_in, Image, History, IsSettled, LeftSince, WritesOnly, block_at, clock, reads, writes_length, writes_none, left_outside, left_then, left_unwritten, reads_outside, IsNodeSize, HasPieces, HasCopies, IsMirror, IsSwitchPart, IsSwitched, Super, superblock, used_of, used_length, Options, DiffersInFree, KeepsOldVolume, IsConverted, IsConvertible, IsEither, IsFree, IsNew, IsPutDown, Written, GoesOn, goes_on}
-use Rattle.std.proofs.Common.{[], Bool, true, false, true≢false, cond, set, get_or-set_same, get_or-set_other}
-use Rattle.std.proofs.lemmas.Bool.{cases_eq}
+use Rattle.convert_core.proofs.Imports.{◌≡◌, ◌≢◌, ◌∙◌, ◌⊎◌, inl, inr, ⊎_elim, ℕ, ◌≤◌, ◌<◌, ◌+◌, List, length, refl, sym, ap, subst, arith, [], Bool, true, false, true≢false, cond, set, get_or-set_same, get_or-set_other, Btrfs, Neither, Reiser, Ids, format_in, Image, History, IsSettled, LeftSince, WritesOnly, block_at, clock, reads, writes_length, writes_none, writes_weaker, left_outside, left_then, left_unwritten, reads_outside, IsNodeSize, HasPieces, HasCopies, IsMirror, IsSwitchPart, IsSwitched, IsHalfSwitched, IsLeftBySwitch, IsMirrorOf, Super, superblock, used_of, used_length, Options, DiffersInFree, KeepsOldVolume, IsConverted, IsConvertible, IsEither, IsFree, IsNew, IsPutDown, IsHalfConverted, Written, GoesOn, goes_on, cases_eq, length-set, codes, nat_le}
 use Rattle.std.proofs.lemmas.Bool.Decides.{nat_tests}
-use Rattle.std.proofs.lemmas.List.{length-set}
-use Rattle.std.specs.Prelude.{codes, nat_le}
-use Rattle.reiser_volume.proofs.outside.Crash.{writes_weaker}
 use Rattle.reiser_volume.specs.vol_block.Format.{has_bytes_at, has_reiser_magic}
-use Rattle.reiser_volume.specs.vol_block.declared.format.Format.TheVariants.{Neither, Reiser}
-use Rattle.convert_steps.specs.Switch.{IsHalfSwitched, IsLeftBySwitch, IsMirrorOf}
 use Rattle.super_turn.specs.Laws.{HasHalf}
 use Rattle.super_turn.proofs.Backs.{half_turned}
-use Rattle.convert_core.specs.Converted.{IsHalfConverted}
 use Rattle.convert_core.proofs.Copied.{super_used}
 use Rattle.convert_core.proofs.Putting.{convertible, free_before, node_free, piece_some, used_not_free}
 use Rattle.convert_core.proofs.Reserved.{free_apart, piece_apart, switch_reserved}

@@ -1,10 +1,9 @@
 -- All of a new volume is written but its superblock.
-use Rattle.convert_core.proofs.Imports.{◌≡◌, ◌∙◌, ◌⊎◌, ℕ, ◌+◌, ◌≤◌, ◌<◌, List, length, refl, sym, ap, subst, ⊎_elim, true≢false, Contains, keys, Ids, Image, History, WritesOnly, block_at, reads, writes_length, writes_weaker, reads_outside, IsNodeSize, IsInSlots, IsMaking, Making, label_by, label_field, new_ids, HasPieces, AllFit, HasTrees, IsFor, SameVolume, used_bytes, VolumeTrees, HoldMoved, IsMovedPlace, IsPrepared, new_super, Prepared, all_at, has, links_in, used_of, Volume, TreeNode, AreChunks, node_places, PlannedChunk, Options, Piece, Plan, KeepsOldVolume, IsConvertible, IsFree, IsPutDown, IsTaken, StandsConverted, IsSummary, summary_by, Written}
+use Rattle.convert_core.proofs.Imports.{◌≡◌, ◌∙◌, ◌⊎◌, ℕ, ◌+◌, ◌≤◌, ◌<◌, List, length, refl, sym, ap, subst, ⊎_elim, true≢false, Contains, keys, Ids, Image, History, WritesOnly, block_at, reads, writes_length, writes_weaker, reads_outside, IsNodeSize, IsInSlots, IsMaking, Making, label_by, label_field, new_ids, HasPieces, AllFit, HasTrees, IsFor, SameVolume, used_bytes, VolumeTrees, HoldMoved, IsMovedPlace, IsPrepared, new_super, Prepared, all_at, has, links_in, used_of, Volume, TreeNode, AreChunks, node_places, PlannedChunk, Options, Piece, Plan, KeepsOldVolume, IsConvertible, IsFree, IsPutDown, IsTaken, StandsConverted, IsSummary, summary_by, Written, copy_in}
 use Rattle.std.specs.Prelude.{true}
 use Rattle.convert_steps.specs.btr_super.Super.{super_bytes}
 use Rattle.convert_steps.specs.space_items.Laws.{AreIds}
 use Rattle.convert_trees_laws.specs.Bounds.{PlansSuffice}
-use Rattle.convert_core.specs.Copied.{copy_in}
 use Rattle.convert_core.proofs.Copied.{copy_elsewhere, copy_holds, copy_inside}
 use Rattle.convert_core.proofs.Moving.{metadata_free, metadata_taken, piece_not_metadata, piece_not_system, place_free, place_taken, system_free, system_taken, well}
 use Rattle.convert_core.proofs.Slots.{slot_unit}

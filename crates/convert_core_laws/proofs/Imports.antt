@@ -122,7 +122,7 @@ pub use Rattle.convert_core.proofs.space_items.Ordered.{Rise, ascends_rise, item
 pub use Rattle.convert_core.proofs.unit_plan.Placing.{places_serve}
 pub use Rattle.convert_core.proofs.unit_plan.Starts.{among_contains, contains_among}
 pub use Rattle.convert_core.proofs.unit_plan.Uses.{free_of, role_is, roles_uses}
-pub use Rattle.convert_core.specs.Converted.{IsConvertible, IsFree, IsNew, KeepsOldVolume}
+pub use Rattle.convert_core.specs.Converted.{IsConvertible, IsFree, IsHalfConverted, IsNew, KeepsOldVolume}
 pub use Rattle.convert_core.specs.btr_item_list.Extents.{extent_item, inline_extent, regular_extent}
 pub use Rattle.convert_core.specs.btr_item_list.Groups.{ascending, grouped, in_group}
 pub use Rattle.convert_core.specs.btr_item_list.Inodes.{inode_item, inode_made, ref_item, stamp_of}
@@ -207,7 +207,6 @@ pub use Rattle.reiser_volume.proofs.Holding.{used_length}
 pub use Rattle.reiser_volume.proofs.fs_paths.Lists.{at_head, from_filter, from_flat_map, from_map, head_or_tail, in_filter, in_flat_map, in_map, in_tail}
 pub use Rattle.reiser_volume.proofs.fs_rows.Functions.{byte_at, length_bytes, same_bytes}
 pub use Rattle.reiser_volume.proofs.reiser_bitmap.Ranges.{all_from_contains, contains_cases, contains_head, contains_range, contains_tail, range_contains}
-pub use Rattle.reiser_volume.proofs.reiser_bitmap.SystemBlocks.{superblock_in}
 pub use Rattle.reiser_volume.proofs.reiser_volume_objects.Tables.{same_key-self, same_key-true}
 pub use Rattle.reiser_volume.proofs.vol_block.Reserved.{decides_reserved}
 pub use Rattle.reiser_volume.specs.Inline.{is_tail, stays_in_tree}

@@ -1,5 +1,5 @@
 -- The image that a choice gives, and the choice that gives an image.
-use Rattle.outside_mem.proofs.Imports.{◌≡◌, ◌⊎◌, inl, inr, ⊎_elim, ℕ, zero, suc, ◌%◌, ◌<◌, ◌≤◌, ◌^◌, Bool, true, false, List, [], ◌∷◌, length, map, get_or, refl, sym, ◌∙◌, ap, subst, arith, cases_lt, cases_Bool, get_or-map, get_or_past, length-map, ext_get_or, length-map-range_with_len, get_or-map-range_with_len, Image, Call, wrote, synced, History, block_at, synced_from, Waits, MayLeave, length-reads_from, written, values, is_waiting, waiting_blocks, by_number, number_for, crash_image}
+use Rattle.outside_mem.proofs.Imports.{◌≡◌, ◌⊎◌, inl, inr, ⊎_elim, ℕ, zero, suc, ◌%◌, ◌<◌, ◌≤◌, ◌^◌, Bool, true, false, List, [], ◌∷◌, length, map, get_or, refl, sym, ◌∙◌, ap, subst, arith, cases_lt, cases_Bool, get_or-map, get_or_past, length-map, ext_get_or, length-map-range_with_len, get_or-map-range_with_len, Image, Call, wrote, synced, History, block_at, synced_from, Waits, MayLeave, length-reads_from, whole_may, written, values, is_waiting, waiting_blocks, by_number, number_for, crash_image, IsLeftWhole}
 use Rattle.std.proofs.Math.Nat.{mod-one, mod-lt, mod-eq_of_lt}
 use Rattle.std.specs.Prelude.{All}
 use Rattle.outside_mem.proofs.Keys.{count_before, passing_ordered, passing_below, passing_place}
@@ -59,10 +59,7 @@ module _ (h : History) where
       at (suc j) below = inr (waits_from_place h.calls b j (omega (arith, below)))
 
   pub choice_may : (choice : List ℕ) → MayLeave h.start h.calls (crash_image h choice)
-  choice_may choice = record {
-    size = length-crash_image choice;
-    each = λ b. ⊎_elim (inside b) (outside b) (cases_lt b n);
-  }
+  choice_may choice = whole_may h.start h.calls (crash_image h choice) (length-crash_image choice) (λ b. ⊎_elim (inside b) (outside b) (cases_lt b n))
     where
       inside : (b : ℕ) → b < n → (block_at (crash_image h choice) b ≡ block_at (synced_from h.start h.calls) b) ⊎ Waits h.calls b (block_at (crash_image h choice) b)
       inside b below =
@@ -74,7 +71,7 @@ module _ (h : History) where
       outside b past = inl (get_or_past (crash_image h choice) b [] (omega (arith, past, length-crash_image choice))
           ∙ sym (get_or_past (synced_from h.start h.calls) b [] (omega (arith, past, length-synced_from h.start h.calls))))
 
-  module _ (image : Image) (may : MayLeave h.start h.calls image) where
+  module _ (image : Image) (may : IsLeftWhole h image) where
     -- the number of the value that the image has
     number_in : (b : ℕ) → (j : ℕ) × (j < length (values h b)) × (get_or (values h b) j [] ≡ block_at image b)
     number_in b = ⊎_elim

@@ -12,9 +12,9 @@ pub use Rattle.std.specs.List.Sorted.{IsStrictlySortedBy}
 pub use Rattle.std.specs.Map.{keys_of, lookup}
 pub use Rattle.std.specs.Option.{MatchOption, option_copied, unwrap_or}
 pub use Rattle.std.specs.Ordering.{is_eq, nat_cmp}
-pub use Rattle.outside.proofs.Crash.{length-reads_from}
+pub use Rattle.outside.proofs.Crash.{length-reads_from, whole_may}
 pub use Rattle.outside.specs.History.{Call, History, Image, MayLeave, Waits, after, block_at, reads, reads_from, synced, synced_from, wrote}
-pub use Rattle.outside_mem.specs.Choice.{by_number, crash_image, is_waiting, number_for, values, waiting_blocks, written}
+pub use Rattle.outside_mem.specs.Choice.{IsLeftWhole, by_number, crash_image, is_waiting, number_for, values, waiting_blocks, written}
 pub use Rattle.outside_mem.specs.Disk.{State, after_refusal, after_sync, after_write}
 pub use Rattle.outside_mem.specs.Done.{call_of, calls_of, drop_writes, is_not_write, newest_first, with_block}
 pub use Rattle.outside_mem.specs.Failures.{Failures, counted, fails_next, one_more, passed_write}

@@ -1,7 +1,7 @@
 -- Which of the images that a crash may leave comes for a choice of numbers.
-use Rattle.std.specs.Prelude.{ℕ, ◌%◌, Bool, nat_eq, nat_lt, if◌then◌else◌, List, [], ◌∷◌, ◌++◌, length, map, filter, count_by, slice_index_or}
+use Rattle.std.specs.Prelude.{◌≡◌, ◌⊎◌, ℕ, ◌%◌, Bool, nat_eq, nat_lt, if◌then◌else◌, List, [], ◌∷◌, ◌++◌, length, map, filter, count_by, slice_index_or}
 use Rattle.std.specs.List.{range_with_len}
-use Rattle.outside.specs.History.{Image, Call, wrote, synced, History, block_at, synced_from}
+use Rattle.outside.specs.History.{Image, Call, wrote, synced, History, Waits, block_at, synced_from}
 
 -- the bytes that were written to a block since the last sync, in their order
 abbrev pub written : List Call → ℕ → List (List ℕ)
@@ -19,6 +19,11 @@ is_waiting calls b = nat_lt 0 (length (written calls b))
 -- the blocks that were written since the last sync, ascending
 abbrev pub waiting_blocks : History → List ℕ
 waiting_blocks h = filter (λ b. is_waiting h.calls b) (range_with_len 0 (length h.start))
+
+-- an image that a crash may leave with each block whole: as at the last sync, or with a value written since
+pub record IsLeftWhole (h : History) (image : Image) : Type 0 where
+  pub size : length image ≡ length h.start
+  pub each : (b : ℕ) → (block_at image b ≡ block_at (synced_from h.start h.calls) b) ⊎ Waits h.calls b (block_at image b)
 
 -- the value of that number, modulo how many there are
 abbrev pub by_number : List (List ℕ) → ℕ → List ℕ

@@ -4,7 +4,7 @@ use Rattle.std.proofs.Common.{refl, ◌∙◌, ap}
 use Rattle.outside.specs.declared.disk.Access.{Access}
 use Rattle.outside.specs.History.{Image, History, block_at, reads, synced_from, MayLeave}
 use Rattle.outside_mem.specs.Disk.{State, Kept}
-use Rattle.outside_mem.specs.Choice.{is_waiting, waiting_blocks, values, by_number, crash_image}
+use Rattle.outside_mem.specs.Choice.{IsLeftWhole, is_waiting, waiting_blocks, values, by_number, crash_image}
 
 -- what reads give: nothing before it is open
 abbrev pub readable : State → Image
@@ -39,12 +39,12 @@ ChoiceDecidesEachBlock =
     × ((b : ℕ) → b < length h.start → is_waiting h.calls b ≡ false
     → block_at (crash_image h choice) b ≡ block_at (synced_from h.start h.calls) b)
 
--- Each image that a crash may leave comes for a choice of numbers below 2^32, as long as no block has more values.
+-- Each image that a crash may leave with each block whole comes for a choice of numbers below 2^32, as long as no block has more values.
 abbrev pub EveryCrashHasAChoice : Type 0
 EveryCrashHasAChoice =
     (h : History) (image : Image)
     → ((b : ℕ) → b < length h.start → length (values h b) ≤ 2 ^ 32)
-    → MayLeave h.start h.calls image
+    → IsLeftWhole h image
     → (choice : List ℕ) × All (λ number. number < 2 ^ 32) choice × (crash_image h choice ≡ image)
 
 -- And for each choice there comes an image that a crash may leave.

@@ -1,10 +1,5 @@
 -- What is read of a ReiserFS superblock lies in its first 128 bytes.
-use Rattle.std.proofs.Common.{◌≡◌, ℕ, ◌+◌, ◌^◌, ◌≤◌, ◌||◌, Bool, List, take, drop, sym, ◌∙◌, subst, arith}
-use Rattle.std.specs.Prelude.{codes}
-use Rattle.reiser_super.specs.Rules.{IsCleanSuper, IsInBounds}
-use Rattle.reiser_super.specs.Superblock.{superblock_fields}
-use Rattle.reiser_super.specs.declared.superblock.Super.{Super}
-use Rattle.reiser_bitmap.specs.vol_block.Format.{has_bytes_at, has_reiser_magic}
+use Rattle.reiser_volume.proofs.Imports.{◌≡◌, ℕ, ◌+◌, ◌^◌, ◌≤◌, ◌||◌, Bool, List, take, drop, sym, ◌∙◌, subst, arith, codes, IsCleanSuper, IsInBounds, superblock_fields, Super, has_bytes_at, has_reiser_magic}
 use Rattle.super_turn.proofs.Fronts.{same_field, same_magic, same_within}
 
 module _ (xs ys : List ℕ) (same : take 128 xs ≡ take 128 ys) where

@@ -1,22 +1,13 @@
 -- The used blocks decide an accepted volume.
-use Rattle.reiser_volume.proofs.Imports.{◌≡◌, ◌≤◌, ◌↔◌, ◌+◌, ℕ, true, false, Bool, List, [], length, sym, ◌∙◌, ap, subst, arith, list_any, SUPER_BLOCK, Image, block_at, WholeRow, keys, has, bitmap_block, bitmap_of, system_blocks, bitmap_decided, Super, superblock_fields, IsCleanSuper, pending_transactions, IsClean, ReiserTree, is_save_link, ReiserItem, tree_damages, items_of_events, items_of_tree, file_bytes, SameUsed, ObjectKey, stat_of_object, items_of, AreObjects, HasNoted, AreLinks, AreNamedKeys, AreNames, AreReiserRows, IsSameVolume, UsedBlocksDecide, IsOpened, links_in, superblock, used_of, reiser_tree_of, volume_items, AreRowsOf, IsAccepted, IsSoundTree, MarksSystem, Volume}
+use Rattle.reiser_volume.proofs.Imports.{◌≡◌, ◌≤◌, ◌↔◌, ◌+◌, ℕ, true, false, Bool, List, [], length, sym, ◌∙◌, ap, subst, arith, ◌≢◌, ◌*◌, ◌<◌, ⊎_elim, cond, eqb, get_or, set, take, true≢false, get_or-set_same, get_or-set_other, list_any, SUPER_BLOCK, Image, block_at, WholeRow, keys, has, bitmap_block, bitmap_of, system_blocks, bitmap_decided, Super, superblock_fields, IsCleanSuper, pending_transactions, IsClean, ReiserTree, is_save_link, ReiserItem, tree_damages, is_system_of, items_of_events, items_of_tree, reached, visits, file_bytes, SameUsed, ObjectKey, stat_of_object, items_of, AreObjects, HasNoted, AreLinks, AreNamedKeys, AreNames, AreReiserRows, IsSameVolume, UsedBlocksDecide, FrontOfSuperDecides, PutBackIsSame, SameButSuper, IsOpened, links_in, superblock, used_of, reiser_tree_of, volume_items, AreRowsOf, IsAccepted, IsSoundTree, MarksSystem, Volume, is_lt, cases_lt, get_or_past, length-set, FitsHead, IsNode, KeepsRules, sound_exactly}
 use Rattle.std.specs.Prelude.{All, AllPairs, Contains}
-use Rattle.std.specs.Ordering.{is_lt}
-use Rattle.std.proofs.Common.{◌≢◌, ◌*◌, ◌<◌, ⊎_elim, cond, eqb, get_or, set, take, true≢false, get_or-set_same, get_or-set_other}
-use Rattle.std.proofs.lemmas.Bool.{cases_lt}
-use Rattle.std.proofs.lemmas.List.{get_or_past, length-set}
 use Rattle.super_turn.specs.PutBack.{put_back}
 use Rattle.super_turn.proofs.Backs.{put_front, put_others, put_size}
-use Rattle.reiser_volume_objects.specs.reiser_walk.Laws.{FitsHead, IsNode, KeepsRules}
-use Rattle.reiser_volume_objects.specs.reiser_walk.Rules.{is_system_of}
-use Rattle.reiser_volume_objects.specs.reiser_walk.Tree.{reached, visits}
 use Rattle.reiser_volume_objects.specs.reiser_walk.reiser_items.Order.{key_order}
-use Rattle.reiser_volume_objects.proofs.reiser_walk.Rules.{sound_exactly}
-use Rattle.reiser_volume.specs.Laws.{FrontOfSuperDecides, PutBackIsSame, SameButSuper}
-use Rattle.reiser_volume.proofs.Fronted.{clean_front, fields_front}
 use Rattle.reiser_bitmap.proofs.SystemBlocks.{superblock_in, bitmap_in, journal_in}
 use Rattle.reiser_super.proofs.Footprint.{same_pending}
 use Rattle.reiser_volume_contents.proofs.Same.{same_tree}
+use Rattle.reiser_volume.proofs.Fronted.{clean_front, fields_front}
 use Rattle.reiser_volume.proofs.Holding.{used_length}
 use Rattle.reiser_volume.proofs.SameRows.{bytes_same, rows_same}
 

@@ -1,26 +1,9 @@
 -- Where block 16 is half turned over the restored blocks, the old volume stands once it is put back.
-use Rattle.std.proofs.Common.{◌≡◌, ◌≢◌, inl, ⊎_elim, ℕ, ◌<◌, true, false, true≢false, List, [], length, set, Option, Some, None, refl, sym, ◌∙◌, ap, subst, arith, get_or-set_same, get_or-set_other}
-use Rattle.std.proofs.lemmas.Bool.{cases_lt}
-use Rattle.std.proofs.lemmas.List.{get_or_past, length-set}
-use Rattle.std.specs.Option.{unwrap_or}
+use Rattle.rollback_core.proofs.Imports.{◌≡◌, ◌≢◌, inl, ⊎_elim, ℕ, ◌<◌, true, false, true≢false, List, [], length, set, Option, Some, None, refl, sym, ◌∙◌, ap, subst, arith, get_or-set_same, get_or-set_other, cases_lt, get_or_past, length-set, unwrap_or, ImageFile, own_map, Image, block_at, has_bytes_at, has_reiser_magic, zeros, CanGoBackToo, block_or_hole, image_blocks, place_by_file, saved_file, saved_place, image_block, image_short, is_half_turned, put_back, IsWayBack, IsBack, IsHalfBack, AreWritesApart, IsHalfway, IsTurned, IsUnturned, WayBack, accepted_front}
 use Rattle.std.specs.Prelude.{codes}
-use Rattle.btr_reader.specs.Image.{ImageFile}
-use Rattle.btr_reader.specs.Parts.{own_map}
-use Rattle.reiser_bitmap.specs.outside.History.{Image, block_at}
-use Rattle.reiser_bitmap.specs.vol_block.Format.{has_bytes_at, has_reiser_magic}
-use Rattle.reiser_bitmap.specs.vol_block.Volume.{zeros}
-use Rattle.volume_state.specs.Laws.{CanGoBackToo}
-use Rattle.volume_state.specs.Saved.{block_or_hole, image_blocks, place_by_file, saved_file, saved_place}
-use Rattle.volume_state.proofs.Images.{image_block, image_short}
 use Rattle.super_turn.specs.Laws.{HasHalf}
-use Rattle.super_turn.specs.PutBack.{is_half_turned, put_back}
 use Rattle.super_turn.proofs.Backs.{half_turned}
-use Rattle.rollback_core.specs.Prepared.{IsWayBack}
-use Rattle.rollback_core.specs.RolledBack.{IsBack, IsHalfBack}
-use Rattle.rollback_core.specs.Writing.{AreWritesApart, IsHalfway, IsTurned, IsUnturned}
-use Rattle.rollback_core.specs.declared.way.WayBack.{WayBack}
 use Rattle.rollback_core.proofs.Back.{back, equal_or, standing}
-use Rattle.rollback_core.proofs.Imports.{accepted_front}
 use Rattle.rollback_core.proofs.Phases.{saved_stay}
 use Rattle.rollback_core.proofs.RecoveryFormats.{btrfs_magic, other_magic}
 use Rattle.rollback_core.proofs.RollbackKeeping.{rollback_keeps}

@@ -1,6 +1,5 @@
 -- What a rollback leaves, by what was prepared and written.
-use Rattle.rollback_core.proofs.Imports.{◌≡◌, ◌⊎◌, inl, inr, ⊎_elim, subst, History, Image, IsSettled, LeftSince, clock, reads, IsWayBack, IsLeftByRollback, AreWritesApart, IsTurned, IsUnturned, WayBack}
-use Rattle.rollback_core.specs.Writing.{IsHalfway}
+use Rattle.rollback_core.proofs.Imports.{◌≡◌, ◌⊎◌, inl, inr, ⊎_elim, subst, History, Image, IsSettled, LeftSince, clock, reads, IsWayBack, IsLeftByRollback, AreWritesApart, IsTurned, IsUnturned, IsHalfway, WayBack}
 use Rattle.rollback_core.proofs.Back.{back, standing}
 use Rattle.rollback_core.proofs.Halfway.{half_back}
 

@@ -1,9 +1,6 @@
 -- What is to stand in the blocks of copies, and how many of them are to change.
-use Rattle.rollback_core.proofs.Imports.{◌≡◌, ◌≢◌, ◌∙◌, ℕ, ◌+◌, Bool, true, false, cond, not, ◌&&◌, nat_lt, List, [], ◌∷◌, length, Some, None, codes, refl, sym, ap, true≢false, bytes_eq, bytes_eq-Decides, FIRST_MIRROR, SECOND_MIRROR, SUPER_BLOCK, SUPER_MAGIC_OFFSET, Image, block_at, mirror_bytes, has, superblock_fields, superblock, used_of, has_bytes_at, zeros, Block, Format, Reiser, Btrfs, Neither, Gives, blocks_of, copied, mended_by, wiped, copy_blocks}
+use Rattle.rollback_core.proofs.Imports.{◌≡◌, ◌≢◌, ◌∙◌, ℕ, ◌+◌, Bool, true, false, cond, not, ◌&&◌, nat_lt, List, [], ◌∷◌, length, Some, None, codes, refl, sym, ap, true≢false, ◌⊎◌, inl, inr, ⊎_elim, ◌<◌, ◌≤◌, arith, bytes_eq, bytes_eq-Decides, FIRST_MIRROR, SECOND_MIRROR, SUPER_BLOCK, SUPER_MAGIC_OFFSET, Image, block_at, mirror_bytes, has, superblock_fields, superblock, used_of, has_bytes_at, zeros, Block, Format, Reiser, Btrfs, Neither, Gives, blocks_of, copied, mended_by, wiped, copy_blocks, cases_lt, IsMirror}
 use Rattle.std.specs.Prelude.{◌+◌, filter}
-use Rattle.std.proofs.Common.{◌⊎◌, inl, inr, ⊎_elim, ◌<◌, ◌≤◌, arith}
-use Rattle.std.proofs.lemmas.Bool.{cases_lt}
-use Rattle.convert_steps.specs.Switch.{IsMirror}
 
 -- ---- one of two lists
 same_both : (t : Bool) (z : List ℕ) → cond t z z ≡ z

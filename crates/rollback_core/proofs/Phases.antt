@@ -1,10 +1,6 @@
 -- What a crash leaves in each phase of writing the old volume back.
-use Rattle.rollback_core.proofs.Imports.{◌≡◌, ◌≢◌, ◌⊎◌, inl, inr, ⊎_elim, ℕ, ◌<◌, Bool, true, List, [], length, get_or, Result, Ok, Err, OnOk, sym, ◌∙◌, ap, subst, arith, FIRST_MIRROR, SECOND_MIRROR, SUPER_BLOCK, zeros, Image, History, block_at, reads, clock, IsSettled, IsBlock, LeftSince, WritesBlock, WritesOnly, writes_length, reads_only, left_outside, left_then, reads_outside, set_stands, write_reads, has_place, Saved, WayBack, AreWritesApart, AreWiped, AreWrittenBack, IsWayBackPart, IsSavedPlace, IsTurned, IsUnturned, IsWiped, IsWiping}
-use Rattle.std.proofs.Common.{false, refl, true≢false}
-use Rattle.std.proofs.lemmas.Bool.{cases_eq}
-use Rattle.reiser_bitmap.proofs.outside.Crash.{writes_weaker}
+use Rattle.rollback_core.proofs.Imports.{◌≡◌, ◌≢◌, ◌⊎◌, inl, inr, ⊎_elim, ℕ, ◌<◌, Bool, true, List, [], length, get_or, Result, Ok, Err, OnOk, sym, ◌∙◌, ap, subst, arith, false, refl, true≢false, FIRST_MIRROR, SECOND_MIRROR, SUPER_BLOCK, zeros, Image, History, block_at, reads, clock, IsSettled, IsBlock, LeftSince, WritesBlock, WritesOnly, writes_length, reads_only, writes_weaker, left_outside, left_then, reads_outside, set_stands, write_reads, has_place, Saved, WayBack, AreWritesApart, AreWiped, AreWrittenBack, IsWayBackPart, IsSavedPlace, IsTurned, IsUnturned, IsWiped, IsWiping, IsHalfway, cases_eq}
 use Rattle.super_turn.specs.Turned.{IsTurning, StandsWith}
-use Rattle.rollback_core.specs.Writing.{IsHalfway}
 
 abbrev WritesSaved : List Saved → History → History → Type 0
 WritesSaved saved = WritesOnly (λ b _. IsSavedPlace saved b)

@@ -1,9 +1,7 @@
 -- What is read of the old volume is what is to be written.
-use Rattle.rollback_core.proofs.Imports.{◌≡◌, ℕ, ◌+◌, ◌==◌, nat_lt, Bool, not, ◌&&◌, List, length, codes, filter, ◌∙◌, ap, subst, FIRST_MIRROR, SECOND_MIRROR, SUPER_BLOCK, SUPER_MAGIC_OFFSET, Image, block_at, has_bytes_at, is_reserved, ImageMap, has, used_blocks, image_blocks, WayBack, IsMapOn, AreSaved, IsWayBack, rollback_summary, CanGoBack, old_used}
-
+use Rattle.rollback_core.proofs.Imports.{◌≡◌, ℕ, ◌+◌, ◌==◌, nat_lt, Bool, not, ◌&&◌, List, length, codes, filter, ◌∙◌, ap, subst, FIRST_MIRROR, SECOND_MIRROR, SUPER_BLOCK, SUPER_MAGIC_OFFSET, Image, block_at, has_bytes_at, is_reserved, ImageMap, has, used_blocks, image_blocks, WayBack, IsMapOn, AreSaved, IsWayBack, rollback_summary, CanGoBack, old_used, unwrap_or, map_place}
 use Rattle.std.specs.Prelude.{Option}
-use Rattle.std.specs.Option.{unwrap_or}
-use Rattle.btr_reader.specs.Pieces.{map_place}
+
 
 -- whether a block is to become zeros, by the set of used blocks
 abbrev pub wiped_in : Image → List Bool → ℕ → Bool

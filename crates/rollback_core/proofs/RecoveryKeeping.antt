@@ -1,7 +1,6 @@
 -- What a recovery keeps.
-use Rattle.rollback_core.proofs.Imports.{◌≡◌, ◌≢◌, ◌∙◌, ◌⊎◌, inl, inr, ⊎_elim, ℕ, zero, suc, Bool, not, ◌+◌, ◌/◌, ◌<◌, ◌≤◌, true, false, true≢false, cond, nat_lt, nat_le, List, length, codes, refl, sym, ap, subst, arith, bytes_eq, cases_lt, nat_tests, bytes_eq-Decides, FIRST_MIRROR, SECOND_MIRROR, SUPER_BLOCK, SUPER_MAGIC_OFFSET, format_in, Image, block_at, BtrRefusal, super_of, mirror_bytes, Super, IsMirror, own_super, IsSameOutside, is_spare, is_spare_in, SameUsed, contains_filter, filter_contains, IsFrontAccepted, superblock, used_of, front_not_refused, same_volume, format, has_bytes_at, Format, Reiser, Btrfs, Neither, IsRefusedAs, IsSameBut, RecoversWhatIsInOrder, RecoveryCounts, RecoveryKeeps, RecoveryMends, RecoveryStays, blocks_of, is_torn, mended, mended_by, IsInOrder, IsLeftByRecover, IsPartly, IsRecoverable, IsRecovered, copy_blocks}
+use Rattle.rollback_core.proofs.Imports.{◌≡◌, ◌≢◌, ◌∙◌, ◌⊎◌, inl, inr, ⊎_elim, ℕ, zero, suc, Bool, not, ◌+◌, ◌/◌, ◌<◌, ◌≤◌, true, false, true≢false, cond, nat_lt, nat_le, List, length, codes, refl, sym, ap, subst, arith, bytes_eq, cases_lt, nat_tests, bytes_eq-Decides, FIRST_MIRROR, SECOND_MIRROR, SUPER_BLOCK, SUPER_MAGIC_OFFSET, format_in, Image, block_at, BtrRefusal, super_of, mirror_bytes, Super, IsMirror, own_super, IsSameOutside, is_spare, is_spare_in, SameUsed, contains_filter, filter_contains, IsFrontAccepted, superblock, used_of, front_not_refused, same_volume, format, has_bytes_at, Format, Reiser, Btrfs, Neither, IsRefusedAs, IsSameBut, RecoversWhatIsInOrder, RecoveryCounts, RecoveryKeeps, RecoveryMends, RecoveryStays, blocks_of, is_torn, mended, mended_by, copied, IsInOrder, IsLeftByRecover, IsPartly, IsRecoverable, IsRecovered, copy_blocks}
 use Rattle.std.specs.Prelude.{Contains, Ok, Err, Result}
-use Rattle.rollback_core.specs.Mending.{copied}
 use Rattle.reiser_bitmap.specs.refusals.declared.refusal.VolumeRefusal.{VolumeRefusal}
 use Rattle.btr_reader.proofs.Decided.{reserved_blocks_are_spare}
 use Rattle.convert_steps.specs.command_answers.declared.answer.Answer.TheVariants as answer

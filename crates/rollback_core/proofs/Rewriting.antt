@@ -1,12 +1,7 @@
 -- Block 16 is written as it stands, and what is written after it.
-use Rattle.rollback_core.proofs.Imports.{◌≡◌, ◌≢◌, ◌⊎◌, inl, inr, ⊎_elim, ℕ, zero, suc, ◌+◌, ◌<◌, true, List, [], ◌∷◌, Option, Some, None, Result, Ok, Err, OnOk, refl, sym, ◌∙◌, ap, subst, arith, IfOk, is_some, ext_get_or, FIRST_MIRROR, SECOND_MIRROR, History, IsSettled, Syncs, WritesBlock, WritesOnly, after, block_at, reads, wrote, synced, Block, reads_only, sync_only, write_only, writes_length, writes_none, writes_then, writes_weaker, GoesOn, synced_now, goes_on, HasMendingRoom, writes_of, IsMend, IsRecoverWrite, IsRewrite, RewritesFirst, rewritten, Mending, RecoverSummary}
+use Rattle.rollback_core.proofs.Imports.{◌≡◌, ◌≢◌, ◌⊎◌, inl, inr, ⊎_elim, ℕ, zero, suc, ◌+◌, ◌<◌, true, List, [], ◌∷◌, Option, Some, None, Result, Ok, Err, OnOk, refl, sym, ◌∙◌, ap, subst, arith, false, IfOk, is_some, IfErr, ext_get_or, FIRST_MIRROR, SECOND_MIRROR, History, IsSettled, Syncs, WritesBlock, WritesOnly, after, block_at, reads, wrote, synced, Block, reads_only, sync_only, write_only, writes_length, writes_none, writes_then, writes_weaker, GoesOn, synced_now, goes_on, HasMendingRoom, writes_of, IsMend, IsRecoverWrite, IsRewrite, RewritesFirst, rewritten, PutsBackFirst, Mending, RecoverSummary, Answer, IsPutBackAlone, is_half_turned, put_back}
 
-use Rattle.std.proofs.Common.{false}
-use Rattle.std.specs.Prelude.{IfErr}
-use Rattle.convert_steps.specs.command_answers.declared.answer.Answer.{Answer}
 use Rattle.convert_steps.specs.command_answers.declared.answer.Answer.TheVariants as answer
-use Rattle.rollback_core.specs.Recovered.{PutsBackFirst}
-use Rattle.super_turn.specs.PutBack.{IsPutBackAlone, is_half_turned, put_back}
 
 -- ---- block 16
 
@@ -113,7 +108,8 @@ settled_told (Ok told) mid new before unwritten settled = settled_by told.mirror
 settled_told (Err e) mid new before unwritten settled = tt
 
 -- a refusal changes nothing but what was put back
-pub refused_alone : {T : Type 0} (result : Result T Answer) (old mid new : History) → reads mid ≡ put_back (reads old) → (is_half_turned (reads old) ≡ false → mid ≡ old)
+pub refused_alone : {T : Type 0} (result : Result T Answer) (old mid new : History) → reads mid ≡ put_back (reads old) → (is_half_turned (reads old) ≡ false → mid ≡ old) → (IsSettled old → IsSettled mid)
     → IfErr result (λ e. e ≢ answer.Fault → new ≡ mid) → IfErr result (λ e. e ≢ answer.Fault → IsPutBackAlone old new)
-refused_alone (Ok x) old mid new put same kept = tt
-refused_alone (Err e) old mid new put same kept = λ other. record { put = ap reads (kept other) ∙ put; same = λ none. kept other ∙ same none }
+refused_alone (Ok x) old mid new put same settled kept = tt
+refused_alone (Err e) old mid new put same settled kept = λ other.
+    record { put = ap reads (kept other) ∙ put; same = λ none. kept other ∙ same none; settled = λ before. subst IsSettled (sym (kept other)) (settled before) }

@@ -1,8 +1,7 @@
 -- What a rollback and its crashes keep.
-use Rattle.rollback_core.proofs.Imports.{◌≡◌, ◌≢◌, inl, inr, ⊎_elim, ℕ, ◌≤◌, ◌+◌, eqb, nat_lt, Bool, true, false, not, ◌&&◌, List, length, codes, refl, sym, ◌∙◌, ap, subst, arith, true≢false, and_parts, nat_tests, SUPER_MAGIC_OFFSET, Image, block_at, image_blocks, image_short, IsSameOutside, has, superblock, used_of, used_length, same_volume, has_bytes_at, is_reserved, RollbackGoesOn, RollbackKeeps, IsBack, IsRolledBack, StillStands, is_wiped, CanGoBack, old_used}
+use Rattle.rollback_core.proofs.Imports.{◌≡◌, ◌≢◌, inl, inr, ⊎_elim, ℕ, ◌≤◌, ◌+◌, eqb, nat_lt, Bool, true, false, not, ◌&&◌, List, length, codes, refl, sym, ◌∙◌, ap, subst, arith, true≢false, and_parts, nat_tests, SUPER_MAGIC_OFFSET, Image, block_at, image_blocks, image_short, IsSameOutside, has, superblock, used_of, used_length, same_volume, has_bytes_at, is_reserved, RollbackGoesOn, RollbackKeeps, IsBack, IsRolledBack, StillStands, is_wiped, CanGoBack, old_used, put_back}
 use Rattle.volume_state.specs.Laws.{is_spare}
 use Rattle.volume_state.proofs.Staying.{spare_blocks_decide_nothing}
-use Rattle.super_turn.specs.PutBack.{put_back}
 use Rattle.rollback_core.proofs.Back.{equal_or}
 
 -- a reserved block other than 16 is a spare one

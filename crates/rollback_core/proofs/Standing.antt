@@ -1,8 +1,6 @@
 -- What is written, and what a crash leaves of it.
-use Rattle.rollback_core.proofs.Imports.{◌≡◌, ◌∙◌, ◌⊎◌, inl, inr, ⊎_elim, ℕ, true, ◌+◌, ◌<◌, List, length, Option, Some, None, Result, OnOk, refl, sym, ap, subst, arith, IsSomeAnd, is_some, FIRST_MIRROR, SECOND_MIRROR, format_in, History, Image, IsSettled, LeftSince, WritesBlock, WritesOnly, block_at, clock, reads, left_each, reads_only, write_only, writes_length, writes_then, writes_weaker, set_stands, write_reads, IsMirror, Block, Format, given, is_torn, mended, IsGiven, IsGivenAt, IsGivenOrRewrite, IsPlanned, MendingStands, writes_of, IsMend, IsPartly, IsRecovered, copy_blocks, recover_summary, Mending, RecoverSummary}
+use Rattle.rollback_core.proofs.Imports.{◌≡◌, ◌∙◌, ◌⊎◌, inl, inr, ⊎_elim, ℕ, true, ◌+◌, ◌<◌, List, length, Option, Some, None, Result, OnOk, refl, sym, ap, subst, arith, Bool, false, true≢false, IsSomeAnd, is_some, FIRST_MIRROR, SECOND_MIRROR, format_in, History, Image, IsSettled, LeftSince, WritesBlock, WritesOnly, block_at, clock, reads, IsTorn, sector, left_each, reads_only, write_only, writes_length, writes_then, writes_weaker, set_stands, write_reads, IsMirror, Block, Format, given, is_torn, mended, IsGiven, IsGivenAt, IsGivenOrRewrite, IsPlanned, MendingStands, writes_of, IsMend, IsPartly, IsRecovered, copy_blocks, recover_summary, Mending, RecoverSummary}
 use Rattle.std.specs.Prelude.{filter}
-use Rattle.std.proofs.Common.{Bool, false, true≢false}
-use Rattle.reiser_bitmap.specs.outside.History.{IsTorn, sector}
 use Rattle.reiser_bitmap.proofs.outside.Sectors.{sectors_same}
 use Rattle.rollback_core.proofs.Mended.{mirror_or, two_of}
 

@@ -1,19 +1,13 @@
 -- What is put back, and what that keeps.
-use Rattle.std.proofs.Common.{◌≡◌, ◌≢◌, ◌⊎◌, inl, inr, ⊎_elim, ℕ, ◌+◌, ◌^◌, ◌<◌, ◌≤◌, Bool, true, false, true≢false, cond, not, List, [], length, set, take, drop, nat_eq, refl, sym, ◌∙◌, ap, subst, arith, get_or-set_same, get_or-set_other}
+use Rattle.super_turn.proofs.Imports.{◌≡◌, ◌≢◌, ◌⊎◌, inl, inr, ⊎_elim, ℕ, ◌+◌, ◌^◌, ◌<◌, ◌≤◌, Bool, true, false, true≢false, cond, not, List, [], length, set, take, drop, nat_eq, refl, sym, ◌∙◌, ap, subst, arith, get_or-set_same, get_or-set_other, ext_get_or, get_or_past, length-set, set-get_or, codes, nat_le, nat_lt, ◌&&◌, Image, block_at, format, has_bytes_at, has_mark, is_half, marked, marked_place, names_copy, IsPuttingBack, copy_place, is_half_turned, put_back, super_before}
 use Rattle.std.proofs.lemmas.Bool.{and_parts, cases_eq, cases_lt, ne_eqb}
 use Rattle.std.proofs.lemmas.Bool.Decides.{Decides-ltb}
-use Rattle.std.proofs.lemmas.List.{ext_get_or, get_or_past, length-set, set-get_or}
 use Rattle.std.proofs.lemmas.Slice.Eq.{bytes_eq-Decides}
 use Rattle.std.specs.Str.{bytes_eq}
-use Rattle.std.specs.Prelude.{codes, nat_le, nat_lt, ◌&&◌}
 use Rattle.outside.specs.Format.{format_in}
-use Rattle.outside.specs.History.{Image, block_at}
-use Rattle.outside.specs.vol_block.Format.{format, has_bytes_at}
 use Rattle.outside.specs.vol_block.declared.format.Format.{Format}
 use Rattle.outside.specs.vol_block.declared.format.Format.TheVariants.{Neither}
 use Rattle.super_turn.specs.Laws.{HalfTurnedIsPutBack, PutBackKeeps}
-use Rattle.super_turn.specs.Marked.{has_mark, is_half, marked, marked_place, names_copy}
-use Rattle.super_turn.specs.PutBack.{IsPuttingBack, copy_place, is_half_turned, put_back, super_before}
 use Rattle.super_turn.proofs.Fronts.{same_field, same_magic, same_within}
 use Rattle.super_turn.proofs.Halves.{marked_behind, marked_front, marked_has, marked_names, sector_front}
 
@@ -51,6 +45,11 @@ module _ (image : Image) where
   pub none_short : length image ≤ 16 → is_half_turned image ≡ false
   none_short short = ap (λ (zs : List ℕ). names_copy zs (length image) && is_half (block_at image (marked_place zs)) zs) (get_or_past image 16 [] short)
 
+  -- nor is there on a Btrfs volume
+  pub none_btrfs : has_bytes_at bytes 64 (codes "_BHRfS_M") ≡ true → is_half_turned image ≡ false
+  none_btrfs btrfs =
+      ap (λ (t : Bool). (not t && (has_mark bytes && (nat_lt (marked_place bytes) (length image) && not (nat_eq (marked_place bytes) 16)))) && is_half copy bytes) btrfs
+
   pub put_some : is_half_turned image ≡ true → put_back image ≡ set image 16 copy
   put_some half = ap (λ (t : Bool). cond t (set image 16 copy) image) half
 
@@ -77,6 +76,12 @@ module _ (image : Image) where
         let places = and_parts (has_mark bytes) (nat_lt (copy_place image) (length image) && not (nat_eq (copy_place image) 16)) marks.1 in
         not_16 (copy_place image) (and_parts (nat_lt (copy_place image) (length image)) (not (nat_eq (copy_place image) 16)) places.1).1
 
+    pub half_inside : copy_place image < length image
+    half_inside =
+        let marks = and_parts (not (has_bytes_at bytes 64 (codes "_BHRfS_M"))) (has_mark bytes && (nat_lt (copy_place image) (length image) && not (nat_eq (copy_place image) 16))) parts.0 in
+        let places = and_parts (has_mark bytes) (nat_lt (copy_place image) (length image) && not (nat_eq (copy_place image) 16)) marks.1 in
+        (Decides-ltb (copy_place image) (length image)).0 (and_parts (nat_lt (copy_place image) (length image)) (not (nat_eq (copy_place image) 16)) places.1).0
+
   -- ---- what stays
   size_kept : (t : Bool) → length (cond t (set image 16 copy) image) ≡ length image
   size_kept true = length-set image 16 copy
@@ -94,7 +99,7 @@ module _ (image : Image) where
       by true half = get_or-set_same image 16 copy [] (half_long half)
       by false half = refl
 
-  super_front : take 128 (super_before image) ≡ take 128 bytes
+  pub super_front : take 128 (super_before image) ≡ take 128 bytes
   super_front = by (is_half_turned image) refl
     where
       by : (t : Bool) → is_half_turned image ≡ t → take 128 (cond t copy bytes) ≡ take 128 bytes

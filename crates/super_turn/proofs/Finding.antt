@@ -1,12 +1,5 @@
 -- What a read of block 16 finds, and what a crash leaves while it is put back.
-use Rattle.std.proofs.Common.{◌≡◌, ◌⊎◌, inl, inr, ⊎_elim, ℕ, Bool, true, false, cond, List, length, take, Result, Ok, Err, OnOk, refl, sym, ◌∙◌, ap, subst}
-use Rattle.std.specs.Prelude.{◌&&◌}
-use Rattle.outside.specs.History.{History, Image, IsSettled, LeftSince, block_at, clock, reads}
-use Rattle.outside.proofs.Phases.{left_unwritten}
-use Rattle.outside.proofs.Sectors.{torn_alike, torn_first}
-use Rattle.super_turn.specs.Marked.{is_half, marked_place, names_copy, with_first}
-use Rattle.super_turn.specs.PutBack.{IsPuttingBack, copy_place, is_half_turned, put_back, super_before}
-use Rattle.super_turn.specs.Turned.{IsStep, StandsWith}
+use Rattle.super_turn.proofs.Imports.{◌≡◌, ◌⊎◌, inl, inr, ⊎_elim, ℕ, Bool, true, false, cond, List, length, take, Result, Ok, Err, OnOk, refl, sym, ◌∙◌, ap, subst, ◌&&◌, History, Image, IsSettled, LeftSince, block_at, clock, reads, left_unwritten, torn_alike, torn_first, is_half, marked_place, names_copy, with_first, IsPuttingBack, copy_place, is_half_turned, put_back, super_before, IsStep, StandsWith}
 use Rattle.super_turn.proofs.Backs.{put_none, put_others, put_size, same_disks, super_put}
 use Rattle.super_turn.proofs.Halves.{joined_first, joined_rest}
 

@@ -1,11 +1,7 @@
 -- What is read of the first bytes of a block depends on these alone.
-use Rattle.std.proofs.Common.{◌≡◌, ℕ, ◌+◌, ◌-◌, ◌≤◌, Bool, List, length, take, drop, nat_eq, sym, ◌∙◌, ap, arith}
-use Rattle.std.proofs.lemmas.List.{drop-take, take-take}
-use lib.Pointwise.{pointwise}
-use Rattle.byteorder.specs.Endian.{little_number}
-use Rattle.byteorder.specs.Numbers.{little_from-take}
-use Rattle.outside.specs.vol_block.Format.{has_bytes_at}
+use Rattle.super_turn.proofs.Imports.{◌≡◌, ℕ, ◌+◌, ◌-◌, ◌≤◌, Bool, List, length, take, drop, nat_eq, sym, ◌∙◌, ap, arith, drop-take, take-take, little_number, little_from-take, has_bytes_at}
 use Rattle.outside.specs.vol_block.Volume.{field}
+use lib.Pointwise.{pointwise}
 
 -- bytes that lie within the first n
 pub within : (at k n : ℕ) (xs : List ℕ) → at + k ≤ n → take k (drop at (take n xs)) ≡ take k (drop at xs)

@@ -1,11 +1,6 @@
 -- A superblock with its mark: what is read of it, and which sectors it has of others.
-use Rattle.std.proofs.Common.{◌≡◌, ℕ, ◌+◌, ◌^◌, ◌<◌, ◌≤◌, Bool, true, List, ◌++◌, length, take, drop, nat_eq, sym, ◌∙◌, ap, arith, length-append, length-take, length-drop}
-use Rattle.std.proofs.lemmas.List.{drop-drop, drop_at, take-take, take_at}
+use Rattle.super_turn.proofs.Imports.{◌≡◌, ℕ, ◌+◌, ◌^◌, ◌<◌, ◌≤◌, Bool, true, List, ◌++◌, length, take, drop, nat_eq, sym, ◌∙◌, ap, arith, length-append, length-take, length-drop, drop-drop, drop_at, take-take, take_at, codes, little_bytes, little_number, length-bytes_low_first, little_number-reads_back, has_mark, mark, marked, marked_place, with_first}
 use Rattle.std.specs.List.{starts_with}
-use Rattle.std.specs.Prelude.{codes}
-use Rattle.byteorder.specs.Endian.{little_bytes, little_number}
-use Rattle.byteorder.specs.Numbers.{length-bytes_low_first, little_number-reads_back}
-use Rattle.super_turn.specs.Marked.{has_mark, mark, marked, marked_place, with_first}
 
 length-mark : (place : ℕ) → length (mark place) ≡ 24
 length-mark place =

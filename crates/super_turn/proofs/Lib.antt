@@ -3,5 +3,6 @@ pub mod Backs
 pub mod Finding
 pub mod Fronts
 pub mod Halves
+pub mod Imports
 pub mod Stepping
 pub mod Turning

@@ -1,9 +1,5 @@
 -- What the steps of a turn leave of block 16.
-use Rattle.std.proofs.Common.{◌≡◌, ◌⊎◌, inl, inr, ⊎_elim, ℕ, ◌^◌, ◌<◌, List, length, take, drop, sym, ◌∙◌, ap, subst}
-use Rattle.outside.specs.History.{History, Image, IsSettled, IsTorn, LeftSince, block_at, clock, reads}
-use Rattle.outside.proofs.Sectors.{torn_alike, torn_first}
-use Rattle.super_turn.specs.Marked.{IsHalf, marked, with_first}
-use Rattle.super_turn.specs.Turned.{IsStep, IsTurning}
+use Rattle.super_turn.proofs.Imports.{◌≡◌, ◌⊎◌, inl, inr, ⊎_elim, ℕ, ◌^◌, ◌<◌, List, length, take, drop, sym, ◌∙◌, ap, subst, History, Image, IsSettled, IsTorn, LeftSince, block_at, clock, reads, torn_alike, torn_first, IsHalf, marked, with_first, IsStep, IsTurning}
 use Rattle.super_turn.proofs.Halves.{joined_first, joined_rest, marked_long, marked_rest}
 
 -- a step, by what it leaves of block 16

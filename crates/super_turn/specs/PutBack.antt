@@ -1,7 +1,7 @@
 -- A disk whose block 16 is put back, where turning it was cut off.
 use Rattle.std.specs.Prelude.{◌≡◌, ◌≢◌, ◌⊎◌, ℕ, Bool, true, false, ◌&&◌, List, length, take, slice_set, if◌then◌else◌}
 use Rattle.btrfs_format.specs.declared.block.TheConstants.{SUPER_BLOCK}
-use Rattle.outside.specs.History.{History, Image, block_at, reads}
+use Rattle.outside.specs.History.{History, Image, IsSettled, block_at, reads}
 use Rattle.super_turn.specs.Marked.{is_half, marked_place, names_copy}
 
 -- the block that the mark of block 16 names
@@ -30,3 +30,4 @@ pub record IsPuttingBack (image other : Image) : Type 0 where
 pub record IsPutBackAlone (old new : History) : Type 0 where
   pub put : reads new ≡ put_back (reads old)
   pub same : is_half_turned (reads old) ≡ false → new ≡ old
+  pub settled : IsSettled old → IsSettled new

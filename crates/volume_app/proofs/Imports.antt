@@ -2,7 +2,7 @@
 pub use Rattle.std.proofs.Common.{Bool, Contains, Err, List, None, Ok, Result, Some, [], ap, arith, cond, drop, false, get_or, inl, inr, length, map, nat_eq, refl, string_bytes, subst, sym, take, true, true≢false, ℕ, ⊎_elim, ◌++◌, ◌+◌, ◌-◌, ◌<◌, ◌^◌, ◌∙◌, ◌∷◌, ◌≡◌, ◌≤◌, ◌⊎◌}
 pub use Rattle.std.proofs.lemmas.Bool.Decides.{Decides-eqb, nat_tests}
 pub use Rattle.std.proofs.lemmas.Result.{MatchResult-weaker, err_from_is_err_and}
-pub use Rattle.std.specs.Prelude.{IfErr, IsTrue, Option, codes, nat_le, ◌≢◌}
+pub use Rattle.std.specs.Prelude.{IfErr, IsTrue, Option, codes, nat_le, slice_index, ◌≢◌}
 pub use Rattle.btr_reader.proofs.PartsRead.{of_disk, opened_super, rows_not_refused}
 pub use Rattle.btr_reader.specs.Opening.{IsAmong, IsBtrfsOpened, NamesNoLogTree, opening_refusals}
 pub use Rattle.btr_reader.specs.Parts.{AreRowsOfBtrfs, HasBtrfsRows, IsBtrfsRefusal, IsReadable, RefusesBtrfsRows, RefusesPart, SavedImage, own_map, own_super, way_refusals}
@@ -10,7 +10,7 @@ pub use Rattle.btr_super.specs.declared.superblock.Super.{Super}
 pub use Rattle.btrfs_format.specs.declared.block.TheConstants.{FIRST_MIRROR, SECOND_MIRROR, SUPER_BLOCK, SUPER_MAGIC_OFFSET}
 pub use Rattle.convert_core.proofs.One.{surveys_are_one}
 pub use Rattle.convert_core.proofs.command_answers.Handed.{btrfs_cause, handed_on, volume_cause}
-pub use Rattle.convert_core.specs.Converted.{IsConverted, IsConvertible, IsEither, IsSomeNew}
+pub use Rattle.convert_core.specs.Converted.{IsConverted, IsConvertible, IsLeftByConvert, IsSomeNew}
 pub use Rattle.convert_core.specs.Surveyed.{IsSurvey}
 pub use Rattle.convert_core.specs.command_answers.Answers.{of_btrfs, of_volume}
 pub use Rattle.convert_core.specs.command_answers.declared.answer.Answer.{Answer}
@@ -22,6 +22,7 @@ pub use Rattle.convert_core.specs.space_items.Laws.{AreIds}
 pub use Rattle.convert_options.specs.declared.options.Options.{Options}
 pub use Rattle.first_sync.proofs.Synced.{synced_settled, turned, uncalled}
 pub use Rattle.first_sync.specs.Synced.{CrashesSynced, EachCrashSynced, SyncsFirst, synced_now}
+pub use Rattle.fs_rows.specs.Rows.{WholeRow, row_of}
 pub use Rattle.fs_rows.specs.Text.{rows_text}
 pub use Rattle.reiser_volume.proofs.Answering.{rules_pass}
 pub use Rattle.reiser_volume.specs.Answers.{RefusesVolume}
@@ -35,8 +36,9 @@ pub use Rattle.reiser_volume.specs.refusals.declared.answer.VolAnswer.{VolAnswer
 pub use Rattle.reiser_volume.specs.vol_block.Format.{format, has_bytes_at, has_reiser_magic}
 pub use Rattle.reiser_volume.specs.vol_block.declared.format.Format.{Format}
 pub use Rattle.reiser_volume.specs.vol_block.declared.ids.Ids.{Ids}
-pub use Rattle.rollback_core.specs.Recovered.{IsLeftByRecover, IsRecoverable, IsRecovered, RewritesBeforeCopies}
+pub use Rattle.rollback_core.specs.Recovered.{IsLeftByRecovery, IsRecoverable, IsRecovered, RewritesBeforeCopies}
 pub use Rattle.rollback_core.specs.RolledBack.{IsLeftByRollback, IsRolledBack}
+pub use Rattle.super_turn.specs.PutBack.{IsPutBackAlone, IsPuttingBack, copy_place, is_half_turned, put_back}
 pub use Rattle.trial_core.specs.Answers.{LeavesRefused, RefusesTrial}
 pub use Rattle.trial_core.specs.Trial.{IsTried, needed_by, sample_on}
 pub use Rattle.unit_plan.specs.Needed.{need}
@@ -57,4 +59,5 @@ pub use Rattle.volume_app.specs.Trying.{IsTriable, IsTriedWhole, KeepsScratch, L
 pub use Rattle.volume_app.specs.declared.ending.Ending.{Ending}
 pub use Rattle.volume_app.specs.declared.ending.Ending.TheVariants.{Done, Failed, OutputFault, Usage}
 pub use Rattle.volume_app.specs.declared.reiser.ReiserSummary.{ReiserSummary}
-pub use Rattle.volume_state.specs.Laws.{SpareBlocksDecideNothing, is_spare}
+pub use Rattle.volume_state.specs.GoingBack.{CanGoBack}
+pub use Rattle.volume_state.specs.Laws.{CanGoBackToo, SpareBlocksDecideNothing, is_spare}

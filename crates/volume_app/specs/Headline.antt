@@ -5,6 +5,7 @@ use Rattle.reiser_volume.specs.outside.History.{Image, History, reads}
 use Rattle.rollback_core.specs.Recovered.{IsRecoverable}
 use Rattle.volume_state.specs.GoingBack.{CanGoBack}
 use Rattle.trial_core.specs.Laws.{IsSampleAgain}
+use Rattle.super_turn.specs.PutBack.{put_back}
 use Rattle.volume_app.specs.Command.{Asked, inspect, list, convert, recover, rollback, trial, help, version}
 use Rattle.volume_app.specs.Trees.{IsConvertedTree, IsRestoredTree, KeepsTree, LeavesConvertedTree, LeavesRestoredTree}
 use Rattle.volume_app.specs.Trying.{IsTriable}
@@ -12,13 +13,14 @@ use Rattle.first_sync.specs.Synced.{CrashesSynced}
 
 -- A command that writes is to be done on this disk: `convert` where an accepted ReiserFS volume has the stated free space, `rollback` where
 -- the saved image is untouched, `recover` where superblock, journal and bitmap, or the superblock of Btrfs, keep their rules, `trial` where
--- the disk has no volume and blocks enough, and the sample has room and the space for a conversion.
+-- the disk has no volume and blocks enough, and the sample has room and the space for a conversion. Of `convert` and `recover` the disk is looked
+-- at as it is once a block 16 that is half turned is put back; any other disk is that itself.
 abbrev pub IsToBeDone : Option Asked → Image → Type 0
 IsToBeDone None disk = ⊥
 IsToBeDone (Some (inspect o path)) disk = ⊥
 IsToBeDone (Some (list path)) disk = ⊥
-IsToBeDone (Some (convert o path)) disk = IsConvertible o disk
-IsToBeDone (Some (recover path)) disk = IsRecoverable disk
+IsToBeDone (Some (convert o path)) disk = IsConvertible o (put_back disk)
+IsToBeDone (Some (recover path)) disk = IsRecoverable (put_back disk)
 IsToBeDone (Some (rollback path)) disk = CanGoBack disk
 IsToBeDone (Some (trial number path)) disk = IsTriable number disk
 IsToBeDone (Some help) disk = ⊥
@@ -29,7 +31,7 @@ abbrev pub MakesTree : Option Asked → Image → Image → Type 0
 MakesTree None disk other = other ≡ disk
 MakesTree (Some (inspect o path)) disk other = other ≡ disk
 MakesTree (Some (list path)) disk other = other ≡ disk
-MakesTree (Some (convert o path)) disk other = IsConvertedTree disk other
+MakesTree (Some (convert o path)) disk other = IsConvertedTree (put_back disk) other
 MakesTree (Some (recover path)) disk other = KeepsTree disk other
 MakesTree (Some (rollback path)) disk other = IsRestoredTree disk other
 MakesTree (Some (trial number path)) disk other = IsSampleAgain number disk other

@@ -1,5 +1,5 @@
 -- What commands do to the tree of files of a disk.
-use Rattle.std.specs.Prelude.{◌≡◌, ◌⊎◌, ◌<◌, ℕ, List, length}
+use Rattle.std.specs.Prelude.{◌≡◌, ◌⊎◌, ◌<◌, ℕ, true, List, length}
 use Rattle.reiser_volume.specs.outside.History.{Image, block_at}
 use Rattle.fs_rows.specs.Rows.{WholeRow}
 use Rattle.convert_core_laws.specs.going_back.Back.{GoesBack}
@@ -12,6 +12,7 @@ use Rattle.rollback_core.specs.Opens.{OpensAs}
 use Rattle.convert_core.specs.convert_trees_laws.Rows.{HasBytes}
 use Rattle.volume_state.specs.Saved.{image_blocks}
 use Rattle.volume_state.specs.GoingBack.{CanGoBack, old_used}
+use Rattle.super_turn.specs.PutBack.{IsPuttingBack, is_half_turned, put_back}
 use Rattle.convert_options.specs.declared.options.UuidChoice.{UuidChoice}
 use Rattle.convert_options.specs.declared.options.UuidChoice.TheVariants.{New, Copy, Given}
 use Rattle.reiser_volume.specs.vol_block.declared.format.Format.{Format}
@@ -35,9 +36,10 @@ pub record IsConvertedTree (disk other : Image) : Type 0 where
   pub sound : IsSound other
   pub back : GoesBack disk other
 
--- The disk is as it was, or the ReiserFS volume stands with its tree, or the Btrfs volume does with the same.
+-- The disk is as it was, but that its block 16 may be put back, in part or as a whole; or the ReiserFS volume stands with its tree, or the
+-- Btrfs volume does with the same.
 abbrev pub LeavesConvertedTree : Image → Image → Type 0
-LeavesConvertedTree disk other = (other ≡ disk) ⊎ (StandsAsBefore disk other ⊎ IsConvertedTree disk other)
+LeavesConvertedTree disk other = IsPuttingBack disk other ⊎ (StandsAsBefore (put_back disk) other ⊎ IsConvertedTree (put_back disk) other)
 
 -- ---- rollback
 
@@ -46,10 +48,16 @@ pub record IsRestoredTree (disk other : Image) : Type 0 where
   pub restored : SameUsed (old_used disk) (image_blocks disk) other
   pub volume : IsSameVolume (image_blocks disk) other
 
+-- The same of a disk on which block 16 is half turned, once it is put back. The old volume stands with its tree before that, too.
+pub record IsHalfRestoredTree (disk other : Image) : Type 0 where
+  pub half : is_half_turned other ≡ true
+  pub restored : SameUsed (old_used disk) (image_blocks disk) (put_back other)
+  pub volume : IsSameVolume (image_blocks disk) other
+
 -- The disk is as it was; or, of one that can be rolled back, the Btrfs volume stands, each block that it has in use as it was: with its
 -- tree, if that can be read, and the same saved image, so that it can be rolled back again; or the old volume does with its tree.
 abbrev pub LeavesRestoredTree : Image → Image → Type 0
-LeavesRestoredTree disk other = (other ≡ disk) ⊎ (CanGoBack disk × (CanGoBackToo disk other ⊎ IsRestoredTree disk other))
+LeavesRestoredTree disk other = (other ≡ disk) ⊎ (CanGoBack disk × (CanGoBackToo disk other ⊎ (IsHalfRestoredTree disk other ⊎ IsRestoredTree disk other)))
 
 -- ---- recover
 

@@ -1,11 +1,10 @@
 -- What a crash leaves before block 16 is turned stands as the volume before.
-use Rattle.convert_core_laws.proofs.Imports.{◌≡◌, ◌≢◌, ℕ, nat_le, List, length, sym, ap, ◌∙◌, arith, if◌then◌else◌, SUPER_BLOCK, format_in, Image, block_at, format, Btrfs, Neither, KeepsOldVolume, IsConvertible, StandsAsBefore, superblock_in, UsedBlocksDecide, IsAccepted, superblock, Options}
-
-use Rattle.convert_core.specs.Converted.{IsHalfConverted}
-use Rattle.reiser_volume.specs.Laws.{IsSameVolume}
+use Rattle.convert_core_laws.proofs.Imports.{◌≡◌, ◌≢◌, ℕ, nat_le, List, length, sym, ap, ◌∙◌, arith, if◌then◌else◌, SUPER_BLOCK, format_in, Image, block_at, format, Btrfs, Neither, KeepsOldVolume, IsConvertible, IsHalfConverted, StandsAsBefore, UsedBlocksDecide, IsSameVolume, IsAccepted, superblock, Options}
+use Rattle.reiser_volume.proofs.reiser_bitmap.SystemBlocks.{superblock_in}
 use Rattle.reiser_volume.proofs.Unchanged.{put_back_same}
 use Rattle.super_turn.specs.PutBack.{put_back}
 use Rattle.super_turn.proofs.Backs.{keeps as put_keeps}
+
 
 module _ (decide : UsedBlocksDecide) (o : Options) (image other : Image) (other_format : format_in image ≢ Btrfs) (can : IsConvertible o image) (before : KeepsOldVolume image other) where
   accepted : IsAccepted image
@@ -27,7 +26,7 @@ module _ (decide : UsedBlocksDecide) (o : Options) (image other : Image) (other_
   }
 
 -- one volume is the same as another, and that as a third
-then_same : (one two three : Image) → IsSameVolume one two → IsSameVolume two three → IsSameVolume one three
+pub then_same : (one two three : Image) → IsSameVolume one two → IsSameVolume two three → IsSameVolume one three
 then_same one two three first second = record {
   accepted = second.accepted;
   fields = second.fields ∙ first.fields;

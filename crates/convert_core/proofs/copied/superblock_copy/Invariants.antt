@@ -1,5 +1,4 @@
-use Rattle.std.proofs.Common.{◌≡◌, drop}
-use Rattle.convert_core.specs.Copied.{copy_in}
+use Rattle.convert_core.proofs.Imports.{◌≡◌, drop, copy_in}
 use Rattle.convert_core.proofs.copied.superblock_copy.Given as goal
 
 abbrev pub invariant-loop-i : goal.invariant-loop-i

@@ -1,6 +1,4 @@
-use Rattle.convert_core.proofs.Imports.{◌≢◌, ◌≡◌, ◌∙◌, ap, subst, IfErr, History, reads, synced_then, uncalled, DiffersInFree}
-use Rattle.convert_core.specs.Converted.{IsLeftByConvert}
-use Rattle.super_turn.specs.PutBack.{IsPutBackAlone, put_back}
+use Rattle.convert_core.proofs.Imports.{◌≢◌, ◌≡◌, ◌∙◌, ap, subst, IfErr, History, reads, synced_then, uncalled, DiffersInFree, IsLeftByConvert, IsPutBackAlone, put_back}
 use Rattle.convert_steps.specs.command_answers.declared.answer.Answer.TheVariants as answer
 use Rattle.convert_core.proofs.in_place.convert.Goals as goal
 

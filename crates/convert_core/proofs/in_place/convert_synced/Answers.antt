@@ -1,7 +1,5 @@
-use Rattle.convert_core.proofs.Imports.{◌≢◌, ◌≡◌, ◌∙◌, inl, inr, ⊎_elim, ap, subst, IfErr, History, Image, reads, left_then, GoesOn, goes_on, then_goes_on, DiffersInFree, IsEither}
-use Rattle.std.proofs.Common.{Unit}
+use Rattle.convert_core.proofs.Imports.{◌≢◌, ◌≡◌, ◌∙◌, inl, inr, ⊎_elim, ap, subst, Unit, IfErr, History, Image, reads, left_then, GoesOn, goes_on, then_goes_on, DiffersInFree, IsEither, put_back}
 use Rattle.convert_steps.specs.command_answers.declared.answer.Answer.TheVariants as answer
-use Rattle.super_turn.specs.PutBack.{put_back}
 use Rattle.convert_core.proofs.Ending.{refused_alone}
 use Rattle.convert_core.proofs.in_place.convert_synced.Goals as goal
 
@@ -27,7 +25,7 @@ returns-clause-converted g c = λ tells image is. c.convert_settled.ensures.conv
 
 pub returns-clause-refused : goal.returns-clause-refused
 returns-clause-refused g c = λ tells.
-    refused_alone c.convert_settled.result _ (g.D.Disk.history c.put_back.new.disk) _ (c.in_ok-put_back.ensures.written tells) (c.put_back.ensures.unwritten tells) (c.convert_settled.ensures.refused tells)
+    refused_alone c.convert_settled.result _ (g.D.Disk.history c.put_back.new.disk) _ (c.in_ok-put_back.ensures.written tells) (c.put_back.ensures.unwritten tells) (c.in_ok-put_back.ensures.settled tells) (c.convert_settled.ensures.refused tells)
 
 pub returns-clause-memory : goal.returns-clause-memory
 returns-clause-memory g c = λ tells.

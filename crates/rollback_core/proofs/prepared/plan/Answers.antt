@@ -1,6 +1,5 @@
-use Rattle.rollback_core.proofs.Imports.{ap, ◌∙◌, ImageMap, blocks_by_map, image_blocks}
+use Rattle.rollback_core.proofs.Imports.{ap, ◌∙◌, ImageMap, blocks_by_map, image_blocks, unwrap_or}
 use Rattle.std.specs.Prelude.{Option, ℕ}
-use Rattle.std.specs.Option.{unwrap_or}
 use Rattle.rollback_core.proofs.Imaged.{told_blocks}
 use Rattle.rollback_core.proofs.Planning.{prepared}
 use Rattle.rollback_core.proofs.prepared.plan.Goals as goal

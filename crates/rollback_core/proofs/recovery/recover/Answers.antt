@@ -1,8 +1,5 @@
-use Rattle.rollback_core.proofs.Imports.{◌≢◌, ◌≡◌, ◌∙◌, inl, inr, ap, subst, IfErr, IfOk, History, reads, synced_then, uncalled, RecoverSummary}
+use Rattle.rollback_core.proofs.Imports.{◌≢◌, ◌≡◌, ◌∙◌, inl, inr, ap, subst, IfErr, IfOk, History, reads, synced_then, uncalled, synced_settled, RecoverSummary, IsPutBackAlone, is_half_turned, IsLeftByRecovery, PutsBackFirst}
 use Rattle.convert_steps.specs.command_answers.declared.answer.Answer.TheVariants as answer
-use Rattle.first_sync.proofs.Synced.{synced_settled}
-use Rattle.super_turn.specs.PutBack.{IsPutBackAlone, is_half_turned}
-use Rattle.rollback_core.specs.Recovered.{IsLeftByRecovery, PutsBackFirst}
 use Rattle.rollback_core.proofs.Rewriting.{called_only, puts_goes_on, uncalled_only}
 use Rattle.rollback_core.proofs.recovery.recover.Goals as goal
 

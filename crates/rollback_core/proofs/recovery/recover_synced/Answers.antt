@@ -1,5 +1,4 @@
-use Rattle.rollback_core.proofs.Imports.{◌≢◌, ◌≡◌, ◌∙◌, ◌⊎◌, inl, inr, ⊎_elim, ℕ, List, ap, subst, IfOk, History, Image, reads, left_then, IsLeftByRecover, IsMend, IsRewrite, RewritesFirst, RecoverSummary}
-use Rattle.super_turn.specs.PutBack.{put_back}
+use Rattle.rollback_core.proofs.Imports.{◌≢◌, ◌≡◌, ◌∙◌, ◌⊎◌, inl, inr, ⊎_elim, ℕ, List, ap, subst, IfOk, History, Image, reads, left_then, IsLeftByRecover, IsMend, IsRewrite, RewritesFirst, RecoverSummary, put_back}
 use Rattle.rollback_core.proofs.Rewriting.{first_only, refused_alone, settled_told}
 use Rattle.rollback_core.proofs.recovery.recover_synced.Goals as goal
 
@@ -40,4 +39,4 @@ returns-clause-settled g c = λ tells settled.
 
 pub returns-clause-refused : goal.returns-clause-refused
 returns-clause-refused g c = λ tells.
-    refused_alone c.recover_settled.result _ (g.D.Disk.history c.put_back.new.disk) _ (c.in_ok-put_back.ensures.written tells) (c.put_back.ensures.unwritten tells) (c.recover_settled.ensures.refused tells)
+    refused_alone c.recover_settled.result _ (g.D.Disk.history c.put_back.new.disk) _ (c.in_ok-put_back.ensures.written tells) (c.put_back.ensures.unwritten tells) (c.in_ok-put_back.ensures.settled tells) (c.recover_settled.ensures.refused tells)

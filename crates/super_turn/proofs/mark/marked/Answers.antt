@@ -1,7 +1,4 @@
-use Rattle.std.proofs.Common.{List, [], ℕ, ◌++◌, ◌∙◌, ap, take, drop}
-use Rattle.std.proofs.lemmas.List.{append-nil}
-use Rattle.std.specs.Prelude.{codes}
-use Rattle.byteorder.specs.Endian.{little_bytes}
+use Rattle.super_turn.proofs.Imports.{List, [], ℕ, ◌++◌, ◌∙◌, ap, take, drop, append-nil, codes, little_bytes}
 use Rattle.super_turn.proofs.mark.marked.Goals as goal
 
 pub returns : goal.returns

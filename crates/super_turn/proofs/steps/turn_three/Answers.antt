@@ -1,6 +1,4 @@
-use Rattle.std.proofs.Common.{◌≡◌, ◌<◌, inl, inr, ⊎_elim, ◌∙◌, length, arith}
-use Rattle.outside.specs.History.{reads}
-use Rattle.outside.proofs.Writes.{then_writes, weaker_writes}
+use Rattle.super_turn.proofs.Imports.{◌≡◌, ◌<◌, inl, inr, ⊎_elim, ◌∙◌, length, arith, reads, then_writes, weaker_writes}
 use Rattle.super_turn.proofs.Stepping.{step_written, three_crash}
 use Rattle.super_turn.proofs.steps.turn_three.Goals as goal
 

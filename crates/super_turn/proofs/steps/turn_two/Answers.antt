@@ -1,6 +1,4 @@
-use Rattle.std.proofs.Common.{◌≡◌, ◌<◌, inl, length, arith}
-use Rattle.outside.specs.History.{reads}
-use Rattle.outside.proofs.Writes.{then_writes, weaker_writes}
+use Rattle.super_turn.proofs.Imports.{◌≡◌, ◌<◌, inl, length, arith, reads, then_writes, weaker_writes}
 use Rattle.super_turn.proofs.Stepping.{stands_start, step_crash, step_stands, step_written, two_crash}
 use Rattle.super_turn.proofs.steps.turn_two.Goals as goal
 

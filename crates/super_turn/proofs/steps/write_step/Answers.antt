@@ -1,5 +1,4 @@
-use Rattle.std.proofs.Common.{refl}
-use Rattle.outside.proofs.Writes.{one_sync, one_write, then_writes}
+use Rattle.super_turn.proofs.Imports.{refl, one_sync, one_write, then_writes}
 use Rattle.super_turn.proofs.steps.write_step.Goals as goal
 
 pub returns-in_err-write-clause-writes : goal.returns-in_err-write-clause-writes

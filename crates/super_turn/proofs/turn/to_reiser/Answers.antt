@@ -1,8 +1,4 @@
-use Rattle.std.proofs.Common.{◌≡◌, ◌<◌, ◌^◌, inl, inr, ◌∙◌, subst, length, arith, OnOk}
-use Rattle.outside.specs.History.{History, reads}
-use Rattle.outside.proofs.Phases.{left_unwritten}
-use Rattle.outside.proofs.Writes.{then_writes}
-use Rattle.super_turn.specs.Turned.{StandsWith}
+use Rattle.super_turn.proofs.Imports.{◌≡◌, ◌<◌, ◌^◌, inl, inr, ◌∙◌, subst, length, arith, OnOk, History, reads, left_unwritten, then_writes, StandsWith}
 use Rattle.super_turn.proofs.Stepping.{same_writes}
 use Rattle.super_turn.proofs.Turning.{to_reiser_crash}
 use Rattle.super_turn.proofs.turn.to_reiser.Goals as goal
