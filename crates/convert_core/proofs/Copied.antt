@@ -4,6 +4,7 @@ use Rattle.reiser_volume.proofs.reiser_bitmap.SystemBlocks.{superblock_in}
 use Rattle.extent_pieces.proofs.Placing.{length-blocks}
 use Rattle.convert_core.proofs.Moving.{can_move, well}
 use Rattle.convert_core.proofs.Reserved.{piece_apart}
+use Rattle.btrfs_format.specs.declared.block.TheConstants.{SUPER_BLOCK}
 
 -- ---- the loop
 by_first : (p : Piece) (ps : List Piece) (t : Bool) → begins_with_super p.from ≡ t → copy_in (p ∷ ps) ≡ cond t p.place (copy_in ps)
@@ -144,7 +145,7 @@ module _ (volume : Volume) (image : Image) (o : Options) (plan : Plan) (pieces :
       omega (arith, inside, long, fits, many, place)
 
   -- and it holds block 16
-  pub copy_holds : (other : Image) → HoldMoved volume image other pieces → block_at other (copy_in pieces) ≡ block_at image 16
+  pub copy_holds : (other : Image) → HoldMoved volume image other pieces → block_at other (copy_in pieces) ≡ block_at image SUPER_BLOCK
   copy_holds other hold =
       let here = (hold found.piece found.among).blocks 16 0 found.from (omega (arith, some)) in
       let at : copy_in pieces ≡ found.piece.place + 0 = found.place ∙ (let e : found.piece.place ≡ found.piece.place + 0 = omega arith in e) in

@@ -8,6 +8,7 @@ use Rattle.convert_core.proofs.Copied.{super_used}
 use Rattle.convert_core.proofs.Putting.{convertible, free_before, node_free, piece_some, used_not_free}
 use Rattle.convert_core.proofs.Reserved.{free_apart, piece_apart, switch_reserved}
 use Rattle.convert_core.proofs.Standing.{InNodes, InPieces, stands_stay}
+use Rattle.btrfs_format.specs.declared.block.TheConstants.{SUPER_BLOCK}
 
 -- while free blocks alone are written, a crash leaves the old volume
 pub free_crash : (h₀ h₁ : History) → IsSettled h₀ → WritesOnly (λ b _. IsFree (reads h₀) b) h₀ h₁ → (other : Image) → LeftSince (clock h₀) h₁ other → KeepsOldVolume (reads h₀) other
@@ -98,19 +99,19 @@ not_true true never = absurd (never refl)
 not_true false never = refl
 
 -- a disk whose format is not Btrfs has not its magic
-no_magic : (image : Image) → format_in image ≢ Btrfs → 16 < length image → has_bytes_at (block_at image 16) 64 (codes "_BHRfS_M") ≡ false
+no_magic : (image : Image) → format_in image ≢ Btrfs → 16 < length image → has_bytes_at (block_at image SUPER_BLOCK) 64 (codes "_BHRfS_M") ≡ false
 no_magic image other long =
-    not_true (has_bytes_at (block_at image 16) 64 (codes "_BHRfS_M"))
-    (λ is. other (btrfs_by (nat_le (length image) 16) (has_bytes_at (block_at image 16) 64 (codes "_BHRfS_M")) (has_reiser_magic (block_at image 16)) (grind (arith, nat_tests, long)) is))
+    not_true (has_bytes_at (block_at image SUPER_BLOCK) 64 (codes "_BHRfS_M"))
+    (λ is. other (btrfs_by (nat_le (length image) 16) (has_bytes_at (block_at image SUPER_BLOCK) 64 (codes "_BHRfS_M")) (has_reiser_magic (block_at image SUPER_BLOCK)) (grind (arith, nat_tests, long)) is))
 
 module _ (o : Options) (ids : Ids) (now : ℕ) (image put : Image) (w : Written) (down : IsPutDown o ids now image put w) (reiser : format_in image ≢ Btrfs) (before : KeepsOldVolume image put) (other : Image) (is : IsHalfSwitched w.copy put other) where
   abbrev old : List ℕ
-  old = block_at put 16
+  old = block_at put SUPER_BLOCK
 
   long : 16 < length image
   long = down.conversion.making.has_pieces.accepted.clean.superblock.there
 
-  old_is : old ≡ block_at image 16
+  old_is : old ≡ block_at image SUPER_BLOCK
   old_is = before.used 16 (super_used down.m.volume image down.m.options down.m.plan down.m.pieces down.conversion.making.has_pieces)
 
   has_half : HasHalf old w.copy other

@@ -15,7 +15,7 @@ switched superblock blocks old image size is others = record {
 }
 
 -- while block 16 is turned
-pub superblock_crash : (superblock : List ℕ) (place blocks : ℕ) (old image : Image) → (image ≡ old) ⊎ IsTurning (block_at old 16) place superblock old image → IsLeftBySwitch place superblock blocks old image
+pub superblock_crash : (superblock : List ℕ) (place blocks : ℕ) (old image : Image) → (image ≡ old) ⊎ IsTurning (block_at old SUPER_BLOCK) place superblock old image → IsLeftBySwitch place superblock blocks old image
 superblock_crash superblock place blocks old image (inl same) = inl same
 superblock_crash superblock place blocks old image (inr is) =
     ⊎_elim

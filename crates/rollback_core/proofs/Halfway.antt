@@ -7,6 +7,7 @@ use Rattle.rollback_core.proofs.Back.{back, equal_or, standing}
 use Rattle.rollback_core.proofs.Phases.{saved_stay}
 use Rattle.rollback_core.proofs.RecoveryFormats.{btrfs_magic, other_magic}
 use Rattle.rollback_core.proofs.RollbackKeeping.{rollback_keeps}
+use Rattle.btrfs_format.specs.declared.block.TheConstants.{SUPER_BLOCK}
 
 module _ (disk : Image) (way : WayBack) (p : IsWayBack disk way) where
   abbrev old : List ℕ
@@ -49,14 +50,14 @@ module _ (disk : Image) (way : WayBack) (p : IsWayBack disk way) where
 
     -- with its block 16 the Btrfs volume would stand
     abbrev mid : Image
-    mid = set other 16 (block_at disk 16)
+    mid = set other 16 (block_at disk SUPER_BLOCK)
 
     unturned : IsUnturned way disk mid
     unturned = record {
-      size = length-set other 16 (block_at disk 16) ∙ is.size;
+      size = length-set other 16 (block_at disk SUPER_BLOCK) ∙ is.size;
       others = λ b outside. ⊎_elim
-          (λ here. subst (λ (n : ℕ). block_at mid n ≡ block_at disk n) (sym here) (get_or-set_same other 16 (block_at disk 16) [] long))
-          (λ rest. get_or-set_other other 16 b (block_at disk 16) [] rest ∙ is.others b rest outside) (equal_or b);
+          (λ here. subst (λ (n : ℕ). block_at mid n ≡ block_at disk n) (sym here) (get_or-set_same other 16 (block_at disk SUPER_BLOCK) [] long))
+          (λ rest. get_or-set_other other 16 b (block_at disk SUPER_BLOCK) [] rest ∙ is.others b rest outside) (equal_or b);
     }
 
     too : CanGoBackToo disk mid
@@ -70,7 +71,7 @@ module _ (disk : Image) (way : WayBack) (p : IsWayBack disk way) where
     copy_there : block_at other way.copy ≡ old
     copy_there =
         let at = placed (saved_place disk 16) refl in
-        sym (get_or-set_other other 16 way.copy (block_at disk 16) [] elsewhere) ∙ copy_kept (saved_file disk) refl at.0 ∙ at.1
+        sym (get_or-set_other other 16 way.copy (block_at disk SUPER_BLOCK) [] elsewhere) ∙ copy_kept (saved_file disk) refl at.0 ∙ at.1
 
     inside : way.copy < length other
     inside = ⊎_elim (λ within. within) (λ past. absurd (not_empty (sym copy_there ∙ get_or_past other way.copy [] past))) (cases_lt way.copy (length other))

@@ -59,7 +59,7 @@ module _ (way : WayBack) (apart : AreWritesApart way) (old : Image) where
   }
 
   -- what a turn of block 16 over the saved blocks leaves
-  over_turning : (mid image : Image) → IsUnturned way old mid → AreWrittenBack saved mid → IsTurning way.superblock.bytes way.copy (block_at mid 16) mid image
+  over_turning : (mid image : Image) → IsUnturned way old mid → AreWrittenBack saved mid → IsTurning way.superblock.bytes way.copy (block_at mid SUPER_BLOCK) mid image
       → IsUnturned way old image ⊎ (IsHalfway way old image ⊎ IsTurned way old image)
   over_turning mid image before stand t =
       ⊎_elim (λ is. inr (inr (over_saved mid image before stand t.size is t.others)))

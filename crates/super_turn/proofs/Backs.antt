@@ -6,10 +6,11 @@ use Rattle.std.proofs.lemmas.Slice.Eq.{bytes_eq-Decides}
 use Rattle.std.specs.Str.{bytes_eq}
 use Rattle.outside.specs.Format.{format_in}
 use Rattle.outside.specs.vol_block.declared.format.Format.{Format}
-use Rattle.outside.specs.vol_block.declared.format.Format.TheVariants.{Neither}
+use Rattle.outside.specs.vol_block.declared.format.Format.TheVariants.{Btrfs, Neither, Reiser}
 use Rattle.super_turn.specs.Laws.{HalfTurnedIsPutBack, PutBackKeeps}
 use Rattle.super_turn.proofs.Fronts.{same_field, same_magic, same_within}
 use Rattle.super_turn.proofs.Halves.{marked_behind, marked_front, marked_has, marked_names, sector_front}
+use Rattle.btrfs_format.specs.declared.block.TheConstants.{SUPER_BLOCK}
 
 -- the format of a superblock lies in its first 128 bytes
 pub format_front : (xs ys : List ℕ) → take 128 xs ≡ take 128 ys → format xs ≡ format ys
@@ -18,11 +19,11 @@ format_front xs ys same =
     let old : has_bytes_at xs 52 (codes "ReIsErFs") ≡ has_bytes_at ys 52 (codes "ReIsErFs") = same_magic 128 xs ys same 52 (codes "ReIsErFs") (omega arith) in
     let two : has_bytes_at xs 52 (codes "ReIsEr2Fs") ≡ has_bytes_at ys 52 (codes "ReIsEr2Fs") = same_magic 128 xs ys same 52 (codes "ReIsEr2Fs") (omega arith) in
     let three : has_bytes_at xs 52 (codes "ReIsEr3Fs") ≡ has_bytes_at ys 52 (codes "ReIsEr3Fs") = same_magic 128 xs ys same 52 (codes "ReIsEr3Fs") (omega arith) in
-    rw (btrfs, old, two, three) refl
+    λ i. cond (btrfs i) Btrfs (cond (old i || (two i || three i)) Reiser Neither)
 
-format_kept : (image other : Image) → length other ≡ length image → format (block_at other 16) ≡ format (block_at image 16) → format_in other ≡ format_in image
+format_kept : (image other : Image) → length other ≡ length image → format (block_at other SUPER_BLOCK) ≡ format (block_at image SUPER_BLOCK) → format_in other ≡ format_in image
 format_kept image other size same =
-    ap (λ (n : ℕ). cond (nat_le n 16) Neither (format (block_at other 16))) size ∙ ap (λ (f : Format). cond (nat_le (length image) 16) Neither f) same
+    ap (λ (n : ℕ). cond (nat_le n 16) Neither (format (block_at other SUPER_BLOCK))) size ∙ ap (λ (f : Format). cond (nat_le (length image) 16) Neither f) same
 
 both : (a b : Bool) → a ≡ true → b ≡ true → (a && b) ≡ true
 both a b one two = rw (one, two) refl
@@ -36,7 +37,7 @@ is_not_16 n other = ap not (ne_eqb n 16 other)
 
 module _ (image : Image) where
   abbrev bytes : List ℕ
-  bytes = block_at image 16
+  bytes = block_at image SUPER_BLOCK
 
   abbrev copy : List ℕ
   copy = block_at image (copy_place image)
@@ -116,43 +117,43 @@ module _ (image : Image) where
   put_front = ap (take 128) super_put ∙ super_front
 
 -- two disks that have the same in block 16 and elsewhere
-pub same_disks : (one two : Image) → length one ≡ length two → block_at one 16 ≡ block_at two 16 → ((b : ℕ) → b ≢ 16 → block_at one b ≡ block_at two b) → one ≡ two
+pub same_disks : (one two : Image) → length one ≡ length two → block_at one SUPER_BLOCK ≡ block_at two SUPER_BLOCK → ((b : ℕ) → b ≢ 16 → block_at one b ≡ block_at two b) → one ≡ two
 same_disks one two size here others =
     ext_get_or [] one two size (λ b below. ⊎_elim (λ same. subst (λ (n : ℕ). block_at one n ≡ block_at two n) (sym same) here) (λ other. others b other) (cases_eq b 16))
 
 -- ---- a crash while it is put back
 module _ (image other : Image) (size : length other ≡ length image) (others : (b : ℕ) → b ≢ 16 → block_at other b ≡ block_at image b) where
-  back_already : block_at other 16 ≡ super_before image → other ≡ put_back image
+  back_already : block_at other SUPER_BLOCK ≡ super_before image → other ≡ put_back image
   back_already is =
       same_disks other (put_back image) (size ∙ sym (put_size image)) (is ∙ sym (super_put image)) (λ b elsewhere. others b elsewhere ∙ sym (put_others image b elsewhere))
 
-  module _ (half : is_half_turned image ≡ true) (first : take 512 (block_at other 16) ≡ take 512 (block_at image 16)) where
+  module _ (half : is_half_turned image ≡ true) (first : take 512 (block_at other SUPER_BLOCK) ≡ take 512 (block_at image SUPER_BLOCK)) where
     place_same : copy_place other ≡ copy_place image
-    place_same = same_field 512 (block_at other 16) (block_at image 16) first 8 144 (omega arith)
+    place_same = same_field 512 (block_at other SUPER_BLOCK) (block_at image SUPER_BLOCK) first 8 144 (omega arith)
 
     copy_same : block_at other (copy_place other) ≡ block_at image (copy_place image)
     copy_same = ap (block_at other) place_same ∙ others (copy_place image) (half_elsewhere image half)
 
-    names_same : names_copy (block_at other 16) (length other) ≡ names_copy (block_at image 16) (length image)
+    names_same : names_copy (block_at other SUPER_BLOCK) (length other) ≡ names_copy (block_at image SUPER_BLOCK) (length image)
     names_same =
-        let magic : has_bytes_at (block_at other 16) 64 (codes "_BHRfS_M") ≡ has_bytes_at (block_at image 16) 64 (codes "_BHRfS_M") =
-        same_magic 512 (block_at other 16) (block_at image 16) first 64 (codes "_BHRfS_M") (omega arith) in
-        let marks : has_mark (block_at other 16) ≡ has_mark (block_at image 16) = same_magic 512 (block_at other 16) (block_at image 16) first 128 (codes "reiserconv turns") (omega arith) in
-        rw (magic, marks, place_same, size) refl
+        let magic : has_bytes_at (block_at other SUPER_BLOCK) 64 (codes "_BHRfS_M") ≡ has_bytes_at (block_at image SUPER_BLOCK) 64 (codes "_BHRfS_M") =
+        same_magic 512 (block_at other SUPER_BLOCK) (block_at image SUPER_BLOCK) first 64 (codes "_BHRfS_M") (omega arith) in
+        let marks : has_mark (block_at other SUPER_BLOCK) ≡ has_mark (block_at image SUPER_BLOCK) = same_magic 512 (block_at other SUPER_BLOCK) (block_at image SUPER_BLOCK) first 128 (codes "reiserconv turns") (omega arith) in
+        λ i. not (magic i) && (marks i && (nat_lt (place_same i) (size i) && not (nat_eq (place_same i) 16)))
 
-    half_same : is_half (block_at other (copy_place other)) (block_at other 16) ≡ is_half (block_at image (copy_place image)) (block_at image 16)
+    half_same : is_half (block_at other (copy_place other)) (block_at other SUPER_BLOCK) ≡ is_half (block_at image (copy_place image)) (block_at image SUPER_BLOCK)
     half_same =
-        let front : take 128 (block_at other 16) ≡ take 128 (block_at image 16) = sector_front 128 (block_at other 16) (block_at image 16) (omega arith) first in
-        let behind : take 360 (drop 152 (block_at other 16)) ≡ take 360 (drop 152 (block_at image 16)) = same_within 512 (block_at other 16) (block_at image 16) first 152 360 (omega arith) in
-        rw (copy_same, front, behind) refl
+        let front : take 128 (block_at other SUPER_BLOCK) ≡ take 128 (block_at image SUPER_BLOCK) = sector_front 128 (block_at other SUPER_BLOCK) (block_at image SUPER_BLOCK) (omega arith) first in
+        let behind : take 360 (drop 152 (block_at other SUPER_BLOCK)) ≡ take 360 (drop 152 (block_at image SUPER_BLOCK)) = same_within 512 (block_at other SUPER_BLOCK) (block_at image SUPER_BLOCK) first 152 360 (omega arith) in
+        λ i. bytes_eq (front i) (take 128 (copy_same i)) && bytes_eq (behind i) (take 360 (drop 152 (copy_same i)))
 
     half_again : is_half_turned other ≡ true
-    half_again = ap (λ (t : Bool). t && is_half (block_at other (copy_place other)) (block_at other 16)) names_same ∙ ap (λ (t : Bool). names_copy (block_at image 16) (length image) && t) half_same ∙ half
+    half_again = ap (λ (t : Bool). t && is_half (block_at other (copy_place other)) (block_at other SUPER_BLOCK)) names_same ∙ ap (λ (t : Bool). names_copy (block_at image SUPER_BLOCK) (length image) && t) half_same ∙ half
 
     back_again : put_back other ≡ put_back image
     back_again =
         same_disks (put_back other) (put_back image) (put_size other ∙ size ∙ sym (put_size image))
-        (super_put other ∙ ap (λ (t : Bool). cond t (block_at other (copy_place other)) (block_at other 16)) half_again ∙ copy_same ∙ sym (super_put image ∙ ap (λ (t : Bool). cond t (block_at image (copy_place image)) (block_at image 16)) half))
+        (super_put other ∙ ap (λ (t : Bool). cond t (block_at other (copy_place other)) (block_at other SUPER_BLOCK)) half_again ∙ copy_same ∙ sym (super_put image ∙ ap (λ (t : Bool). cond t (block_at image (copy_place image)) (block_at image SUPER_BLOCK)) half))
         (λ b elsewhere. put_others other b elsewhere ∙ others b elsewhere ∙ sym (put_others image b elsewhere))
 
 pub again : (image other : Image) → IsPuttingBack image other → is_half_turned (put_back image) ≡ false → put_back other ≡ put_back image
@@ -165,14 +166,14 @@ keeps = record {
   size = put_size;
   others = put_others;
   front = put_front;
-  format = λ image. format_kept image (put_back image) (put_size image) (format_front (block_at (put_back image) 16) (block_at image 16) (put_front image));
+  format = λ image. format_kept image (put_back image) (put_size image) (format_front (block_at (put_back image) 16) (block_at image SUPER_BLOCK) (put_front image));
   again = again;
 }
 
 -- ---- a superblock that is half turned
 pub half_turned : HalfTurnedIsPutBack
 half_turned old place image h =
-    let bytes : List ℕ = block_at image 16 in
+    let bytes : List ℕ = block_at image SUPER_BLOCK in
     let turned : List ℕ = marked old place in
     let magic : has_bytes_at bytes 64 (codes "_BHRfS_M") ≡ false =
     same_magic 128 bytes old (sector_front 128 bytes turned (omega arith) h.half ∙ marked_front old place h.whole) 64 (codes "_BHRfS_M") (omega arith) ∙ h.other_magic in

@@ -2,11 +2,12 @@
 use Rattle.super_turn.proofs.Imports.{◌≡◌, ◌⊎◌, inl, inr, ⊎_elim, ℕ, Bool, true, false, cond, List, length, take, Result, Ok, Err, OnOk, refl, sym, ◌∙◌, ap, subst, ◌&&◌, History, Image, IsSettled, LeftSince, block_at, clock, reads, left_unwritten, torn_alike, torn_first, is_half, marked_place, names_copy, with_first, IsPuttingBack, copy_place, is_half_turned, put_back, super_before, IsStep, StandsWith}
 use Rattle.super_turn.proofs.Backs.{put_none, put_others, put_size, same_disks, super_put}
 use Rattle.super_turn.proofs.Halves.{joined_first, joined_rest}
+use Rattle.btrfs_format.specs.declared.block.TheConstants.{SUPER_BLOCK}
 
-module _ (image : Image) (block : List ℕ) (blocks : ℕ) (is : block ≡ block_at image 16) (count : blocks ≡ length image) where
+module _ (image : Image) (block : List ℕ) (blocks : ℕ) (is : block ≡ block_at image SUPER_BLOCK) (count : blocks ≡ length image) where
   pub none_named : names_copy block blocks ≡ false → is_half_turned image ≡ false
   none_named not_named =
-      ap (λ (t : Bool). t && is_half (block_at image (copy_place image)) (block_at image 16))
+      ap (λ (t : Bool). t && is_half (block_at image (copy_place image)) (block_at image SUPER_BLOCK))
       (sym (ap (λ (zs : List ℕ). names_copy zs (length image)) is) ∙ sym (ap (λ (n : ℕ). names_copy block n) count) ∙ not_named)
 
   module _ (before : List ℕ) (copy : before ≡ block_at image (marked_place block)) (named : names_copy block blocks ≡ true) where
@@ -15,36 +16,36 @@ module _ (image : Image) (block : List ℕ) (blocks : ℕ) (is : block ≡ block
 
     pub half_is : (t : Bool) → is_half before block ≡ t → is_half_turned image ≡ t
     half_is t half =
-        ap (λ (s : Bool). s && is_half (block_at image (copy_place image)) (block_at image 16))
+        ap (λ (s : Bool). s && is_half (block_at image (copy_place image)) (block_at image SUPER_BLOCK))
         (sym (ap (λ (zs : List ℕ). names_copy zs (length image)) is) ∙ sym (ap (λ (n : ℕ). names_copy block n) count) ∙ named)
-        ∙ sym (ap (λ (zs : List ℕ). is_half zs (block_at image 16)) copy_is) ∙ sym (ap (λ (zs : List ℕ). is_half before zs) is) ∙ half
+        ∙ sym (ap (λ (zs : List ℕ). is_half zs (block_at image SUPER_BLOCK)) copy_is) ∙ sym (ap (λ (zs : List ℕ). is_half before zs) is) ∙ half
 
 -- the two steps of putting it back
-module _ (start image : Image) (bytes before : List ℕ) (whole : length bytes ≡ 4096) (is : bytes ≡ block_at start 16) (copy : before ≡ block_at start (copy_place start)) (half : is_half_turned start ≡ true) where
+module _ (start image : Image) (bytes before : List ℕ) (whole : length bytes ≡ 4096) (is : bytes ≡ block_at start SUPER_BLOCK) (copy : before ≡ block_at start (copy_place start)) (half : is_half_turned start ≡ true) where
   abbrev joined : List ℕ
   joined = with_first bytes before
 
   abbrev here : List ℕ
-  here = block_at image 16
+  here = block_at image SUPER_BLOCK
 
   abbrev Leaves : Type 0
-  Leaves = (here ≡ super_before start) ⊎ ((is_half_turned start ≡ true) × (take 512 here ≡ take 512 (block_at start 16)))
+  Leaves = (here ≡ super_before start) ⊎ ((is_half_turned start ≡ true) × (take 512 here ≡ take 512 (block_at start SUPER_BLOCK)))
 
   before_is : before ≡ super_before start
-  before_is = copy ∙ sym (ap (λ (t : Bool). cond t (block_at start (copy_place start)) (block_at start 16)) half)
+  before_is = copy ∙ sym (ap (λ (t : Bool). cond t (block_at start (copy_place start)) (block_at start SUPER_BLOCK)) half)
 
   first_is : take 512 here ≡ take 512 bytes → Leaves
   first_is same = inr (half, same ∙ ap (take 512) is)
 
-  leaves_one : IsStep (block_at start 16) joined start image → Leaves
-  leaves_one step = first_is (torn_alike (block_at start 16) joined here step.torn 0 (sym (joined_first bytes before whole ∙ ap (take 512) is)) ∙ sym (ap (take 512) is))
+  leaves_one : IsStep (block_at start SUPER_BLOCK) joined start image → Leaves
+  leaves_one step = first_is (torn_alike (block_at start SUPER_BLOCK) joined here step.torn 0 (sym (joined_first bytes before whole ∙ ap (take 512) is)) ∙ sym (ap (take 512) is))
 
   leaves_two : IsStep joined before start image → Leaves
   leaves_two step =
       ⊎_elim (λ same. first_is (ap (take 512) same ∙ joined_first bytes before whole)) (λ back. inl (back ∙ before_is))
       (torn_first joined before here step.torn (joined_rest bytes before whole))
 
-  pub putting_back : IsStep (block_at start 16) joined start image ⊎ IsStep joined before start image → IsPuttingBack start image
+  pub putting_back : IsStep (block_at start SUPER_BLOCK) joined start image ⊎ IsStep joined before start image → IsPuttingBack start image
   putting_back steps =
       ⊎_elim
       (λ one. record { size = one.size; others = one.others; superblock = leaves_one one })
@@ -55,9 +56,9 @@ module _ (start image : Image) (bytes before : List ℕ) (whole : length bytes �
 pub putting_none : (start : Image) → IsPuttingBack start start
 putting_none start = record { size = refl; others = λ b other. refl; superblock = by (is_half_turned start) refl }
   where
-    by : (t : Bool) → is_half_turned start ≡ t → (block_at start 16 ≡ super_before start) ⊎ ((is_half_turned start ≡ true) × (take 512 (block_at start 16) ≡ take 512 (block_at start 16)))
+    by : (t : Bool) → is_half_turned start ≡ t → (block_at start SUPER_BLOCK ≡ super_before start) ⊎ ((is_half_turned start ≡ true) × (take 512 (block_at start SUPER_BLOCK) ≡ take 512 (block_at start SUPER_BLOCK)))
     by true half = inr (half, refl)
-    by false half = inl (sym (ap (λ (t : Bool). cond t (block_at start (copy_place start)) (block_at start 16)) half))
+    by false half = inl (sym (ap (λ (t : Bool). cond t (block_at start (copy_place start)) (block_at start SUPER_BLOCK)) half))
 
 pub unwritten_crash : (h₀ h₁ : History) → IsSettled h₀ → h₁ ≡ h₀ → (image : Image) → LeftSince (clock h₀) h₁ image → IsPuttingBack (reads h₀) image
 unwritten_crash h₀ h₁ settled same image left = subst (IsPuttingBack (reads h₀)) (sym (left_unwritten h₀ h₁ settled same image left)) (putting_none (reads h₀))

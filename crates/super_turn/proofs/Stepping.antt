@@ -2,12 +2,13 @@
 use Rattle.super_turn.proofs.Imports.{◌≡◌, ◌≢◌, ◌⊎◌, inl, inr, ⊎_elim, ℕ, ◌<◌, List, [], length, set, IsTrue, Result, Ok, Err, OnOk, refl, sym, ◌∙◌, ap, subst, get_or-set_same, get_or-set_other, length-set, History, Image, IsBlock, IsSettled, IsTorn, LeftSince, WritesOnly, block_at, clock, reads, left_one, left_then, IsStep, StandsWith}
 use Rattle.outside.proofs.Crash.{writes_none, writes_weaker}
 use Rattle.outside.specs.Writes.{View, Writes}
+use Rattle.btrfs_format.specs.declared.block.TheConstants.{SUPER_BLOCK}
 
 -- a write of block 16
 abbrev pub IsSuperWrite : ℕ → List ℕ → Type 0
 IsSuperWrite b bytes = b ≡ 16
 
-pub stands_start : (start : Image) → StandsWith (block_at start 16) start start
+pub stands_start : (start : Image) → StandsWith (block_at start SUPER_BLOCK) start start
 stands_start start = record { size = refl; others = λ b other. refl; superblock = refl }
 
 module _ (from to : List ℕ) (start : Image) (h h' : History) (stands : StandsWith from start (reads h)) where
@@ -15,7 +16,7 @@ module _ (from to : List ℕ) (start : Image) (h h' : History) (stands : StandsW
   step_stands long is = record {
     size = ap (λ (i : Image). length i) is ∙ length-set (reads h) 16 to ∙ stands.size;
     others = λ b other. ap (λ (i : Image). block_at i b) is ∙ get_or-set_other (reads h) 16 b to [] other ∙ stands.others b other;
-    superblock = ap (λ (i : Image). block_at i 16) is ∙ get_or-set_same (reads h) 16 to [] long;
+    superblock = ap (λ (i : Image). block_at i SUPER_BLOCK) is ∙ get_or-set_same (reads h) 16 to [] long;
   }
 
   pub step_crash : IsSettled h → WritesOnly (IsBlock 16 to) h h' → (image : Image) → LeftSince (clock h) h' image → IsStep from to start image
@@ -24,7 +25,7 @@ module _ (from to : List ℕ) (start : Image) (h h' : History) (stands : StandsW
       record {
         size = one.0 ∙ stands.size;
         others = λ b other. one.1 b other ∙ stands.others b other;
-        torn = subst (λ (bytes : List ℕ). IsTorn (λ value. value ≡ to) bytes (block_at image 16)) stands.superblock one.2;
+        torn = subst (λ (bytes : List ℕ). IsTorn (λ value. value ≡ to) bytes (block_at image SUPER_BLOCK)) stands.superblock one.2;
       }
 
 pub step_writes : (bytes : List ℕ) (h h' : History) → WritesOnly (IsBlock 16 bytes) h h' → WritesOnly IsSuperWrite h h'

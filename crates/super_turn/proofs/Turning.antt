@@ -1,10 +1,11 @@
 -- What the steps of a turn leave of block 16.
 use Rattle.super_turn.proofs.Imports.{◌≡◌, ◌⊎◌, inl, inr, ⊎_elim, ℕ, ◌^◌, ◌<◌, List, length, take, drop, sym, ◌∙◌, ap, subst, History, Image, IsSettled, IsTorn, LeftSince, block_at, clock, reads, torn_alike, torn_first, IsHalf, marked, with_first, IsStep, IsTurning}
 use Rattle.super_turn.proofs.Halves.{joined_first, joined_rest, marked_long, marked_rest}
+use Rattle.btrfs_format.specs.declared.block.TheConstants.{SUPER_BLOCK}
 
 -- a step, by what it leaves of block 16
 turning : (reiser btrfs from to : List ℕ) (place : ℕ) → length reiser ≡ 4096 → place < 2 ^ 64 → (start image : Image) → IsStep from to start image
-    → (IsTorn (λ value. value ≡ to) from (block_at image 16) → (block_at image 16 ≡ reiser) ⊎ (IsHalf reiser place (block_at image 16) ⊎ (block_at image 16 ≡ btrfs)))
+    → (IsTorn (λ value. value ≡ to) from (block_at image SUPER_BLOCK) → (block_at image SUPER_BLOCK ≡ reiser) ⊎ (IsHalf reiser place (block_at image SUPER_BLOCK) ⊎ (block_at image SUPER_BLOCK ≡ btrfs)))
     → IsTurning reiser place btrfs start image
 turning reiser btrfs from to place whole small start image step leaves = record { size = step.size; others = step.others; whole = whole; small = small; superblock = leaves step.torn }
 
@@ -16,7 +17,7 @@ module _ (reiser btrfs : List ℕ) (place : ℕ) (whole : length reiser ≡ 4096
   joined = with_first turned btrfs
 
   abbrev here : List ℕ
-  here = block_at image 16
+  here = block_at image SUPER_BLOCK
 
   abbrev Leaves : Type 0
   Leaves = (here ≡ reiser) ⊎ (IsHalf reiser place here ⊎ (here ≡ btrfs))
@@ -25,10 +26,10 @@ module _ (reiser btrfs : List ℕ) (place : ℕ) (whole : length reiser ≡ 4096
   long = marked_long reiser place whole
 
   is_turned : here ≡ turned → Leaves
-  is_turned is = inr (inl (λ i. take 512 (is i)))
+  is_turned is = inr (inl (ap (take 512) is))
 
   is_joined : here ≡ joined → Leaves
-  is_joined is = inr (inl ((λ i. take 512 (is i)) ∙ joined_first turned btrfs long))
+  is_joined is = inr (inl (ap (take 512) is ∙ joined_first turned btrfs long))
 
   is_reiser : here ≡ reiser → Leaves
   is_reiser is = inl is
@@ -61,7 +62,7 @@ module _ (reiser btrfs : List ℕ) (place : ℕ) (whole : length reiser ≡ 4096
 
 -- ---- what a crash of the three steps leaves, which began with the disk as it was
 abbrev Steps : List ℕ → List ℕ → List ℕ → Image → Image → Type 0
-Steps a b c start image = IsStep (block_at start 16) a start image ⊎ (IsStep a b start image ⊎ IsStep b c start image)
+Steps a b c start image = IsStep (block_at start SUPER_BLOCK) a start image ⊎ (IsStep a b start image ⊎ IsStep b c start image)
 
 module _ (h₀ h₁ h₂ : History) (same : h₁ ≡ h₀) (place : ℕ) (small : place < 2 ^ 64) (before turned joined last : List ℕ) (read : before ≡ block_at (reads h₀) 16) (settled : IsSettled h₀)
     (each : IsSettled h₁ → (image : Image) → LeftSince (clock h₁) h₂ image → (IsStep (block_at (reads h₁) 16) turned (reads h₁) image ⊎ (IsStep turned joined (reads h₁) image ⊎ IsStep joined last (reads h₁) image))) where

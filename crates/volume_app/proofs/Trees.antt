@@ -27,6 +27,7 @@ use Rattle.rollback_core.specs.Recovered as recovery
 use Rattle.volume_app.specs.Recovering as recovering
 use Rattle.volume_app.specs.RollingBack as rolling
 use Rattle.volume_app.proofs.Convertible.{converted_was}
+use Rattle.btrfs_format.specs.declared.block.TheConstants.{SUPER_BLOCK}
 
 -- ---- what is put back
 
@@ -47,23 +48,23 @@ blocks_back disk blocks = by (is_half_turned disk) refl
     }
       where
         copied : is_half_turned disk ≡ true → block_at (put_back disk) 16 ≡ block_at disk (copy_place disk)
-        copied half = super_put disk ∙ ap (λ (t : Bool). cond t (block_at disk (copy_place disk)) (block_at disk 16)) half
+        copied half = super_put disk ∙ ap (λ (t : Bool). cond t (block_at disk (copy_place disk)) (block_at disk SUPER_BLOCK)) half
 
 -- a disk that is put back is one that may be left on the way there
 put_back_putting : (disk other : Image) → other ≡ put_back disk → IsPuttingBack disk other
 put_back_putting disk other same = subst (IsPuttingBack disk) (sym same) (record { size = put_size disk; others = put_others disk; superblock = inl (super_put disk) })
 
 -- the first bytes of block 16 stay
-putting_front : (disk other : Image) → IsPuttingBack disk other → take 128 (block_at other 16) ≡ take 128 (block_at disk 16)
+putting_front : (disk other : Image) → IsPuttingBack disk other → take 128 (block_at other SUPER_BLOCK) ≡ take 128 (block_at disk SUPER_BLOCK)
 putting_front disk other is =
-    ⊎_elim (λ back. ap (take 128) back ∙ super_front disk) (λ first. sector_front 128 (block_at other 16) (block_at disk 16) (omega arith) first.1) is.superblock
+    ⊎_elim (λ back. ap (take 128) back ∙ super_front disk) (λ first. sector_front 128 (block_at other SUPER_BLOCK) (block_at disk SUPER_BLOCK) (omega arith) first.1) is.superblock
 
 -- a Btrfs volume stays as it is
 btrfs_stays : (disk other : Image) → format_in disk ≡ formats.Btrfs → IsPuttingBack disk other → other ≡ disk
 btrfs_stays disk other btrfs is =
     let none : is_half_turned disk ≡ false = none_btrfs disk (btrfs_magic disk btrfs) in
     same_disks other disk is.size
-    (⊎_elim (λ back. back ∙ ap (λ (t : Bool). cond t (block_at disk (copy_place disk)) (block_at disk 16)) none) (λ first. absurd (true≢false (sym first.0 ∙ none))) is.superblock)
+    (⊎_elim (λ back. back ∙ ap (λ (t : Bool). cond t (block_at disk (copy_place disk)) (block_at disk SUPER_BLOCK)) none) (λ first. absurd (true≢false (sym first.0 ∙ none))) is.superblock)
     is.others
 
 -- so the volume is the same, with its tree
