@@ -3,7 +3,7 @@ use Rattle.reiser_volume.proofs.Imports.{◌≡◌, ◌≤◌, ◌↔◌, ◌+�
 use Rattle.std.specs.Prelude.{All, AllPairs, Contains}
 use Rattle.super_turn.specs.PutBack.{put_back}
 use Rattle.super_turn.proofs.Backs.{put_front, put_others, put_size}
-use Rattle.reiser_volume_objects.specs.reiser_walk.reiser_items.Order.{key_order}
+use Rattle.reiser_volume_objects.specs.reiser_items.Order.{key_order}
 use Rattle.reiser_bitmap.proofs.SystemBlocks.{superblock_in, bitmap_in, journal_in}
 use Rattle.reiser_super.proofs.Footprint.{same_pending}
 use Rattle.reiser_volume_contents.proofs.Same.{same_tree}

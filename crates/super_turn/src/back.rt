@@ -24,9 +24,13 @@ pub fn put_back<D: Disk>(disk: &mut D) -> Result<(), Fault>
     ensures settled { IsTrue D.tells → IsSettled (D.history disk.old) → OnOk result (IsSettled (D.history disk.new)) }
     ensures cause { HasCause (D.faults disk.old) (D.faults disk.new) result }
 {
-    match find_before(disk)? {
+    let found = find_before(disk)?;
+    match found {
         None => Ok(()),
-        Some(found) => turn_two(disk, &with_first(&found.block, &found.before), &found.before),
+        Some(found) => {
+            let first = with_first(&found.block, &found.before);
+            turn_two(disk, &first, &found.before)
+        }
     }
 }
 
@@ -44,17 +48,17 @@ fn find_before<S: BlockSource>(src: &mut S) -> Result<Option<FoundBefore>, Fault
     ensures room { IfOk result (λ found. is_some found ≡ true → 16 < S.size src.old) }
     ensures cause { HasCause (S.faults src.old) (S.faults src.new) result }
 {
-    if src.len() <= SUPER_BLOCK {
+    let blocks = src.len();
+    if blocks <= SUPER_BLOCK {
         return Ok(None);
     }
     let block = read_block(src, SUPER_BLOCK)?;
-    if !names_copy(&block, src.len()) {
+    if !names_copy(&block, blocks) {
         return Ok(None);
     }
     let before = read_block(src, marked_place(&block))?;
-    if is_half(&before, &block) {
-        Ok(Some(FoundBefore { block, before }))
-    } else {
-        Ok(None)
+    if !is_half(&before, &block) {
+        return Ok(None);
     }
+    Ok(Some(FoundBefore { block, before }))
 }
