@@ -4,6 +4,7 @@ use Rattle.std.proofs.lemmas.Bool.{and_parts, cases_eq, cases_lt, ne_eqb}
 use Rattle.std.proofs.lemmas.Bool.Decides.{Decides-ltb}
 use Rattle.std.proofs.lemmas.Slice.Eq.{bytes_eq-Decides}
 use Rattle.std.specs.Str.{bytes_eq}
+use Rattle.std.specs.Prelude.{◌||◌}
 use Rattle.outside.specs.Format.{format_in}
 use Rattle.outside.specs.vol_block.declared.format.Format.{Format}
 use Rattle.outside.specs.vol_block.declared.format.Format.TheVariants.{Btrfs, Neither, Reiser}

@@ -29,8 +29,7 @@ returns-clause-found g c = λ tells image is.
     let here = c.in_ok-block.ensures.block tells image is in
     let count = c.len-blocks.ensures ∙ size in
     let copy = c.in_ok-before.ensures.block tells image again ∙ ap (block_at image) c.marked_place.ensures in
-    let named = sym c.names_copy.ensures ∙ c.if-not-names_copy.false in
-    (
+    let named = sym c.names_copy.ensures ∙ c.if-not-names_copy.false in (
       half_is image c.in_ok-block.block.bytes c.len-blocks.result here count c.in_ok-before.before.bytes copy named true (sym c.is_half.ensures ∙ c.if-not-is_half.false),
       here,
       copy_is image c.in_ok-block.block.bytes c.len-blocks.result here count c.in_ok-before.before.bytes copy named,
