@@ -44,9 +44,11 @@ module _ (Among : ℕ → Type 0) (old new : History) (only : WritesOnly (λ b _
 pub left_one : (n : ℕ) (bytes : List ℕ) (old new : History) → WritesOnly (IsBlock n bytes) old new → IsSettled old → (image : Image) → LeftSince (clock old) new image
     → (length image ≡ length (reads old)) × ((b : ℕ) → b ≢ n → block_at image b ≡ block_at (reads old) b) × IsTorn (λ value. value ≡ bytes) (block_at (reads old) n) (block_at image n)
 left_one n bytes old new only settled image left =
-    let each = left_each (IsBlock n bytes) old new settled only image left in
-    (each.0, (λ b other. torn_none (IsBlock n bytes b) (block_at (reads old) b) (block_at image b) (λ value is. other is.0) (each.1 b)),
-    torn_weaker (IsBlock n bytes n) (λ value. value ≡ bytes) (block_at (reads old) n) (block_at image n) (λ value is. is.1) (each.1 n))
+    let each = left_each (IsBlock n bytes) old new settled only image left in (
+      each.0,
+      (λ b other. torn_none (IsBlock n bytes b) (block_at (reads old) b) (block_at image b) (λ value is. other is.0) (each.1 b)),
+      torn_weaker (IsBlock n bytes n) (λ value. value ≡ bytes) (block_at (reads old) n) (block_at image n) (λ value is. is.1) (each.1 n),
+    )
 
 -- a crash of a phase that wrote nothing leaves what reads gave before it
 pub left_unwritten : (old new : History) → IsSettled old → new ≡ old → (image : Image) → LeftSince (clock old) new image → image ≡ reads old

@@ -2,7 +2,6 @@
 use Rattle.rollback_core.proofs.Imports.{◌≡◌, ℕ, ◌+◌, ◌==◌, nat_lt, Bool, not, ◌&&◌, List, length, codes, filter, ◌∙◌, ap, subst, FIRST_MIRROR, SECOND_MIRROR, SUPER_BLOCK, SUPER_MAGIC_OFFSET, Image, block_at, has_bytes_at, is_reserved, ImageMap, has, used_blocks, image_blocks, WayBack, IsMapOn, AreSaved, IsWayBack, rollback_summary, CanGoBack, old_used, unwrap_or, map_place}
 use Rattle.std.specs.Prelude.{Option}
 
-
 -- whether a block is to become zeros, by the set of used blocks
 abbrev pub wiped_in : Image → List Bool → ℕ → Bool
 wiped_in disk used b = nat_lt (b + 1) (length used) && (not (has used b) && has_bytes_at (block_at disk b) SUPER_MAGIC_OFFSET (codes "_BHRfS_M"))

@@ -1,6 +1,5 @@
 -- Block 16 is written as it stands, and what is written after it.
 use Rattle.rollback_core.proofs.Imports.{◌≡◌, ◌≢◌, ◌⊎◌, inl, inr, ⊎_elim, ℕ, zero, suc, ◌+◌, ◌<◌, true, List, [], ◌∷◌, Option, Some, None, Result, Ok, Err, OnOk, refl, sym, ◌∙◌, ap, subst, arith, false, IfOk, is_some, IfErr, ext_get_or, FIRST_MIRROR, SECOND_MIRROR, History, IsSettled, Syncs, WritesBlock, WritesOnly, after, block_at, reads, wrote, synced, Block, reads_only, sync_only, write_only, writes_length, writes_none, writes_then, writes_weaker, GoesOn, synced_now, goes_on, HasMendingRoom, writes_of, IsMend, IsRecoverWrite, IsRewrite, RewritesFirst, rewritten, PutsBackFirst, Mending, RecoverSummary, Answer, IsPutBackAlone, is_half_turned, put_back}
-
 use Rattle.convert_steps.specs.command_answers.declared.answer.Answer.TheVariants as answer
 
 -- ---- block 16

@@ -5,7 +5,6 @@ use Rattle.reiser_volume.proofs.Unchanged.{put_back_same}
 use Rattle.super_turn.specs.PutBack.{put_back}
 use Rattle.super_turn.proofs.Backs.{keeps as put_keeps}
 
-
 module _ (decide : UsedBlocksDecide) (o : Options) (image other : Image) (other_format : format_in image ≢ Btrfs) (can : IsConvertible o image) (before : KeepsOldVolume image other) where
   accepted : IsAccepted image
   accepted = can.sorted.accepted
