@@ -137,11 +137,14 @@ module _ (keeps : RollbackKeeps) (disk other : Image) where
   restored_left : IsLeftByRollback disk other → LeavesRestoredTree disk other
   restored_left (inl same) = inl same
   restored_left (inr rest) =
-      inr (rest.0, ⊎_elim (λ standing. inl (keeps.standing disk other rest.0 standing)) (λ turned. inr (⊎_elim (λ half. inl (record {
-        half = half.half;
-        restored = half.back.used;
-        volume = then_same (image_blocks disk) (put_back other) other (keeps.half disk other rest.0 half) (put_back_same.before other (keeps.half disk other rest.0 half).accepted);
-      })) (λ back. inr (record { restored = back.used; volume = keeps.back disk other rest.0 back })) turned)) rest.1)
+      inr (
+        rest.0,
+        ⊎_elim (λ standing. inl (keeps.standing disk other rest.0 standing)) (λ turned. inr (⊎_elim (λ half. inl (record {
+          half = half.half;
+          restored = half.back.used;
+          volume = then_same (image_blocks disk) (put_back other) other (keeps.half disk other rest.0 half) (put_back_same.before other (keeps.half disk other rest.0 half).accepted);
+        })) (λ back. inr (record { restored = back.used; volume = keeps.back disk other rest.0 back })) turned)) rest.1,
+      )
 
   pub rollback_left_whole : IsLeftByRollback disk other → rolling.IsRollbackLeftWhole disk other
   rollback_left_whole left = record { left = left; tree = restored_left left }
