@@ -36,6 +36,20 @@ not_16 n is same = true≢false (sym (ap (λ (m : ℕ). not (nat_eq m 16)) (sym 
 is_not_16 : (n : ℕ) → n ≢ 16 → not (nat_eq n 16) ≡ true
 is_not_16 n other = ap not (ne_eqb n 16 other)
 
+-- what a mark names: another block of the disk
+module _ (bytes : List ℕ) (blocks : ℕ) (named : names_copy bytes blocks ≡ true) where
+  place_parts : (nat_lt (marked_place bytes) blocks ≡ true) × (not (nat_eq (marked_place bytes) 16) ≡ true)
+  place_parts =
+      let marks = and_parts (not (has_bytes_at bytes 64 (codes "_BHRfS_M"))) (has_mark bytes && (nat_lt (marked_place bytes) blocks && not (nat_eq (marked_place bytes) 16))) named in
+      let places = and_parts (has_mark bytes) (nat_lt (marked_place bytes) blocks && not (nat_eq (marked_place bytes) 16)) marks.1 in
+      and_parts (nat_lt (marked_place bytes) blocks) (not (nat_eq (marked_place bytes) 16)) places.1
+
+  pub named_inside : marked_place bytes < blocks
+  named_inside = (Decides-ltb (marked_place bytes) blocks).0 place_parts.0
+
+  pub named_elsewhere : marked_place bytes ≢ 16
+  named_elsewhere = not_16 (marked_place bytes) place_parts.1
+
 module _ (image : Image) where
   abbrev bytes : List ℕ
   bytes = block_at image SUPER_BLOCK
@@ -73,16 +87,10 @@ module _ (image : Image) where
     half_long = ⊎_elim (λ long. long) (λ short. absurd (true≢false (sym half ∙ none_short short))) (cases_lt 16 (length image))
 
     pub half_elsewhere : copy_place image ≢ 16
-    half_elsewhere =
-        let marks = and_parts (not (has_bytes_at bytes 64 (codes "_BHRfS_M"))) (has_mark bytes && (nat_lt (copy_place image) (length image) && not (nat_eq (copy_place image) 16))) parts.0 in
-        let places = and_parts (has_mark bytes) (nat_lt (copy_place image) (length image) && not (nat_eq (copy_place image) 16)) marks.1 in
-        not_16 (copy_place image) (and_parts (nat_lt (copy_place image) (length image)) (not (nat_eq (copy_place image) 16)) places.1).1
+    half_elsewhere = named_elsewhere bytes (length image) parts.0
 
     pub half_inside : copy_place image < length image
-    half_inside =
-        let marks = and_parts (not (has_bytes_at bytes 64 (codes "_BHRfS_M"))) (has_mark bytes && (nat_lt (copy_place image) (length image) && not (nat_eq (copy_place image) 16))) parts.0 in
-        let places = and_parts (has_mark bytes) (nat_lt (copy_place image) (length image) && not (nat_eq (copy_place image) 16)) marks.1 in
-        (Decides-ltb (copy_place image) (length image)).0 (and_parts (nat_lt (copy_place image) (length image)) (not (nat_eq (copy_place image) 16)) places.1).0
+    half_inside = named_inside bytes (length image) parts.0
 
   -- ---- what stays
   size_kept : (t : Bool) → length (cond t (set image 16 copy) image) ≡ length image

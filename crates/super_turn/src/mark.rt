@@ -1,5 +1,5 @@
 // The mark of a superblock that is being turned.
-ghost use Rattle.std.specs.Prelude.{◌≡◌};
+ghost use Rattle.std.specs.Prelude.{◌≡◌, length};
 ghost use Rattle.super_turn.specs.Marked.{has_mark, is_half, marked, marked_place, names_copy, with_first};
 
 use btrfs_format::block::{MAGIC, SUPER_BLOCK, SUPER_MAGIC_OFFSET};
@@ -7,7 +7,8 @@ use outside::{Block, BlockNo, Field, has_magic, put_fields, u64_at};
 
 /// The superblock with a mark that names the block where it lies without.
 pub(crate) fn marked(block: &Block, place: BlockNo) -> Block
-    ensures { result.bytes ≡ marked block.now.bytes place }
+    ensures turned { result.bytes ≡ marked block.now.bytes place }
+    ensures whole { length block.now.bytes ≡ 4096 }
 {
     let mut turned = *block;
     put_fields(
@@ -51,9 +52,10 @@ pub(crate) fn names_copy(block: &Block, blocks: u64) -> bool
 
 /// The first sector of one block, and the others of another.
 pub(crate) fn with_first(first: &Block, rest: &Block) -> Block
-    ensures { result.bytes ≡ with_first first.now.bytes rest.now.bytes }
+    ensures joined { result.bytes ≡ with_first first.now.bytes rest.now.bytes }
+    ensures whole { length first.now.bytes ≡ 4096 }
 {
-    let mut joined = *rest;
-    joined.bytes[..512].copy_from_slice(&first.bytes[..512]);
-    joined
+    let mut bytes = rest.bytes;
+    bytes[..512].copy_from_slice(&first.bytes[..512]);
+    Block { bytes }
 }

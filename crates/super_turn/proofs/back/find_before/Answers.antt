@@ -1,8 +1,20 @@
 use Rattle.std.proofs.Common.{◌≡◌, true, false, List, length, sym, ◌∙◌, ap, arith}
 use Rattle.outside.specs.History.{block_at}
-use Rattle.super_turn.proofs.Backs.{none_short}
+use Rattle.super_turn.proofs.Backs.{named_inside, none_short}
 use Rattle.super_turn.proofs.Finding.{copy_is, half_is, none_named}
 use Rattle.super_turn.proofs.back.find_before.Goals as goal
+
+pub read_block-requires-2 : goal.read_block-requires-2
+read_block-requires-2 g c =
+    let size = g.met.S.BlockSource.kept_size _ _ c.read_block.ensures.kept in
+    let inside = named_inside c.in_ok-block.block.bytes c.len-blocks.result (sym c.names_copy.ensures ∙ c.if-not-names_copy.false) in
+    record { inside = omega (arith, size, inside, c.len-blocks.ensures, c.marked_place.ensures) }
+
+pub returns-then-not-is_half-clause-kept : goal.returns-then-not-is_half-clause-kept
+returns-then-not-is_half-clause-kept g c = g.met.S.BlockSource.kept_trans _ _ _ c.read_block.ensures.kept c.read_block-2.ensures.kept
+
+pub returns-clause-kept : goal.returns-clause-kept
+returns-clause-kept g c = g.met.S.BlockSource.kept_trans _ _ _ c.read_block.ensures.kept c.read_block-2.ensures.kept
 
 pub returns-then-blocks-le-SUPER_BLOCK-clause-found : goal.returns-then-blocks-le-SUPER_BLOCK-clause-found
 returns-then-blocks-le-SUPER_BLOCK-clause-found g c = λ tells image is.

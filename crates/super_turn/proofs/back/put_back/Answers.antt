@@ -46,9 +46,8 @@ pub returns-in-Some-clause-crash : goal.returns-in-Some-clause-crash
 returns-in-Some-clause-crash g c = λ tells settled image left.
     let blocks = g.met.D.Disk.open_blocks c.args.disk.now _ tells c.requires.«open» in
     let found = subst (IsFoundBefore (reads (g.D.Disk.history c.args.disk.now))) c.in-Some.is (c.in_ok-found.ensures.found tells _ blocks) in
-    let whole : length c.in-Some.found.block.bytes ≡ 4096 = omega arith in
     back_crash (g.D.Disk.history c.args.disk.now) (g.D.Disk.history c.find_before.new.src) (g.D.Disk.history c.turn_two.new.disk) (g.met.D.Disk.kept_history _ _ tells c.find_before.ensures.kept)
-    c.in-Some.found.block.bytes c.in-Some.found.before.bytes found.1 found.2 found.0 c.with_first-first.result.bytes whole c.with_first-first.ensures settled (c.turn_two.ensures.crash tells) image left
+    c.in-Some.found.block.bytes c.in-Some.found.before.bytes found.1 found.2 found.0 c.with_first-first.result.bytes c.with_first-first.ensures.whole c.with_first-first.ensures.joined settled (c.turn_two.ensures.crash tells) image left
 
 pub returns-in-Some-clause-writes : goal.returns-in-Some-clause-writes
 returns-in-Some-clause-writes g c =

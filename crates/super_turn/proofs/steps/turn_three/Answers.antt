@@ -20,4 +20,5 @@ returns-clause-written g c = λ tells.
     g.met.D.Disk.open_size c.args.disk.now _ tells c.requires.open in
     let long : 16 < length (reads (g.D.Disk.history c.args.disk.now)) = omega (arith, sizes, c.requires.in_range) in
     let stands = c.in_ok-turn_two.ensures.written tells in
-    step_written c.write_step.result c.args.second.now.bytes c.args.third.now.bytes (reads (g.D.Disk.history c.args.disk.now)) _ _ stands (omega (arith, long, stands.size)) (c.write_step.ensures.written tells)
+    step_written c.write_step.result c.args.second.now.bytes c.args.third.now.bytes (reads (g.D.Disk.history c.args.disk.now)) (g.D.Disk.history c.turn_two.new.disk) (g.D.Disk.history c.write_step.new.disk) stands
+    (omega (arith, long, stands.size)) (c.write_step.ensures.written tells)

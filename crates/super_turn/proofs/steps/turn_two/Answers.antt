@@ -29,4 +29,5 @@ returns-clause-written g c = λ tells.
     let long : 16 < length (reads (g.D.Disk.history c.args.disk.now)) = omega (arith, sizes, c.requires.in_range) in
     let stands = step_stands _ c.args.first.now.bytes (reads (g.D.Disk.history c.args.disk.now)) (g.D.Disk.history c.args.disk.now) (g.D.Disk.history c.write_step.new.disk)
     (stands_start (reads (g.D.Disk.history c.args.disk.now))) long (c.in_ok-write_step.ensures.written tells) in
-    step_written c.write_step-2.result c.args.first.now.bytes c.args.second.now.bytes (reads (g.D.Disk.history c.args.disk.now)) _ _ stands (omega (arith, long, stands.size)) (c.write_step-2.ensures.written tells)
+    step_written c.write_step-2.result c.args.first.now.bytes c.args.second.now.bytes (reads (g.D.Disk.history c.args.disk.now)) (g.D.Disk.history c.write_step.new.disk) (g.D.Disk.history c.write_step-2.new.disk) stands
+    (omega (arith, long, stands.size)) (c.write_step-2.ensures.written tells)

@@ -16,10 +16,9 @@ pub returns-clause-crash : goal.returns-clause-crash
 returns-clause-crash g c = λ tells settled image left.
     let same : g.D.Disk.history c.read_block.new.src ≡ g.D.Disk.history c.args.disk.now = g.met.D.Disk.kept_history _ _ tells c.read_block.ensures.kept in
     let blocks = g.met.D.Disk.open_blocks c.args.disk.now _ tells c.requires.«open» in
-    let whole : length c.args.superblock.now.bytes ≡ 4096 = omega arith in
     let small : c.args.place < 2 ^ 64 = omega arith in
     inr (to_reiser_crash (g.D.Disk.history c.args.disk.now) (g.D.Disk.history c.read_block.new.src) (g.D.Disk.history c.turn_three.new.disk) same c.args.place small
-    c.in_ok-before.before.bytes _ _ _ (c.in_ok-before.ensures.block tells _ blocks) settled (c.turn_three.ensures.crash tells) whole c.marked-turned.ensures c.with_first-joined.ensures image left)
+    c.in_ok-before.before.bytes _ _ _ (c.in_ok-before.ensures.block tells _ blocks) settled (c.turn_three.ensures.crash tells) c.marked-turned.ensures.whole c.marked-turned.ensures.turned c.with_first-joined.ensures.joined image left)
 
 pub returns-clause-writes : goal.returns-clause-writes
 returns-clause-writes g c =
