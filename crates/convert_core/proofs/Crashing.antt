@@ -1,5 +1,5 @@
 -- What a crash leaves in each phase of a conversion.
-use Rattle.convert_core.proofs.Imports.{◌≡◌, ◌≢◌, ◌∙◌, ◌⊎◌, inl, inr, ⊎_elim, ℕ, ◌≤◌, ◌<◌, ◌+◌, List, length, refl, sym, ap, subst, arith, [], Bool, true, false, true≢false, cond, set, get_or-set_same, get_or-set_other, Btrfs, Neither, Reiser, Ids, format_in, Image, History, IsSettled, LeftSince, WritesOnly, block_at, clock, reads, writes_length, writes_none, writes_weaker, left_outside, left_then, left_unwritten, reads_outside, IsNodeSize, HasPieces, HasCopies, IsMirror, IsSwitchPart, IsSwitched, IsHalfSwitched, IsLeftBySwitch, IsMirrorOf, Super, superblock, used_of, used_length, Options, DiffersInFree, KeepsOldVolume, IsConverted, IsConvertible, IsEither, IsFree, IsNew, IsPutDown, IsHalfConverted, Written, GoesOn, goes_on, cases_eq, length-set, codes, nat_le}
+use Rattle.convert_core.proofs.Imports.{◌≡◌, ◌≢◌, ◌∙◌, ◌⊎◌, inl, inr, ⊎_elim, ℕ, ◌≤◌, ◌<◌, ◌+◌, List, length, refl, sym, ap, subst, arith, [], Bool, true, false, true≢false, cond, set, get_or-set_same, get_or-set_other, Btrfs, Neither, Reiser, Ids, format_in, Image, History, IsSettled, LeftSince, WritesOnly, block_at, clock, reads, writes_length, writes_none, writes_weaker, left_outside, left_then, left_unwritten, reads_outside, IsNodeSize, HasPieces, HasCopies, IsMirror, IsSwitchPart, IsSwitched, IsHalfSwitched, IsLeftBySwitch, IsMirrorOf, Super, superblock, used_of, used_length, Options, DiffersInFree, KeepsOldVolume, IsConverted, IsConvertible, IsEither, IsFree, IsNew, IsPutDown, IsHalfConverted, Written, GoesOn, goes_on, cases_eq, length-set, codes, nat_le, SUPER_BLOCK}
 use Rattle.std.proofs.lemmas.Bool.Decides.{nat_tests}
 use Rattle.reiser_volume.specs.vol_block.Format.{has_bytes_at, has_reiser_magic}
 use Rattle.super_turn.specs.Laws.{HasHalf}
@@ -8,7 +8,6 @@ use Rattle.convert_core.proofs.Copied.{super_used}
 use Rattle.convert_core.proofs.Putting.{convertible, free_before, node_free, piece_some, used_not_free}
 use Rattle.convert_core.proofs.Reserved.{free_apart, piece_apart, switch_reserved}
 use Rattle.convert_core.proofs.Standing.{InNodes, InPieces, stands_stay}
-use Rattle.btrfs_format.specs.declared.block.TheConstants.{SUPER_BLOCK}
 
 -- while free blocks alone are written, a crash leaves the old volume
 pub free_crash : (h₀ h₁ : History) → IsSettled h₀ → WritesOnly (λ b _. IsFree (reads h₀) b) h₀ h₁ → (other : Image) → LeftSince (clock h₀) h₁ other → KeepsOldVolume (reads h₀) other

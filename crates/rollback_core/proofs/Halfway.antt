@@ -1,5 +1,5 @@
 -- Where block 16 is half turned over the restored blocks, the old volume stands once it is put back.
-use Rattle.rollback_core.proofs.Imports.{◌≡◌, ◌≢◌, inl, ⊎_elim, ℕ, ◌<◌, true, false, true≢false, List, [], length, set, Option, Some, None, refl, sym, ◌∙◌, ap, subst, arith, get_or-set_same, get_or-set_other, cases_lt, get_or_past, length-set, unwrap_or, ImageFile, own_map, Image, block_at, has_bytes_at, has_reiser_magic, zeros, CanGoBackToo, block_or_hole, image_blocks, place_by_file, saved_file, saved_place, image_block, image_short, is_half_turned, put_back, IsWayBack, IsBack, IsHalfBack, AreWritesApart, IsHalfway, IsTurned, IsUnturned, WayBack, accepted_front}
+use Rattle.rollback_core.proofs.Imports.{◌≡◌, ◌≢◌, inl, ⊎_elim, ℕ, ◌<◌, true, false, true≢false, List, [], length, set, Option, Some, None, refl, sym, ◌∙◌, ap, subst, arith, get_or-set_same, get_or-set_other, cases_lt, get_or_past, length-set, unwrap_or, ImageFile, own_map, Image, block_at, has_bytes_at, has_reiser_magic, zeros, CanGoBackToo, block_or_hole, image_blocks, place_by_file, saved_file, saved_place, image_block, image_short, is_half_turned, put_back, IsWayBack, IsBack, IsHalfBack, AreWritesApart, IsHalfway, IsTurned, IsUnturned, WayBack, accepted_front, SUPER_BLOCK}
 use Rattle.std.specs.Prelude.{codes}
 use Rattle.super_turn.specs.Laws.{HasHalf}
 use Rattle.super_turn.proofs.Backs.{half_turned}
@@ -7,7 +7,6 @@ use Rattle.rollback_core.proofs.Back.{back, equal_or, standing}
 use Rattle.rollback_core.proofs.Phases.{saved_stay}
 use Rattle.rollback_core.proofs.RecoveryFormats.{btrfs_magic, other_magic}
 use Rattle.rollback_core.proofs.RollbackKeeping.{rollback_keeps}
-use Rattle.btrfs_format.specs.declared.block.TheConstants.{SUPER_BLOCK}
 
 module _ (disk : Image) (way : WayBack) (p : IsWayBack disk way) where
   abbrev old : List ℕ

@@ -1,17 +1,15 @@
 -- What is put back, and what that keeps.
-use Rattle.super_turn.proofs.Imports.{◌≡◌, ◌≢◌, ◌⊎◌, inl, inr, ⊎_elim, ℕ, ◌+◌, ◌^◌, ◌<◌, ◌≤◌, Bool, true, false, true≢false, cond, not, List, [], length, set, take, drop, nat_eq, refl, sym, ◌∙◌, ap, subst, arith, get_or-set_same, get_or-set_other, ext_get_or, get_or_past, length-set, set-get_or, codes, nat_le, nat_lt, ◌&&◌, Image, block_at, format, has_bytes_at, has_mark, is_half, marked, marked_place, names_copy, IsPuttingBack, copy_place, is_half_turned, put_back, super_before}
+use Rattle.super_turn.proofs.Imports.{◌≡◌, ◌≢◌, ◌⊎◌, inl, inr, ⊎_elim, ℕ, ◌+◌, ◌^◌, ◌<◌, ◌≤◌, Bool, true, false, true≢false, cond, not, List, [], length, set, take, drop, nat_eq, refl, sym, ◌∙◌, ap, subst, arith, get_or-set_same, get_or-set_other, ext_get_or, get_or_past, length-set, set-get_or, codes, nat_le, nat_lt, ◌&&◌, ◌||◌, Image, block_at, format, has_bytes_at, has_mark, is_half, marked, marked_place, names_copy, IsPuttingBack, copy_place, is_half_turned, put_back, super_before, SUPER_BLOCK}
 use Rattle.std.proofs.lemmas.Bool.{and_parts, cases_eq, cases_lt, ne_eqb}
 use Rattle.std.proofs.lemmas.Bool.Decides.{Decides-ltb}
 use Rattle.std.proofs.lemmas.Slice.Eq.{bytes_eq-Decides}
 use Rattle.std.specs.Str.{bytes_eq}
-use Rattle.std.specs.Prelude.{◌||◌}
 use Rattle.outside.specs.Format.{format_in}
 use Rattle.outside.specs.vol_block.declared.format.Format.{Format}
 use Rattle.outside.specs.vol_block.declared.format.Format.TheVariants.{Btrfs, Neither, Reiser}
 use Rattle.super_turn.specs.Laws.{HalfTurnedIsPutBack, PutBackKeeps}
 use Rattle.super_turn.proofs.Fronts.{same_field, same_magic, same_within}
 use Rattle.super_turn.proofs.Halves.{marked_behind, marked_front, marked_has, marked_names, sector_front}
-use Rattle.btrfs_format.specs.declared.block.TheConstants.{SUPER_BLOCK}
 
 -- the format of a superblock lies in its first 128 bytes
 pub format_front : (xs ys : List ℕ) → take 128 xs ≡ take 128 ys → format xs ≡ format ys

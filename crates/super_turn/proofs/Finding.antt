@@ -1,8 +1,7 @@
 -- What a read of block 16 finds, and what a crash leaves while it is put back.
-use Rattle.super_turn.proofs.Imports.{◌≡◌, ◌⊎◌, inl, inr, ⊎_elim, ℕ, Bool, true, false, cond, List, length, take, Result, Ok, Err, OnOk, refl, sym, ◌∙◌, ap, subst, ◌&&◌, History, Image, IsSettled, LeftSince, block_at, clock, reads, left_unwritten, torn_alike, torn_first, is_half, marked_place, names_copy, with_first, IsPuttingBack, copy_place, is_half_turned, put_back, super_before, IsStep, StandsWith}
+use Rattle.super_turn.proofs.Imports.{◌≡◌, ◌⊎◌, inl, inr, ⊎_elim, ℕ, Bool, true, false, cond, List, length, take, Result, Ok, Err, OnOk, refl, sym, ◌∙◌, ap, subst, ◌&&◌, History, Image, IsSettled, LeftSince, block_at, clock, reads, left_unwritten, torn_alike, torn_first, is_half, marked_place, names_copy, with_first, IsPuttingBack, copy_place, is_half_turned, put_back, super_before, IsStep, StandsWith, SUPER_BLOCK}
 use Rattle.super_turn.proofs.Backs.{put_none, put_others, put_size, same_disks, super_put}
 use Rattle.super_turn.proofs.Halves.{joined_first, joined_rest}
-use Rattle.btrfs_format.specs.declared.block.TheConstants.{SUPER_BLOCK}
 
 module _ (image : Image) (block : List ℕ) (blocks : ℕ) (is : block ≡ block_at image SUPER_BLOCK) (count : blocks ≡ length image) where
   pub none_named : names_copy block blocks ≡ false → is_half_turned image ≡ false

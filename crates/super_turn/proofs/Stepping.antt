@@ -1,8 +1,7 @@
 -- Block 16 is written step by step: what stands behind each, and what a crash of it leaves.
-use Rattle.super_turn.proofs.Imports.{◌≡◌, ◌≢◌, ◌⊎◌, inl, inr, ⊎_elim, ℕ, ◌<◌, List, [], length, set, IsTrue, Result, Ok, Err, OnOk, refl, sym, ◌∙◌, ap, subst, get_or-set_same, get_or-set_other, length-set, History, Image, IsBlock, IsSettled, IsTorn, LeftSince, WritesOnly, block_at, clock, reads, left_one, left_then, IsStep, StandsWith}
+use Rattle.super_turn.proofs.Imports.{◌≡◌, ◌≢◌, ◌⊎◌, inl, inr, ⊎_elim, ℕ, ◌<◌, List, [], length, set, IsTrue, Result, Ok, Err, OnOk, refl, sym, ◌∙◌, ap, subst, get_or-set_same, get_or-set_other, length-set, History, Image, IsBlock, IsSettled, IsTorn, LeftSince, WritesOnly, block_at, clock, reads, left_one, left_then, IsStep, StandsWith, SUPER_BLOCK}
 use Rattle.outside.proofs.Crash.{writes_none, writes_weaker}
 use Rattle.outside.specs.Writes.{View, Writes}
-use Rattle.btrfs_format.specs.declared.block.TheConstants.{SUPER_BLOCK}
 
 -- a write of block 16
 abbrev pub IsSuperWrite : ℕ → List ℕ → Type 0

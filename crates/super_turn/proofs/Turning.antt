@@ -1,7 +1,6 @@
 -- What the steps of a turn leave of block 16.
-use Rattle.super_turn.proofs.Imports.{◌≡◌, ◌⊎◌, inl, inr, ⊎_elim, ℕ, ◌^◌, ◌<◌, List, length, take, drop, sym, ◌∙◌, ap, subst, History, Image, IsSettled, IsTorn, LeftSince, block_at, clock, reads, torn_alike, torn_first, IsHalf, marked, with_first, IsStep, IsTurning}
+use Rattle.super_turn.proofs.Imports.{◌≡◌, ◌⊎◌, inl, inr, ⊎_elim, ℕ, ◌^◌, ◌<◌, List, length, take, drop, sym, ◌∙◌, ap, subst, History, Image, IsSettled, IsTorn, LeftSince, block_at, clock, reads, torn_alike, torn_first, IsHalf, marked, with_first, IsStep, IsTurning, SUPER_BLOCK}
 use Rattle.super_turn.proofs.Halves.{joined_first, joined_rest, marked_long, marked_rest}
-use Rattle.btrfs_format.specs.declared.block.TheConstants.{SUPER_BLOCK}
 
 -- a step, by what it leaves of block 16
 turning : (reiser btrfs from to : List ℕ) (place : ℕ) → length reiser ≡ 4096 → place < 2 ^ 64 → (start image : Image) → IsStep from to start image

@@ -1,5 +1,5 @@
 -- What commands do to the tree of files, from the laws on what they do to the blocks.
-use Rattle.volume_app.proofs.Imports.{◌≡◌, inl, inr, ⊎_elim, ◌<◌, ◌^◌, ℕ, false, sym, subst, arith, Bool, List, true, true≢false, cond, refl, ap, ◌∙◌, take, FIRST_MIRROR, SECOND_MIRROR, Image, block_at, Ids, IsConverted, IsConvertible, IsSomeNew, IsLeftByConvert, SpareBlocksDecideNothing, is_spare, CanGoBackToo, IsRecovered, IsLeftByRollback, IsRolledBack, AreIds, Options, IsConvertedWhole, IsEitherWhole, AreBlocks, HasId, IsConvertedTree, KeepsTree, LeavesConvertedTree, LeavesRestoredTree, slice_index, WholeRow, format_in, Format, CanGoBack, IsPuttingBack, copy_place, is_half_turned, put_back}
+use Rattle.volume_app.proofs.Imports.{◌≡◌, inl, inr, ⊎_elim, ◌<◌, ◌^◌, ℕ, false, sym, subst, arith, Bool, List, true, true≢false, cond, refl, ap, ◌∙◌, take, FIRST_MIRROR, SECOND_MIRROR, SUPER_BLOCK, Image, block_at, Ids, IsConverted, IsConvertible, IsSomeNew, IsLeftByConvert, SpareBlocksDecideNothing, is_spare, CanGoBackToo, IsRecovered, IsLeftByRollback, IsRolledBack, AreIds, Options, IsConvertedWhole, IsEitherWhole, AreBlocks, HasId, IsConvertedTree, KeepsTree, LeavesConvertedTree, LeavesRestoredTree, slice_index, WholeRow, format_in, Format, CanGoBack, IsPuttingBack, copy_place, is_half_turned, put_back}
 use Rattle.std.specs.Prelude.{length}
 use Rattle.convert_core_laws.specs.going_back.Back.{ConvertedVolumesGoBack}
 use Rattle.std.proofs.lemmas.Bool.{cases_eq}
@@ -27,7 +27,6 @@ use Rattle.rollback_core.specs.Recovered as recovery
 use Rattle.volume_app.specs.Recovering as recovering
 use Rattle.volume_app.specs.RollingBack as rolling
 use Rattle.volume_app.proofs.Convertible.{converted_was}
-use Rattle.btrfs_format.specs.declared.block.TheConstants.{SUPER_BLOCK}
 
 -- ---- what is put back
 

@@ -1,5 +1,4 @@
-use Rattle.std.proofs.Common.{◌≡◌, true, false, List, length, sym, ◌∙◌, ap, arith}
-use Rattle.outside.specs.History.{block_at}
+use Rattle.super_turn.proofs.Imports.{◌≡◌, true, false, List, length, sym, ◌∙◌, ap, arith, block_at}
 use Rattle.super_turn.proofs.Backs.{named_inside, none_short}
 use Rattle.super_turn.proofs.Finding.{copy_is, half_is, none_named}
 use Rattle.super_turn.proofs.back.find_before.Goals as goal

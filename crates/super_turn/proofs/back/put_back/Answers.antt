@@ -1,6 +1,4 @@
-use Rattle.std.proofs.Common.{◌≡◌, true≢false, length, sym, ◌∙◌, subst, arith}
-use Rattle.outside.specs.History.{History, IsSettled, reads}
-use Rattle.outside.proofs.Writes.{then_writes}
+use Rattle.super_turn.proofs.Imports.{◌≡◌, true≢false, length, sym, ◌∙◌, subst, arith, History, IsSettled, reads, then_writes}
 use Rattle.super_turn.specs.Found.{IsFoundBefore}
 use Rattle.super_turn.proofs.Finding.{back_crash, back_written, unwritten_back, unwritten_crash}
 use Rattle.super_turn.proofs.Stepping.{same_writes}
