@@ -38,9 +38,9 @@ pub use Rattle.extent_pieces.proofs.Maximal.{kept_are_maximal}
 pub use Rattle.extent_pieces.proofs.Reserving.{at_second, at_third, reserved_yes}
 pub use Rattle.extent_pieces.specs.Files.{FileAt, file_blocks, file_tails, has_tail, is_file_inline, owner, tails}
 pub use Rattle.extent_pieces.specs.Found.{counts_of, files_of}
-pub use Rattle.extent_pieces.specs.Laws.{CoverUsed, FitsPlan, HoldsBlock, HoldsUsed, IsKeptPiece, LieWell, LiesInUnit}
+pub use Rattle.extent_pieces.specs.Laws.{CoverUsed, HoldsBlock, HoldsUsed, IsKeptPiece, LieWell, LiesInUnit}
 pub use Rattle.extent_pieces.specs.Pieces.{Owners, copied_pieces, kept_pieces, tail_piece}
-pub use Rattle.extent_pieces.specs.Placed.{WerePlaced, at_place, at_places, blocks_of_units}
+pub use Rattle.extent_pieces.specs.Placed.{FitsPlan, WerePlaced, at_place, at_places, blocks_of_units}
 pub use Rattle.first_sync.proofs.Synced.{goes_on, stays_on, synced_then, then_goes_on, uncalled}
 pub use Rattle.first_sync.specs.Synced.{GoesOn}
 pub use Rattle.indexmap.specs.IndexMap.{keys}
