@@ -1,5 +1,5 @@
 -- What the proofs of convert_core import of std, of lower crates and of its specs.
-pub use Rattle.std.proofs.Common.{Bool, Err, List, None, Ok, Option, Some, Unit, [], ap, arith, cond, drop, false, filter, get_or, get_or-set_other, get_or-set_same, inl, inr, length, length-drop, map, min, refl, rules, set, subst, suc, sym, take, take-append-drop, true, true≢false, zero, ℕ, ⊎_elim, ◌*◌, ◌++◌, ◌+◌, ◌-◌, ◌/◌, ◌<◌, ◌^◌, ◌||◌, ◌∙◌, ◌∷◌, ◌≡◌, ◌≢◌, ◌≤◌, ◌⊎◌}
+pub use Rattle.std.proofs.Common.{Bool, Err, List, None, Ok, Option, Some, [], ap, arith, cond, drop, false, filter, get_or, get_or-set_other, get_or-set_same, inl, inr, length, length-drop, map, min, refl, rules, set, subst, suc, sym, take, take-append-drop, true, true≢false, zero, ℕ, ⊎_elim, ◌*◌, ◌++◌, ◌+◌, ◌-◌, ◌/◌, ◌<◌, ◌^◌, ◌||◌, ◌∙◌, ◌∷◌, ◌≡◌, ◌≢◌, ◌≤◌, ◌⊎◌}
 pub use Rattle.std.proofs.lemmas.Bool.{both_ways, cases_eq, cases_lt, eqb-true, false≢true, or_cases, or_left, or_right}
 pub use Rattle.std.proofs.lemmas.List.{drop_all, drop_more, get_or-drop, length-set}
 pub use Rattle.std.proofs.lemmas.List.Elements.{All-append, All-cons, All-contains, All-drop, All-head, All-nil, All-tail, All-take, All-weaker, Contains-append_cases, Contains-append_left, Contains-append_right}

@@ -1,4 +1,4 @@
-use Rattle.convert_core.proofs.Imports.{◌≢◌, ◌≡◌, ◌∙◌, inl, inr, ⊎_elim, ap, subst, Unit, IfErr, History, Image, reads, left_then, GoesOn, goes_on, then_goes_on, DiffersInFree, IsEither, put_back}
+use Rattle.convert_core.proofs.Imports.{◌≢◌, ◌≡◌, ◌∙◌, inl, inr, ⊎_elim, ap, subst, IfErr, History, Image, reads, left_then, GoesOn, goes_on, then_goes_on, DiffersInFree, IsEither, put_back}
 use Rattle.convert_steps.specs.command_answers.declared.answer.Answer.TheVariants as answer
 use Rattle.convert_core.proofs.Ending.{refused_alone}
 use Rattle.convert_core.proofs.in_place.convert_synced.Goals as goal
