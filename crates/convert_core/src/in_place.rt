@@ -23,8 +23,10 @@ use super_turn::put_back;
 /// the time of the conversion in seconds since the start of 1970, below 2^63.
 ///
 /// First of all the disk is synced, so that nothing that was written before waits while the conversion writes. Where that fails nothing
-/// else is done. Then a block 16 that is half turned is put back, as `recover` does, and what is said below is of the disk as it is then. The new volume's trees, and the few blocks of files that can't stay where they lie, are written to free blocks and are on
-/// the disk before the superblock is. A crash at any moment since the first sync leaves the old volume or the new one, or the old one with a
+/// else is done. Then a block 16 that is half turned is put back, as `recover` does, and what is said below is of the disk as it is then.
+///
+/// The new volume's trees, and the few blocks of files that can't stay where they lie, are written to free blocks and are on the disk before
+/// the superblock is. A crash at any moment since the first sync leaves the old volume or the new one, or the old one with a
 /// block 16 that is half turned, and one before it what it would have left before the call.
 ///
 /// A refusal names what is wrong with the volume, or the space that it has not; then no block was written. Only over a
