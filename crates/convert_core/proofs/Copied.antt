@@ -1,5 +1,5 @@
 -- The copy of block 16 among the pieces: how it is looked for, and that it is there.
-use Rattle.convert_core.proofs.Imports.{◌≡◌, ◌≢◌, ◌∙◌, inl, inr, ⊎_elim, ℕ, ◌+◌, ◌<◌, ◌≤◌, Bool, true, false, List, [], ◌∷◌, ◌++◌, length, take, drop, Option, Some, None, refl, sym, ap, subst, arith, length-drop, take-append-drop, true≢false, cond, Contains, IsTrue, slice_get, Contains-append_cases, Contains-permutation, Image, block_at, has, used_of, superblock, used_length, Volume, Options, Piece, Plan, owner, tails, files_of, Owners, CoverUsed, LieWell, LiesInUnit, FitsPlan, HoldsBlock, at_place, at_places, blocks_of_units, all_at, HasPieces, HoldMoved, contains_cases, contains_head, contains_tail, Contains-append_left, Contains-append_right, drop_all, drop_more, get_or_from_slice_get, slice_get_within, eqb-true, plans_have_room, pieces_cover_used, begins_with_super, copy_in, SUPER_BLOCK}
+use Rattle.convert_core.proofs.Imports.{◌≡◌, ◌≢◌, ◌∙◌, inl, inr, ⊎_elim, ℕ, ◌+◌, ◌<◌, ◌≤◌, Bool, true, false, List, [], ◌∷◌, ◌++◌, length, take, drop, Option, Some, None, refl, sym, ap, subst, arith, length-drop, take-append-drop, true≢false, cond, Contains, IsTrue, slice_get, Contains-append_cases, Contains-append_left, Contains-append_right, Contains-permutation, Image, block_at, has, used_of, superblock, used_length, Volume, Options, Piece, Plan, owner, tails, files_of, Owners, CoverUsed, LieWell, LiesInUnit, HoldsBlock, FitsPlan, at_place, at_places, blocks_of_units, all_at, HasPieces, HoldMoved, contains_cases, contains_head, contains_tail, drop_all, drop_more, get_or_from_slice_get, slice_get_within, eqb-true, plans_have_room, pieces_cover_used, begins_with_super, copy_in, SUPER_BLOCK}
 use Rattle.reiser_volume.proofs.reiser_bitmap.SystemBlocks.{superblock_in}
 use Rattle.extent_pieces.proofs.Placing.{length-blocks}
 use Rattle.convert_core.proofs.Moving.{can_move, well}

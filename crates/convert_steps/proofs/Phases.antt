@@ -1,5 +1,5 @@
 -- What a crash leaves in each phase of the switch.
-use Rattle.convert_steps.proofs.Imports.{◌≡◌, ◌≢◌, ◌⊎◌, inl, inr, ⊎_elim, ℕ, ◌+◌, ◌<◌, List, [], length, Result, Ok, Err, OnOk, refl, sym, ◌∙◌, ap, subst, arith, ext_get_or, FIRST_MIRROR, SECOND_MIRROR, SUPER_BLOCK, Image, History, block_at, reads, clock, IsSettled, LeftSince, WritesBlock, WritesOnly, reads_only, reads_outside, write_only, writes_length, writes_then, writes_weaker, set_stands, write_reads, left_outside, mirror_bytes, IsMirror, IsMirrorOf, IsCopy, IsCopyAt, IsSwitchPart, IsSwitched, HasCopies, IsHalfSwitched, IsLeftBySwitch, cases_eq}
+use Rattle.convert_steps.proofs.Imports.{◌≡◌, ◌≢◌, ◌⊎◌, inl, inr, ⊎_elim, ℕ, ◌+◌, ◌<◌, List, [], length, Result, Ok, Err, OnOk, refl, sym, ◌∙◌, ap, subst, arith, ext_get_or, FIRST_MIRROR, SECOND_MIRROR, SUPER_BLOCK, Image, History, block_at, reads, clock, IsSettled, LeftSince, WritesBlock, WritesOnly, reads_only, write_only, writes_length, writes_then, writes_weaker, reads_outside, set_stands, write_reads, left_outside, mirror_bytes, IsMirror, IsMirrorOf, IsCopy, IsCopyAt, IsSwitchPart, IsSwitched, HasCopies, IsHalfSwitched, IsLeftBySwitch, cases_eq}
 use Rattle.super_turn.specs.Turned.{IsTurning, StandsWith}
 
 not_mirror : ¬ IsMirror 16
