@@ -19,17 +19,12 @@ abbrev by_parts : Ordering → Ordering → Ordering → Ordering → Ordering
 by_parts dir object offset kind = ordering_then (ordering_then (ordering_then dir object) offset) kind
 
 below_offset : (a b : ItemHead) → a.dir ≡ b.dir → a.object ≡ b.object → a.offset < b.offset → IsBelow a b
-below_offset a b dir object offset =
-    ap (λ o. is_lt (by_parts o (nat_cmp a.object b.object) (nat_cmp a.offset b.offset) (nat_cmp (kind_number a.kind) (kind_number b.kind)))) (cmp_same a.dir b.dir dir)
-    ∙ ap (λ o. is_lt (by_parts Equal o (nat_cmp a.offset b.offset) (nat_cmp (kind_number a.kind) (kind_number b.kind)))) (cmp_same a.object b.object object)
-    ∙ ap (λ o. is_lt (by_parts Equal Equal o (nat_cmp (kind_number a.kind) (kind_number b.kind)))) (cmp_less a.offset b.offset offset)
+below_offset a b dir object offset = cc (cmp_same a.dir b.dir dir, cmp_same a.object b.object object, cmp_less a.offset b.offset offset)
 
 below_object_by : (a b : ItemHead) → (a.dir < b.dir) ⊎ (a.dir ≡ b.dir) → a.object < b.object → IsBelow a b
 below_object_by a b (inl dir) object =
     ap (λ o. is_lt (by_parts o (nat_cmp a.object b.object) (nat_cmp a.offset b.offset) (nat_cmp (kind_number a.kind) (kind_number b.kind)))) (cmp_less a.dir b.dir dir)
-below_object_by a b (inr dir) object =
-    ap (λ o. is_lt (by_parts o (nat_cmp a.object b.object) (nat_cmp a.offset b.offset) (nat_cmp (kind_number a.kind) (kind_number b.kind)))) (cmp_same a.dir b.dir dir)
-    ∙ ap (λ o. is_lt (by_parts Equal o (nat_cmp a.offset b.offset) (nat_cmp (kind_number a.kind) (kind_number b.kind)))) (cmp_less a.object b.object object)
+below_object_by a b (inr dir) object = cc (cmp_same a.dir b.dir dir, cmp_less a.object b.object object)
 
 below_object : (a b : ItemHead) → a.dir ≤ b.dir → a.object < b.object → IsBelow a b
 below_object a b dir object = below_object_by a b (grind (arith, dir)) object

@@ -1,5 +1,5 @@
 -- Which bytes a block has behind the laying of blocks.
-use Rattle.reiser_make_laws.proofs.Imports.{◌≡◌, ◌≢◌, ◌⊎◌, inl, inr, ℕ, zero, suc, ◌+◌, ◌-◌, ◌*◌, ◌≤◌, ◌<◌, List, [], ◌∷◌, ◌++◌, length, map, refl, sym, ◌∙◌, ap, subst, arith, slice_index_or, append_assoc, slice_set, range_with_len, flat_map, get_or-set_same, get_or-set_other, BITS_IN_BLOCK, Image, block_at, Placed, laid_over, volume_blocks, system_part, system_row, system_placed, system_block, data_part, data_of_name, data_of_content, data_placed, leaf_part, leaf_placed, inner_part, level_part, inner_placed, bitmap_part, bitmap_placed, place, bitmap_blocks, Shape, needed, SampleEntry, Name, Symlink, File}
+use Rattle.reiser_make_laws.proofs.Imports.{◌≡◌, ◌≢◌, ◌⊎◌, inl, inr, ℕ, zero, suc, ◌+◌, ◌-◌, ◌*◌, ◌≤◌, ◌<◌, List, [], ◌∷◌, ◌++◌, length, map, refl, sym, ◌∙◌, ap, subst, arith, slice_index_or, append_assoc, slice_set, range_with_len, flat_map, get_or-set_same, get_or-set_other, BITS_IN_BLOCK, Image, block_at, Placed, laid_over, volume_blocks, system_part, system_row, system_placed, system_block, data_part, data_of_name, data_of_content, data_placed, leaf_part, leaf_placed, inner_part, level_part, inner_placed, bitmap_part, bitmap_placed, place, bitmap_blocks, Shape, needed, SampleEntry, Name, File}
 use Rattle.reiser_make.proofs.Laying.{laid_over-append}
 
 -- no block of the list goes to b
@@ -25,9 +25,8 @@ later_keeps [] image b away = refl
 later_keeps (p ∷ ps) image b away = later_keeps ps (slice_set image p.0 p.1) b away.1 ∙ get_or-set_other image p.0 b p.1 [] away.0
 
 pub length-set : {A : Type 0} (xs : List A) (i : ℕ) (y : A) → length (slice_set xs i y) ≡ length xs
-length-set [] i y = refl
-length-set (x ∷ xs) zero y = refl
 length-set (x ∷ xs) (suc i) y = ap suc (length-set xs i y)
+length-set _ i y = refl
 
 pub length-laid_over : (ps : List Placed) (image : Image) → length (laid_over ps image) ≡ length image
 length-laid_over [] image = refl
@@ -62,9 +61,8 @@ unfolding place
 away_place b j low = λ same. omega (arith, low, same)
 
 away_data : (s : Shape) (i b : ℕ) (content : SampleEntry) → b < 8211 → Away b (data_of_content s i content)
-away_data s i b Name low = tt
-away_data s i b Symlink low = tt
 away_data s i b (File whole rest sparse) low = away_row b (data_placed s i sparse) 0 _ (λ j above below. away_place b _ low)
+away_data s i b _ low = tt
 
 -- what is behind the blocks before the data
 abbrev behind : Shape → ℕ → List Placed

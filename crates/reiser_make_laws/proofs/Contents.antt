@@ -1,5 +1,5 @@
 -- The bytes of a sample's files and the targets of its symlinks are those that were written.
-use Rattle.reiser_make_laws.proofs.Imports.{◌≡◌, ◌⊎◌, inl, inr, ℕ, zero, suc, ◌+◌, ◌-◌, ◌*◌, ◌/◌, ◌%◌, ◌≤◌, ◌<◌, Bool, true, false, cond, ◌==◌, ◌&&◌, List, [], ◌∷◌, ◌++◌, length, map, get_or, refl, sym, ◌∙◌, ap, subst, arith, Some, None, eqb-true, ne_eqb, Contains, nat_le, nat_lt, unwrap_or, slice_index, range_with_len, option_or, and_from, cases_lt, nat_tests, get_or-map-range_with_len, Contains-append_left, Contains-append_right, sum_by-take-le, Image, block_at, first_byte, is_covered, direct_by_kind, direct_byte, pointer_by_kind, named_block, block_byte, pointers, needed, stat_item, item, items_of_content, body_bytes, rest_of_content, Placed, volume_blocks, system_part, data_part, data_of_name, data_of_content, data_placed, leaf_part, inner_part, bitmap_part, file_name, place, Shape, shape, file_id, stored_before, stored_in, stored_of, stored_blocks, stored_block, file_byte, sample_bytes, Name, Symlink, File, Pointers, Bytes, Target, ObjectId, data_below, ItemHead, ItemKind, Stat, Indirect, Direct, Directory, StatData, ReiserItem, FitsSample, made, content, laid_content}
+use Rattle.reiser_make_laws.proofs.Imports.{◌≡◌, ◌⊎◌, inl, inr, ℕ, zero, suc, ◌+◌, ◌-◌, ◌*◌, ◌/◌, ◌%◌, ◌≤◌, ◌<◌, Bool, true, false, cond, ◌==◌, ◌&&◌, List, [], ◌∷◌, ◌++◌, length, map, get_or, refl, sym, ◌∙◌, ap, subst, arith, Some, None, eqb-true, ne_eqb, Contains, nat_le, nat_lt, unwrap_or, slice_index, range_with_len, option_or, and_from, cases_lt, nat_tests, get_or-map-range_with_len, Contains-append_left, Contains-append_right, sum_by-take-le, Image, block_at, first_byte, is_covered, direct_by_kind, direct_byte, pointer_by_kind, named_block, block_byte, pointers, needed, stat_item, item, items_of_content, body_bytes, rest_of_content, Placed, volume_blocks, system_part, data_part, data_of_name, data_of_content, data_placed, leaf_part, inner_part, bitmap_part, file_name, place, Shape, shape, file_id, stored_before, stored_in, stored_of, stored_blocks, stored_block, file_byte, sample_bytes, Name, Symlink, File, Pointers, Bytes, Target, ObjectId, data_below, ItemKind, Stat, Indirect, Direct, StatData, ReiserItem, FitsSample, made, content, laid_content}
 use Rattle.std.proofs.Common.{Option}
 use Rattle.reiser_make.specs.Shape.{pointer}
 use Rattle.reiser_volume.specs.fs_rows.Bytes.{bytes_by}
@@ -15,15 +15,11 @@ use Rattle.reiser_make_laws.proofs.Writable.{rest_body}
 -- a byte depends on heads and bodies alone
 direct_kind : (kind : ItemKind) (i : ReiserItem) (n : ℕ) → direct_by_kind kind i n ≡ direct_by_kind kind (item_of (content i)) n
 direct_kind Stat i n = refl
-direct_kind Indirect i n = refl
-direct_kind Direct i n = refl
-direct_kind Directory i n = refl
+direct_kind _ i n = refl
 
 pointer_kind : (kind : ItemKind) (i : ReiserItem) (k : ℕ) → pointer_by_kind kind i k ≡ pointer_by_kind kind (item_of (content i)) k
 pointer_kind Stat i k = refl
-pointer_kind Indirect i k = refl
-pointer_kind Direct i k = refl
-pointer_kind Directory i k = refl
+pointer_kind _ i k = refl
 
 -- the first block that is named
 abbrev or_next : ℕ → ℕ → ℕ
@@ -47,10 +43,7 @@ abbrev laid_items : Shape → List parts.SampleItem → List ReiserItem
 laid_items s xs = map item_of (map (laid_content s) xs)
 
 byte_found : (image : Image) (s : Shape) (is : List ReiserItem) (xs : List parts.SampleItem) (n : ℕ) → map content is ≡ map (laid_content s) xs → read.file_byte image is n ≡ read.file_byte image (laid_items s xs) n
-byte_found image s is xs n are =
-    ap (λ o. unwrap_or o (block_byte image (named_block is (n / 4096)) (n % 4096))) (direct_content is n)
-    ∙ ap (λ b. unwrap_or (direct_byte (map item_of (map content is)) n) (block_byte image b (n % 4096))) (named_content is (n / 4096))
-    ∙ ap (λ (cs : List (ItemHead × List ℕ)). read.file_byte image (map item_of cs) n) are
+byte_found image s is xs n are = cc (direct_content is n, named_content is (n / 4096))
 
 -- the same function gives the same bytes
 map_same : (f g : ℕ → ℕ) (a n : ℕ) → ((k : ℕ) → a ≤ k → k < a + n → f k ≡ g k) → map f (range_with_len a n) ≡ map g (range_with_len a n)
@@ -155,17 +148,15 @@ module _ (image : Image) (s : Shape) (i whole rest : ℕ) (sparse : Bool) (here 
   plain_byte : (n : ℕ) → sparse ≡ false → n < 4096 * whole → block_byte image (pointer first false (n / 4096)) (n % 4096) ≡ file_byte i false n
   plain_byte n is less =
       let k : ℕ = n / 4096 in
-      let all : stored_of whole sparse ≡ whole = ap (stored_of whole) is in
-      stored_byte k n (omega (arith, less, all)) (ap (λ b. stored_block b k) is) ∙ ap (λ b. file_byte i b n) is
+      stored_byte k n (omega (arith, less, ap (stored_of whole) is)) (ap (λ b. stored_block b k) is) ∙ ap (λ b. file_byte i b n) is
 
   sparse_byte : (n : ℕ) (even : Bool) → sparse ≡ true → n < 4096 * whole → (n / 4096 % 2 == 0) ≡ even → block_byte image (pointer first true (n / 4096)) (n % 4096) ≡ file_byte i true n
   sparse_byte n true is less even =
       let k : ℕ = n / 4096 in
-      let stored : stored_of whole sparse ≡ stored_of whole true = ap (stored_of whole) is in
       let half : k % 2 ≡ 0 = eqb-true (k % 2) 0 even in
       let whole_k : 2 * (k / 2) ≡ k = omega (arith, half) in
       ap (λ b. block_byte image (cond b (place (first + k / 2)) 0) (n % 4096)) even
-      ∙ stored_byte (k / 2) n (omega (arith, less, stored)) (ap (λ b. stored_block b (k / 2)) is ∙ whole_k)
+      ∙ stored_byte (k / 2) n (omega (arith, less, ap (stored_of whole) is)) (ap (λ b. stored_block b (k / 2)) is ∙ whole_k)
       ∙ ap (λ b. file_byte i b n) is
   sparse_byte n false is less even =
       let k : ℕ = n / 4096 in
@@ -186,9 +177,8 @@ module _ (image : Image) (s : Shape) (i whole rest : ℕ) (sparse : Bool) (here 
       (named_tests stat (whole == 0) (rest == 0) k ∙ ap (λ b. cond b 0 (pointer_by_kind Indirect (laid_item s pointers_item) k)) some ∙ pointer_is k (omega (arith, less)))
       ∙ pointer_byte_by n sparse refl less
   byte_by stat n (inr past) inside =
-      let is : List ReiserItem = laid_items s (by_tests stat (whole == 0) (rest == 0)) in
       let some : (rest == 0) ≡ false = ne_eqb rest 0 (λ same. omega (arith, same, past, inside)) in
-      ap (λ o. unwrap_or o (block_byte image (named_block is (n / 4096)) (n % 4096)))
+      ap (λ o. unwrap_or o (block_byte image (named_block (laid_items s (by_tests stat (whole == 0) (rest == 0))) (n / 4096)) (n % 4096)))
       (direct_tests stat (whole == 0) (rest == 0) n ∙ ap (λ b. cond b None (direct_by_kind Direct (laid_item s rest_item) n)) some ∙ in_rest n past inside)
 
   -- the bytes of a file

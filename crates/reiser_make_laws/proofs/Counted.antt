@@ -1,5 +1,5 @@
 -- How many rows of a sample have the same least path: as many as the object has names.
-use Rattle.reiser_make_laws.proofs.Imports.{◌≡◌, ◌≢◌, ◌⊎◌, inl, inr, ⊎_elim, ℕ, zero, suc, ◌+◌, ◌-◌, ◌*◌, ◌/◌, ◌%◌, ◌≤◌, ◌<◌, Bool, true, false, cond, ◌==◌, ◌&&◌, List, [], ◌∷◌, map, get_or, count_by, refl, sym, ◌∙◌, ap, arith, eqb-true, eq-eqb, ne_eqb, true≢false, nat_le, nat_eq, min, pointwise, same_text, range_with_len, flat_map, and_right, cond_both, cases_lt, nat_tests, sum_by-cons, sum_by-append, NameList, WholeRow, is_same_path, is_further_name, directory_name, file_name, directory_row, path_of, content_row, directory_count, names_in, named_by, name_count, SampleEntry, Name, Symlink, File}
+use Rattle.reiser_make_laws.proofs.Imports.{◌≡◌, ◌≢◌, ◌⊎◌, inl, inr, ⊎_elim, ℕ, zero, suc, ◌+◌, ◌-◌, ◌*◌, ◌/◌, ◌%◌, ◌≤◌, ◌<◌, Bool, true, false, cond, ◌==◌, ◌&&◌, List, [], ◌∷◌, map, get_or, count_by, refl, sym, ◌∙◌, ap, arith, eqb-true, eq-eqb, ne_eqb, true≢false, nat_le, nat_eq, min, pointwise, same_text, range_with_len, flat_map, and_right, cond_both, cases_lt, nat_tests, sum_by-cons, sum_by-append, NameList, WholeRow, is_same_path, is_further_name, directory_name, file_name, directory_row, path_of, content_row, directory_count, names_in, named_by, name_count, SampleEntry, Name}
 use Rattle.std.proofs.lemmas.Cmp.{nat_list_eq_equiv, lists_equiv}
 use Rattle.reiser_volume.specs.fs_rows.Rows as rows
 use Rattle.reiser_make_laws.proofs.Keeping.{file_one}
@@ -19,13 +19,11 @@ rows_by number names = directory_row [] ∷ flat_map (rows_in number names) (ran
 
 pub own_path : (number i j : ℕ) (c : SampleEntry) → (content_row number i j c).path ≡ path_of i
 own_path number i j Name = refl
-own_path number i j Symlink = refl
-own_path number i j (File whole rest sparse) = refl
+own_path number i j _ = refl
 
 pub own_least : (number i j : ℕ) (c : SampleEntry) → IsOwn c → (content_row number i j c).least ≡ path_of j
 own_least number i j Name own = absurd own
-own_least number i j Symlink own = refl
-own_least number i j (File whole rest sparse) own = refl
+own_least number i j _ own = refl
 
 -- paths of names are the same where the names have one number
 other_file : (i j : ℕ) (b : Bool) → i < 100000 → j < 100000 → (i == j) ≡ false → pointwise nat_eq (file_name i) (file_name j) ≡ b → b ≡ false
@@ -82,29 +80,24 @@ counts_by true h is = omega (arith, is)
 counts_by false h is = omega (arith, is)
 
 from_own : (j r : ℕ) (b : Bool) → (j % 10 == 8) ≡ b → hits j (j + 1) r ≡ cond (b && nat_le (j + 2) (j + suc r)) 1 0
-from_own j zero b is =
-    let short : nat_le (j + 2) (j + 1) ≡ false = grind (arith, nat_tests) in
-    ap one (sym (and_right b (nat_le (j + 2) (j + 1)) short))
+from_own j zero b is = ap one (sym (and_right b (nat_le (j + 2) (j + 1)) (grind (arith, nat_tests))))
 from_own j (suc r) true is =
     let long : nat_le (j + 2) (j + suc (suc r)) ≡ true = grind (arith, nat_tests) in
-    let here = second j true (is_further_name (j + 1)) is refl in
     let none : hits j (j + 1 + 1) r ≡ 0 = hits_none j (j + 1 + 1) r (λ i low high same. omega (arith, low, last_name i, same)) in
-    omega (arith, hits_next j (j + 1) r, ap one here, none, ap one long)
+    omega (arith, hits_next j (j + 1) r, ap one (second j true (is_further_name (j + 1)) is refl), none, ap one long)
 from_own j (suc r) false is =
-    let here = second j false (is_further_name (j + 1)) is refl in
     let none : hits j (j + 1 + 1) r ≡ 0 = hits_none j (j + 1 + 1) r (λ i low high same. omega (arith, low, last_name i, same)) in
-    omega (arith, hits_next j (j + 1) r, ap one here, none)
+    omega (arith, hits_next j (j + 1) r, ap one (second j false (is_further_name (j + 1)) is refl), none)
 
 all_hits : (number j : ℕ) → j < number → named_by j ≡ j → hits j 0 number ≡ name_count number j
 all_hits number j lt own =
     let r : ℕ = number - j - 1 in
     let whole : number ≡ j + suc r = omega (arith, lt) in
     let before : hits j 0 j ≡ 0 = hits_none j 0 j (λ i low high same. omega (arith, high, first_name i, same)) in
-    let here : (named_by j == j) ≡ true = eq-eqb (named_by j) j own in
     let start : 0 + j ≡ j = omega arith in
     let b : Bool = (j % 10 == 8) && nat_le (j + 2) (j + suc r) in
     let sum : hits j 0 (j + suc r) ≡ 1 + hits j (j + 1) r =
-    omega (arith, hits_join j 0 j (suc r), before, ap (λ x. hits j x (suc r)) start, hits_next j j r, ap one here) in
+    omega (arith, hits_join j 0 j (suc r), before, ap (λ x. hits j x (suc r)) start, hits_next j j r, ap one (eq-eqb (named_by j) j own)) in
     ap (hits j 0) whole ∙ sum ∙ counts_by b (hits j (j + 1) r) (from_own j r (j % 10 == 8) refl) ∙ ap (λ n. name_count n j) (sym whole)
 
 -- the name of a directory is no path of a file

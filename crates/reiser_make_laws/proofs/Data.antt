@@ -1,5 +1,5 @@
 -- The blocks of data that the items of a sample name: each stored block once, in order.
-use Rattle.reiser_make_laws.proofs.Imports.{◌≡◌, ◌≢◌, ℕ, zero, suc, ◌+◌, ◌-◌, ◌*◌, ◌/◌, ◌%◌, ◌^◌, ◌≤◌, ◌<◌, Bool, true, false, cond, not, ◌&&◌, ◌==◌, List, [], ◌∷◌, ◌++◌, length, map, filter, get_or, refl, sym, ◌∙◌, ap, subst, arith, append_assoc, append-nil, length-append, eq-eqb, ne_eqb, nat_lt, div_ceil, range_with_len, flat_map, nat_tests, little_bytes, little_number-reads_back, field, pointers, numbers_at, items, items_from, items_of_name, items_of_content, directory_items, pointer_items, byte_items, item, body_bytes, pointers_bytes, pointers_of_content, place, Shape, shape, directory_count, names_in, object_count, root_id, directory_id, file_id, stored_before, stored_blocks, stored_of, stored_in, SampleEntry, Name, Symlink, File, Root, Names, Pointers, Bytes, ObjectId, Indirect, Direct, blocks_named, is_no_hole, sum_by-cons, sum_by-take-le, IsSmallContent}
+use Rattle.reiser_make_laws.proofs.Imports.{◌≡◌, ◌≢◌, ℕ, zero, suc, ◌+◌, ◌-◌, ◌*◌, ◌/◌, ◌%◌, ◌^◌, ◌≤◌, ◌<◌, Bool, true, false, cond, not, ◌&&◌, ◌==◌, List, [], ◌∷◌, ◌++◌, length, map, filter, get_or, refl, sym, ◌∙◌, ap, subst, arith, append_assoc, append-nil, length-append, eq-eqb, ne_eqb, nat_lt, div_ceil, range_with_len, flat_map, nat_tests, little_bytes, little_number-reads_back, field, pointers, numbers_at, items, items_from, items_of_name, items_of_content, directory_items, pointer_items, byte_items, item, body_bytes, pointers_bytes, pointers_of_content, place, Shape, shape, directory_count, names_in, object_count, root_id, directory_id, file_id, stored_before, stored_blocks, stored_of, stored_in, SampleEntry, Name, File, Root, Names, Pointers, Bytes, ObjectId, Indirect, Direct, blocks_named, is_no_hole, sum_by-cons, sum_by-take-le, IsSmallContent}
 use Rattle.reiser_make.specs.Shape.{pointer}
 use Rattle.reiser_make.specs.declared.sample_item.SampleItem as parts
 use Rattle.reiser_make_laws.proofs.Heads.{field_behind}
@@ -70,9 +70,8 @@ plain_runs first a (suc n) =
 
 even_is : (first c : ℕ) → pointer first true (2 * c) ≡ place (first + c)
 even_is first c =
-    let even : 2 * c % 2 ≡ 0 = omega arith in
     let half : 2 * c / 2 ≡ c = omega arith in
-    ap (λ b. cond b (place (first + 2 * c / 2)) 0) (eq-eqb _ _ even) ∙ ap (λ n. place (first + n)) half
+    ap (λ b. cond b (place (first + 2 * c / 2)) 0) (eq-eqb _ _ (omega arith)) ∙ ap (λ n. place (first + n)) half
 
 odd_is : (first c : ℕ) → pointer first true (2 * c + 1) ≡ 0
 odd_is first c =
@@ -150,10 +149,9 @@ module _ (s : Shape) (i whole rest : ℕ) (sparse : Bool) (here : get_or s.names
 
   pointer_blocks : Runs first (first + stored_of whole sparse) (item_blocks s pointers_item)
   pointer_blocks =
-      let body : List ℕ = body_bytes s s.old (Pointers i) in
       let no_link : (id.dir == 0xFFFFFFFF) ≡ false = ne_eqb id.dir 0xFFFFFFFF (λ is. omega (arith, is, near)) in
       let is : item_blocks s pointers_item ≡ filter is_no_hole (map (pointer first sparse) (range_with_len 0 whole)) =
-      named_if (id.dir == 0xFFFFFFFF) (filter is_no_hole (pointers body)) no_link
+      named_if (id.dir == 0xFFFFFFFF) (filter is_no_hole (pointers (body_bytes s s.old (Pointers i)))) no_link
       ∙ ap (λ z. filter is_no_hole (pointers z)) (pointers_are s i (File whole rest sparse) whole rest sparse s.old here refl)
       ∙ ap (filter is_no_hole) (pointers_back first whole sparse few low) in
       subst (Runs first (first + stored_of whole sparse)) (sym is) (file_runs first whole sparse)
@@ -177,17 +175,15 @@ module _ (s : Shape) (i whole rest : ℕ) (sparse : Bool) (here : get_or s.names
       subst (Runs first (first + stored_of whole sparse)) (sym is) (pointers_only (whole == 0) refl)
 
 content_few : (c : SampleEntry) → IsSmallContent c → stored_blocks c ≤ 20
-content_few Name small = omega arith
-content_few Symlink small = omega arith
 content_few (File whole rest false) small = omega (arith, small.blocks)
 content_few (File whole rest true) small = omega (arith, small.blocks)
+content_few _ small = omega arith
 
 pub content_runs : (s : Shape) (i : ℕ) (content : SampleEntry) → get_or s.names i Name ≡ content → IsSmallContent content → stored_before s.names i ≤ 100000 → i ≤ 5000
     → Runs (stored_before s.names i) (stored_before s.names i + stored_blocks content) (list_blocks s (items_of_content s i content))
 unfolding items_of_content
-content_runs s i Name here small low near = omega arith
-content_runs s i Symlink here small low near = omega arith
 content_runs s i (File whole rest sparse) here small low near = file_blocks s i whole rest sparse here small.blocks low near
+content_runs s i _ here small low near = omega arith
 
 stored_few : (names : List SampleEntry) → AreSmall names → stored_in names ≤ 20 * length names
 stored_few [] small = omega arith

@@ -1,5 +1,5 @@
 -- The entries of a directory that were written read back.
-use Rattle.reiser_make_laws.proofs.Imports.{◌≡◌, ℕ, zero, suc, ◌+◌, ◌-◌, ◌*◌, ◌/◌, ◌%◌, ◌^◌, ◌≤◌, ◌<◌, true, false, cond, ◌==◌, List, [], ◌∷◌, ◌++◌, length, take, drop, replicate, get_or, refl, sym, ◌∙◌, ap, arith, append_assoc, append-nil, length-append, length-take, length-drop, drop-cons, take-append-drop, drop_more, drop_all, Contains-get_or, take_while-cons, sum_by-cons, little_number-reads_back, field, EntryValue, area_end, name_area, is_of_name, until_zero, entry_at, entries_from, entries, AreEntries, are_entries, padded, entry_head, entry_heads, entry_names, entries_length, entries_bytes, padded_is, padded_short, Each}
+use Rattle.reiser_make_laws.proofs.Imports.{◌≡◌, ℕ, zero, suc, ◌+◌, ◌-◌, ◌*◌, ◌/◌, ◌%◌, ◌^◌, ◌≤◌, ◌<◌, true, false, ◌==◌, List, [], ◌∷◌, ◌++◌, length, take, drop, replicate, get_or, refl, sym, ◌∙◌, ap, arith, append_assoc, append-nil, length-append, length-take, length-drop, drop-cons, take-append-drop, drop_more, drop_all, Contains-get_or, take_while-cons, sum_by-cons, little_number-reads_back, field, EntryValue, area_end, name_area, is_of_name, until_zero, entry_at, entries_from, entries, AreEntries, are_entries, padded, entry_head, entry_heads, entry_names, entries_length, entries_bytes, padded_is, padded_short, Each}
 use Rattle.reiser_volume.specs.reiser_items.Entries.{location}
 use Rattle.reiser_volume.proofs.reiser_items.Grammar.{entries_decide}
 use Rattle.reiser_make_laws.proofs.Heads.{field_behind}
@@ -32,10 +32,7 @@ until_none (suc n) = take_while-cons is_of_name 0 (replicate n 0)
 -- a name is what stands before the zeros
 until_padding : (name : List ℕ) (n : ℕ) → AreOfName name → until_zero (name ++ replicate n 0) ≡ name
 until_padding [] n none = until_none n
-until_padding (x ∷ xs) n bytes =
-    take_while-cons is_of_name x (xs ++ replicate n 0)
-    ∙ ap (λ b. cond b (x ∷ until_zero (xs ++ replicate n 0)) []) bytes.0
-    ∙ ap (λ z. x ∷ z) (until_padding xs n bytes.1)
+until_padding (x ∷ xs) n bytes = cc (take_while-cons is_of_name x (xs ++ replicate n 0), bytes.0, until_padding xs n bytes.1)
 
 eight : (e : EntryValue) → IsPlain e → length (padded e.name) ≡ 8
 eight e plain = padded_short e.name plain.some plain.short
@@ -53,8 +50,7 @@ heads_split end (x ∷ xs) ys short =
     let begin : ℕ = end - length (padded x.name) in
     let head : List ℕ = entry_head x.offset x.dir x.object begin in
     let below : begin - 8 * length xs ≡ end - 8 * length (x ∷ xs) = omega (arith, short.0) in
-    ap (λ z. head ++ z) (heads_split begin xs ys short.1 ∙ ap (λ n. entry_heads begin xs ++ entry_heads n ys) below)
-    ∙ sym (append_assoc head (entry_heads begin xs) (entry_heads (end - 8 * length (x ∷ xs)) ys))
+    cc (heads_split begin xs ys short.1, append_assoc head (entry_heads begin xs) (entry_heads (end - 8 * length (x ∷ xs)) ys))
 
 names_split : (xs ys : List EntryValue) → entry_names (xs ++ ys) ≡ entry_names ys ++ entry_names xs
 names_split [] ys = sym (append-nil (entry_names ys))

@@ -31,9 +31,8 @@ stat_met s leaf id stat room = ap (option_map (stat_in leaf s.old)) (stat_back s
 pub first_found : (s : Shape) (id : ObjectId) (stat : StatData) (is : List ReiserItem) (more : List (ItemHead × List ℕ)) → HasStatRoom stat → map content is ≡ laid_content s (stat_item s.old id stat) ∷ more → HasStatOf s.old stat is
 first_found s id stat [] more room are = absurd cc
 first_found s id stat (i ∷ is) more room are =
-    let same : content i ≡ laid_content s (stat_item s.old id stat) = cc in
     let read : stat_by_kind i.head.kind i ≡ Some (stat_in i.leaf s.old (read_back s.old stat)) =
-    ap (λ (x : ReiserItem). stat_by_kind x.head.kind x) (met_by s i (stat_item s.old id stat) same) ∙ stat_met s i.leaf id stat room in
+    ap (λ (x : ReiserItem). stat_by_kind x.head.kind x) (met_by s i (stat_item s.old id stat) cc) ∙ stat_met s i.leaf id stat room in
     record { leaf = i.leaf; has = ap (λ o. option_or o (first_stat is)) read }
 
 fits_each : (kind : Kind) (is : List ReiserItem) → Each (λ i. may_have kind i.head.kind ≡ true) is → fits_kind kind is ≡ true

@@ -29,16 +29,7 @@ head_behind at front rest is =
     ap (λ v. kind_by v (field 4 bytes (at + 12)) (field 8 bytes (at + 8))) (behind 2 22)
     ∙ ap (λ c. kind_by (field 2 rest 22) c (field 8 bytes (at + 8))) (behind 4 12)
     ∙ ap (λ p. kind_by (field 2 rest 22) (field 4 rest 12) p) (behind 8 8) in
-    by_kind bytes at (kind_at bytes at)
-    ∙ ap (λ d. head_by d (field 4 bytes (at + 4)) (field 2 bytes (at + 22)) (field 4 bytes (at + 8)) (field 8 bytes (at + 8)) (field 2 bytes (at + 16)) (field 2 bytes (at + 18)) (kind_at bytes at)) first
-    ∙ ap (λ o. head_by (field 4 rest 0) o (field 2 bytes (at + 22)) (field 4 bytes (at + 8)) (field 8 bytes (at + 8)) (field 2 bytes (at + 16)) (field 2 bytes (at + 18)) (kind_at bytes at)) (behind 4 4)
-    ∙ ap (λ v. head_by (field 4 rest 0) (field 4 rest 4) v (field 4 bytes (at + 8)) (field 8 bytes (at + 8)) (field 2 bytes (at + 16)) (field 2 bytes (at + 18)) (kind_at bytes at)) (behind 2 22)
-    ∙ ap (λ l. head_by (field 4 rest 0) (field 4 rest 4) (field 2 rest 22) l (field 8 bytes (at + 8)) (field 2 bytes (at + 16)) (field 2 bytes (at + 18)) (kind_at bytes at)) (behind 4 8)
-    ∙ ap (λ p. head_by (field 4 rest 0) (field 4 rest 4) (field 2 rest 22) (field 4 rest 8) p (field 2 bytes (at + 16)) (field 2 bytes (at + 18)) (kind_at bytes at)) (behind 8 8)
-    ∙ ap (λ c. head_by (field 4 rest 0) (field 4 rest 4) (field 2 rest 22) (field 4 rest 8) (field 8 rest 8) c (field 2 bytes (at + 18)) (kind_at bytes at)) (behind 2 16)
-    ∙ ap (λ l. head_by (field 4 rest 0) (field 4 rest 4) (field 2 rest 22) (field 4 rest 8) (field 8 rest 8) (field 2 rest 16) l (kind_at bytes at)) (behind 2 18)
-    ∙ ap (head_by (field 4 rest 0) (field 4 rest 4) (field 2 rest 22) (field 4 rest 8) (field 8 rest 8) (field 2 rest 16) (field 2 rest 18)) kind
-    ∙ sym (by_kind rest 0 (kind_at rest 0))
+    cc (by_kind bytes at (kind_at bytes at), behind 4 4, behind 2 22, behind 4 8, behind 8 8, behind 2 16, behind 2 18, by_kind rest 0 (kind_at rest 0))
 
 -- the numbers of a head have room in their fields
 pub record HasRoomIn (head : ItemHead) : Type 0 where
@@ -53,9 +44,7 @@ head_as dir object offset kind old count len = record { dir = dir; object = obje
 
 -- two heads whose numbers are the same
 same_head : (d o f c l d' o' f' c' l' : ℕ) (kind : ItemKind) (old : Bool) → d ≡ d' → o ≡ o' → f ≡ f' → c ≡ c' → l ≡ l' → Some (head_as d o f kind old c l) ≡ Some (head_as d' o' f' kind old c' l')
-same_head d o f c l d' o' f' c' l' kind old is-d is-o is-f is-c is-l =
-    ap (λ x. Some (head_as x o f kind old c l)) is-d ∙ ap (λ x. Some (head_as d' x f kind old c l)) is-o ∙ ap (λ x. Some (head_as d' o' x kind old c l)) is-f
-    ∙ ap (λ x. Some (head_as d' o' f' kind old x l)) is-c ∙ ap (λ x. Some (head_as d' o' f' kind old c' x)) is-l
+same_head d o f c l d' o' f' c' l' kind old is-d is-o is-f is-c is-l = cc
 
 module _ (dir object offset count len location : ℕ) (back : List ℕ) (d : dir < 256 ^ 4) (o : object < 256 ^ 4) (f : offset < 256 ^ 4) (c : count < 256 ^ 2) (l : len < 256 ^ 2) where
   abbrev written : ItemKind → Bool → List ℕ
@@ -76,9 +65,8 @@ module _ (dir object offset count len location : ℕ) (back : List ℕ) (d : dir
       let place : field 8 w 8 ≡ offset + kind_number kind * 2 ^ 60 = little_number-reads_back 8 (offset + kind_number kind * 2 ^ 60) (drop 16 w) (omega (arith, numbered, low, f)) in
       let high : field 8 w 8 / 2 ^ 60 ≡ number = omega (arith, place, numbered, f) in
       let rest : field 8 w 8 % 2 ^ 60 ≡ offset = omega (arith, place, numbered, f) in
-      let is : kind_at w 0 ≡ Some kind = ap new_kind high ∙ known in
       by_kind w 0 (kind_at w 0)
-      ∙ ap (head_by (field 4 w 0) (field 4 w 4) (field 2 w 22) (field 4 w 8) (field 8 w 8) (field 2 w 16) (field 2 w 18)) is
+      ∙ ap (head_by (field 4 w 0) (field 4 w 4) (field 2 w 22) (field 4 w 8) (field 8 w 8) (field 2 w 16) (field 2 w 18)) (ap new_kind high ∙ known)
       ∙ same_head _ _ _ _ _ dir object offset count len kind false
       (little_number-reads_back 4 dir (drop 4 w) d) (little_number-reads_back 4 object (drop 8 w) o) rest
       (little_number-reads_back 2 count (drop 18 w) c) (little_number-reads_back 2 len (drop 20 w) l)

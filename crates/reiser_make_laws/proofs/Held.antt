@@ -50,11 +50,10 @@ read_leaf s (x ∷ xs) good = leaf_back s (x ∷ xs) (all_writable s (x ∷ xs) 
 pub leaf_held : SampleLeavesReadBack
 leaf_held number old blocks image fits m lt =
     let s : Shape = shape number old in
-    let good : IsGoodLeaf s (leaf_at s m) = good_leaf_at s (leaves s) m [] (sample_leaves_good number old fits.number_low) lt in
     let place : node_place s 1 m < needed s = node_below s 1 m (omega arith) (root_low (length (leaves s))) lt in
     let block : block_at (made s blocks image) (node_place s 1 m) ≡ leaf_bytes s (leaf_at s m) =
     holds_blocks s blocks image (leaf_placed s m) (leaf_in s blocks m lt) (omega (arith, place, fits.needed_low, fits.inside)) in
-    subst (ReadsAs s (leaf_at s m)) (sym block) (read_leaf s (leaf_at s m) good)
+    subst (ReadsAs s (leaf_at s m)) (sym block) (read_leaf s (leaf_at s m) (good_leaf_at s (leaves s) m [] (sample_leaves_good number old fits.number_low) lt))
 
 pub level_next : (leaves k : ℕ) → 1 ≤ k → level_nodes leaves (k + 1) ≡ nodes_above (level_nodes leaves k)
 level_next leaves zero low = absurd (omega (arith, low))

@@ -3,7 +3,7 @@ pub use Rattle.std.proofs.Common.{All, Bool, Contains, List, None, Some, [], ap,
 pub use Rattle.std.proofs.Math.Seq.{drop-append-add, drop-append_seam, drop-cons, drop-length, get_or-append_seam, take-append_seam, take-length}
 pub use Rattle.std.proofs.lemmas.Bool.{and_from, and_right, cases_lt, cond_both, le-ltb, not_from_false, or_cases, or_from, or_left, or_right}
 pub use Rattle.std.proofs.lemmas.Bool.Decides.{nat_tests}
-pub use Rattle.std.proofs.lemmas.List.{drop_all, drop_more, get_or-drop, get_or-set_other, get_or-set_same, get_or-take, length-map, length-replicate, take-append-drop, take_more}
+pub use Rattle.std.proofs.lemmas.List.{drop_all, drop_more, get_or-drop, get_or-set_other, get_or-set_same, length-map, length-replicate, take-append-drop, take_more}
 pub use Rattle.std.proofs.lemmas.List.Elements.{All-cons, All-contains, Contains-append_left, Contains-append_right, Contains-get_or, filter-append}
 pub use Rattle.std.proofs.lemmas.List.Folds.{Any-from_list_any, flat_map-map, list_any-from_Any, list_any_none}
 pub use Rattle.std.proofs.lemmas.List.FromFn.{get_or-map-range_with_len, length-map-range_with_len}

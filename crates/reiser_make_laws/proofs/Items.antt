@@ -13,10 +13,7 @@ no_items (p ∷ ps) = no_items ps
 
 items_met : (is : List ReiserItem) → items_of_events (flat_map item_events is) ≡ is
 items_met [] = refl
-items_met (i ∷ is) =
-    items_in-append (item_events i) (flat_map item_events is)
-    ∙ ap (λ z. (i ∷ z) ++ items_of_events (flat_map item_events is)) (no_items (held_by i.leaf (blocks_named i.head i.body)))
-    ∙ ap (λ z. i ∷ z) (items_met is)
+items_met (i ∷ is) = cc (items_in-append (item_events i) (flat_map item_events is), no_items (held_by i.leaf (blocks_named i.head i.body)), items_met is)
 
 -- ranges one behind the other
 pub flat_join : {X : Type 0} (h : ℕ → List X) (a p q : ℕ) → flat_map h (range_with_len a (p + q)) ≡ flat_map h (range_with_len a p) ++ flat_map h (range_with_len (a + p) q)
@@ -26,9 +23,7 @@ flat_join h a zero q =
 flat_join h a (suc p) q =
     let more : suc p + q ≡ suc (p + q) = omega arith in
     let next : a + 1 + p ≡ a + suc p = omega arith in
-    ap (λ n. flat_map h (range_with_len a n)) more
-    ∙ ap (λ z. h a ++ z) (flat_join h (a + 1) p q ∙ ap (λ n. flat_map h (range_with_len (a + 1) p) ++ flat_map h (range_with_len n q)) next)
-    ∙ sym (append_assoc (h a) (flat_map h (range_with_len (a + 1) p)) (flat_map h (range_with_len (a + suc p) q)))
+    cc (flat_join h (a + 1) p q, append_assoc (h a) (flat_map h (range_with_len (a + 1) p)) (flat_map h (range_with_len (a + suc p) q)))
 
 -- from one leaf to another
 abbrev between : Shape → ℕ → ℕ → List ReiserItem
@@ -38,8 +33,7 @@ between_join : (s : Shape) (a b c : ℕ) → a ≤ b → b ≤ c → between s a
 between_join s a b c low high =
     let whole : b - a + (c - b) ≡ c - a = omega (arith, low, high) in
     let mid : a + (b - a) ≡ b = omega (arith, low) in
-    sym (ap (λ n. flat_map (leaf_items s) (range_with_len a n)) (sym whole) ∙ flat_join (leaf_items s) a (b - a) (c - b)
-    ∙ ap (λ n. between s a b ++ flat_map (leaf_items s) (range_with_len n (c - b))) mid)
+    cc (flat_join (leaf_items s) a (b - a) (c - b))
 
 -- events whose items are those of the leaves from one edge to the next
 pub record Covers (s : Shape) (events : List Event) (a b : ℕ) : Type 0 where
@@ -120,11 +114,10 @@ module _ (s : Shape) where
       (record { items = rows.items; rises = rows.rises }))
 
 pub first_leaf_zero : (leaves level : ℕ) → first_leaf leaves level 0 ≡ 0
-first_leaf_zero leaves zero = refl
-first_leaf_zero leaves (suc zero) = refl
 first_leaf_zero leaves (suc (suc level)) =
     let none : first_child (level_nodes leaves (suc level)) 0 ≡ 0 = omega arith in
     ap (first_leaf leaves (suc level)) none ∙ first_leaf_zero leaves (suc level)
+first_leaf_zero leaves _ = refl
 
 -- the root's level has one node
 one_by : (levels leaves level : ℕ) (b : Bool) → nat_le (level_nodes leaves level) 1 ≡ b
@@ -155,10 +148,9 @@ root_items s holder few =
     let count : ℕ = length (leaves s) in
     let root : ℕ = root_level count in
     let one : level_nodes count root ≡ 1 = one_root s few in
-    let covers : Covers s (laid_events s root 0 holder) (edge count root 0) (edge count root (0 + 1)) = level_covers s root 0 holder (root_low count) (omega arith) (omega (arith, one)) in
     let begin : edge count root 0 ≡ 0 = edge_in count root 0 (omega (arith, one)) ∙ first_leaf_zero count root in
     let end : edge count root (0 + 1) ≡ count = edge_out count root (0 + 1) (omega (arith, one)) in
-    covers.items
+    (level_covers s root 0 holder (root_low count) (omega arith) (omega (arith, one))).items
     ∙ ap (λ b. between s (edge count root 0) b) end
     ∙ ap (λ a. between s a count) begin
     ∙ ap (λ n. flat_map (leaf_items s) (range_with_len 0 n)) (let whole : count - 0 ≡ count = omega arith in whole)
@@ -222,6 +214,4 @@ pub samples_items : SamplesHoldTheirItems
 samples_items number old blocks image fits =
     let s : Shape = shape number old in
     let few : length s.names ≤ 4000 = omega (arith, length_contents number, fits.number_low) in
-    ap (λ es. map content (items_of_events es)) (samples_walked number old blocks image fits)
-    ∙ ap (map content) (root_items s 16 few)
-    ∙ all_content s
+    cc (samples_walked number old blocks image fits, root_items s 16 few, all_content s)

@@ -1,5 +1,5 @@
 -- Which rules of trees a sample keeps.
-use Rattle.reiser_make_laws.proofs.Imports.{Bool, ◌≡◌, inl, inr, ℕ, zero, suc, ◌+◌, ◌≤◌, ◌<◌, List, [], ◌∷◌, ◌++◌, length, map, refl, sym, ◌∙◌, ap, subst, arith, All, range_with_len, flat_map, Image, block_at, node_place, leaf_at, level_nodes, root_level, first_child, child_count, body_bytes, leaves, Shape, shape, leaves_some, root_low, nodes_some, ItemHead, ReiserItem, Event, pointer, item_events, held_by, blocks_named, IsNode, FitsHead, Visit, visits_in, BlockPointer, visits_in-append, Each, all_from_each, FitsSample, made, ReadsAs, leaf_items, laid_events, content, laid_content, SamplesKeepGrammar, SamplesFitTheirHeads}
+use Rattle.reiser_make_laws.proofs.Imports.{Bool, ◌≡◌, inl, inr, ℕ, zero, suc, ◌+◌, ◌≤◌, ◌<◌, List, [], ◌∷◌, ◌++◌, length, map, refl, sym, subst, arith, All, range_with_len, flat_map, Image, block_at, node_place, level_nodes, root_level, first_child, child_count, body_bytes, leaves, Shape, shape, leaves_some, root_low, nodes_some, ItemHead, ReiserItem, Event, pointer, item_events, held_by, blocks_named, IsNode, FitsHead, Visit, visits_in, BlockPointer, visits_in-append, Each, all_from_each, FitsSample, made, leaf_items, laid_events, content, laid_content, SamplesKeepGrammar, SamplesFitTheirHeads}
 use Rattle.reiser_make.specs.Items as laid
 use Rattle.reiser_make.specs.declared.sample_item.SampleItem as parts
 use Rattle.reiser_make_laws.proofs.Held.{leaf_held, many_nodes, HasChildren, has_children}
@@ -18,10 +18,7 @@ no_visits (p ∷ ps) = no_visits ps
 
 items_no_visits : (is : List ReiserItem) → visits_in (flat_map item_events is) ≡ []
 items_no_visits [] = refl
-items_no_visits (i ∷ is) =
-    visits_in-append (item_events i) (flat_map item_events is)
-    ∙ ap (λ z. z ++ visits_in (flat_map item_events is)) (no_visits (held_by i.leaf (blocks_named i.head i.body)))
-    ∙ items_no_visits is
+items_no_visits (i ∷ is) = cc (visits_in-append (item_events i) (flat_map item_events is), no_visits (held_by i.leaf (blocks_named i.head i.body)), items_no_visits is)
 
 module _ (number : ℕ) (old : Bool) (blocks : ℕ) (image : Image) (fits : FitsSample number old blocks image) where
   abbrev s : Shape
@@ -46,8 +43,7 @@ module _ (number : ℕ) (old : Bool) (blocks : ℕ) (image : Image) (fits : Fits
   on_grammar : (level m holder : ℕ) → 1 ≤ level → level ≤ root_level count → m < level_nodes count level → Each OnGrammar (visits_in (laid_events s level m holder))
   on_grammar zero m holder low high lt = absurd (omega (arith, low))
   on_grammar (suc zero) m holder low high lt =
-      let reads : ReadsAs s (leaf_at s m) (block_at volume (node_place s 1 m)) = leaf_held number old blocks image fits m lt in
-      (inl (refl, reads.leaf), subst (Each OnGrammar) (sym (items_no_visits (leaf_items s m))) tt)
+      (inl (refl, (leaf_held number old blocks image fits m lt).leaf), subst (Each OnGrammar) (sym (items_no_visits (leaf_items s m))) tt)
   on_grammar (suc (suc k)) m holder low high lt =
       let n : ℕ = level_nodes count (suc k) in
       let block : ℕ = node_place s (suc (suc k)) m in

@@ -1,5 +1,5 @@
 -- A leaf that was written reads back.
-use Rattle.reiser_make_laws.proofs.Imports.{◌≡◌, ℕ, zero, suc, ◌+◌, ◌-◌, ◌*◌, ◌≤◌, ◌<◌, List, [], ◌∷◌, ◌++◌, length, take, drop, replicate, get_or, refl, sym, ◌∙◌, ap, subst, arith, append_assoc, append-nil, length-append, length-take, length-drop, Some, None, All, Option, IsSome, slice_range, drop-cons, drop-append_seam, take-append_seam, take-length, take-append-drop, take_more, get_or-take, get_or-drop, length-replicate, sum_by-cons, sum_by-append, little_number-reads_back, field, head_at, head_of_kind, kind_at, level, count, head_place, body_length, location, body_end, body_at, IsItem, ItemHead, ItemKind, body_bytes, bytes_taken, taken_by, node_room, node_head, heads_bytes, head_bytes, bodies, leaf_bytes, leaf_contents, Shape, SampleItem, IsWritable, ReadsAs, LeavesReadBack}
+use Rattle.reiser_make_laws.proofs.Imports.{◌≡◌, ℕ, zero, suc, ◌+◌, ◌-◌, ◌*◌, ◌≤◌, ◌<◌, List, [], ◌∷◌, ◌++◌, length, take, drop, replicate, get_or, refl, sym, ◌∙◌, ap, subst, arith, append_assoc, append-nil, length-append, length-take, length-drop, Some, None, All, Option, IsSome, slice_range, drop-cons, drop-append_seam, take-append_seam, take-length, take-append-drop, take_more, get_or-drop, length-replicate, sum_by-cons, sum_by-append, little_number-reads_back, field, head_at, head_of_kind, kind_at, level, count, head_place, body_length, location, body_end, body_at, IsItem, ItemHead, ItemKind, body_bytes, bytes_taken, taken_by, node_room, node_head, heads_bytes, head_bytes, bodies, leaf_bytes, leaf_contents, Shape, SampleItem, IsWritable, ReadsAs, LeavesReadBack}
 use Rattle.reiser_make.proofs.Storing.{lengths, head_size}
 use Rattle.reiser_make_laws.proofs.Heads.{HasRoomIn, field_behind, head_behind, head_reads, length_reads, location_reads}
 
@@ -8,8 +8,7 @@ heads_split end [] ys = ap (λ n. heads_bytes n ys) (let same : end ≡ end - le
 heads_split end (x ∷ xs) ys =
     let begin : ℕ = end - x.head.length in
     let below : begin - lengths xs ≡ end - lengths (x ∷ xs) = omega (arith, sum_by-cons (λ (i : SampleItem). i.head.length) x xs) in
-    ap (λ z. head_bytes x.head begin ++ z) (heads_split begin xs ys ∙ ap (λ n. heads_bytes begin xs ++ heads_bytes n ys) below)
-    ∙ sym (append_assoc (head_bytes x.head begin) (heads_bytes begin xs) (heads_bytes (end - lengths (x ∷ xs)) ys))
+    cc (heads_split begin xs ys, append_assoc (head_bytes x.head begin) (heads_bytes begin xs) (heads_bytes (end - lengths (x ∷ xs)) ys))
 
 bodies_split : (s : Shape) (xs ys : List SampleItem) → bodies s (xs ++ ys) ≡ bodies s ys ++ bodies s xs
 bodies_split s [] ys = sym (append-nil (bodies s ys))
@@ -110,14 +109,11 @@ module _ (s : Shape) (items : List SampleItem) (right : AreWritable s items) (ro
     place = omega (arith, length-append front heads_before, length_front, length_heads 4096 before, length-take i items, lt)
 
     pub head_is : head_at bytes (head_place i) ≡ Some own.head
-    head_is =
-        ap (λ b. head_at b (head_place i)) at_head ∙ head_behind (head_place i) (front ++ heads_before) (head_bytes own.head begin ++ back) place
-        ∙ head_reads own.head begin back has_room
+    head_is = cc (at_head, head_behind (head_place i) (front ++ heads_before) (head_bytes own.head begin ++ back) place, head_reads own.head begin back has_room)
 
     pub length_is : body_length bytes i ≡ own.head.length
     length_is =
-        ap (λ b. field 2 b (head_place i + 18)) at_head ∙ field_behind 2 18 (head_place i) (front ++ heads_before) (head_bytes own.head begin ++ back) place
-        ∙ length_reads own.head begin back has_room
+        cc (at_head, field_behind 2 18 (head_place i) (front ++ heads_before) (head_bytes own.head begin ++ back) place, length_reads own.head begin back has_room)
 
     pub location_is : location bytes i ≡ begin
     location_is =
@@ -129,9 +125,6 @@ module _ (s : Shape) (items : List SampleItem) (right : AreWritable s items) (ro
 
     abbrev ahead : List ℕ
     ahead = front ++ (heads_bytes 4096 items ++ (gap ++ bodies s rest))
-
-    right_before : AreWritable s before
-    right_before = λ k e low. subst (IsWritable s) (sym (get_or-take i items k e (omega (arith, low, length-take i items)))) (right k e (omega (arith, low, length-take i items)))
 
     right_rest : AreWritable s rest
     right_rest = λ k e low. subst (IsWritable s) (sym (get_or-drop (suc i) items k e)) (right (suc i + k) e (omega (arith, low, length-drop (suc i) items)))

@@ -7,9 +7,8 @@ pub each_in : {X : Type 0} (P : X → Type 0) (xs : List X) (x : X) → Each P x
 each_in P xs x each among = All-contains P xs x (all_from_each P xs each) among
 
 pub each_take : {X : Type 0} (P : X → Type 0) (n : ℕ) (xs : List X) → Each P xs → Each P (take n xs)
-each_take P zero xs each = tt
-each_take P (suc n) [] each = tt
 each_take P (suc n) (x ∷ xs) each = (each.0, each_take P n xs each.1)
+each_take P _ xs each = tt
 
 pub each_drop : {X : Type 0} (P : X → Type 0) (n : ℕ) (xs : List X) → Each P xs → Each P (drop n xs)
 each_drop P zero xs each = each

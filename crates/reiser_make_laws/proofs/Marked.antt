@@ -122,12 +122,9 @@ or_cases false true c is = inr (inl refl)
 or_cases false false c is = inr (inr is)
 
 map_block_taken : (end b k : ℕ) → 17 < end → b ≡ bitmap_block k → (k ≡ 0) ⊎ (1 ≤ k) → is_taken end b ≡ true
-map_block_taken end b k long is (inl first) =
-    let here : b ≡ 17 = is ∙ ap bitmap_block first in
-    taken_low end b (omega (arith, here, long))
+map_block_taken end b k long is (inl first) = taken_low end b (omega (arith, is ∙ ap bitmap_block first, long))
 map_block_taken end b k long is (inr later) =
-    let here : b ≡ BITS_IN_BLOCK * k = is ∙ block_later k later in
-    taken_whole end b (omega (arith, here))
+    taken_whole end b (omega (arith, is ∙ block_later k later))
 
 own_taken_by : (end b : ℕ) → 8210 < end → ((b == 16) ≡ true) ⊎ (is_bitmap_block b ≡ true) ⊎ ((nat_le 18 b && nat_le b 8210) ≡ true) → is_taken end b ≡ true
 own_taken_by end b long (inl sixteen) = taken_low end b (grind (arith, nat_tests, sixteen, long))

@@ -40,8 +40,7 @@ pub record IsOwnName (number i : ℕ) : Type 0 where
 
 own_by : (number i : ℕ) (b : Bool) → i < number → (i % 10 == 9) ≡ b → IsOwnName number (cond b (i - 1) i)
 own_by number i true lt is =
-    let last : i % 10 ≡ 9 = eqb-true (i % 10) 9 is in
-    record { inside = omega (arith, lt); own = ne_eqb ((i - 1) % 10) 9 (λ same. omega (arith, same, last)) }
+    record { inside = omega (arith, lt); own = ne_eqb ((i - 1) % 10) 9 (λ same. omega (arith, same, eqb-true (i % 10) 9 is)) }
 own_by number i false lt is = record { inside = lt; own = is }
 
 pub named_own : (number i : ℕ) → i < number → IsOwnName number (named_by i)

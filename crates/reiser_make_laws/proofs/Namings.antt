@@ -1,5 +1,5 @@
 -- The names that a reader finds in a sample.
-use Rattle.reiser_make_laws.proofs.Imports.{◌≡◌, ℕ, suc, ◌+◌, ◌-◌, ◌*◌, ◌^◌, ◌≤◌, ◌<◌, Bool, true, false, cond, ◌==◌, ◌||◌, not, List, [], ◌∷◌, ◌++◌, length, map, filter, get_or, refl, sym, ◌∙◌, ap, arith, append-nil, ne_eqb, codes, range_with_len, flat_map, or_from, cond_both, flat_map-map, length-map-range_with_len, ItemHead, ItemKind, Stat, Indirect, Direct, Directory, EntryValue, is_of_name, are_entries, entries, is_further_name, entry, entries_bytes, directory_entry, root_entries, file_entry, directory_entries, items, items_of_content, directory_items, item, pointer_items, byte_items, body_bytes, directory_name, file_name, entry_offset, Shape, directory_count, names_in, object_count, root_id, above_root, directory_id, file_id, named_by, SampleEntry, Name, Symlink, File, Body, Root, Names, Pointers, Bytes, ObjectId, ReiserItem, Each, ObjectKey, Naming, object_key_of, root, is_listed, naming_by, namings_by_kind, namings_in, namings, content, laid_content}
+use Rattle.reiser_make_laws.proofs.Imports.{◌≡◌, ℕ, suc, ◌+◌, ◌-◌, ◌*◌, ◌^◌, ◌≤◌, ◌<◌, Bool, true, false, cond, ◌==◌, ◌||◌, not, List, [], ◌∷◌, ◌++◌, length, map, filter, get_or, refl, sym, ◌∙◌, ap, arith, append-nil, ne_eqb, codes, range_with_len, flat_map, or_from, cond_both, flat_map-map, length-map-range_with_len, ItemHead, ItemKind, Indirect, Direct, Directory, EntryValue, is_of_name, are_entries, entries, is_further_name, entry, entries_bytes, directory_entry, root_entries, file_entry, directory_entries, items, items_of_content, directory_items, item, pointer_items, byte_items, body_bytes, directory_name, file_name, entry_offset, Shape, directory_count, names_in, object_count, root_id, above_root, directory_id, file_id, named_by, SampleEntry, Name, Symlink, File, Body, Root, Names, Pointers, Bytes, ObjectId, ReiserItem, Each, ObjectKey, Naming, object_key_of, root, is_listed, naming_by, namings_by_kind, namings_in, namings, content, laid_content}
 use Rattle.reiser_make.specs.Items as laid
 use Rattle.reiser_make.specs.declared.sample_item.SampleItem as parts
 use Rattle.reiser_make_laws.proofs.Ascending.{each_join, either_each}
@@ -42,20 +42,15 @@ abbrev pub item_of : ItemHead × List ℕ → ReiserItem
 item_of c = record { leaf = 0; head = c.0; body = c.1 }
 
 bare_by : (kind : ItemKind) (i : ReiserItem) → map bare (namings_by_kind kind i) ≡ namings_by_kind kind (item_of (content i))
-bare_by Stat i = refl
-bare_by Indirect i = refl
-bare_by Direct i = refl
 bare_by Directory i = bare_either (are_entries i.head.count i.body) i.leaf (object_key_of i.head) (filter is_listed (entries i.head.count i.body))
+bare_by _ i = refl
 
 abbrev named_in : ItemHead × List ℕ → List Naming
 named_in c = namings_in (item_of c)
 
 bare_namings : (is : List ReiserItem) → map bare (namings is) ≡ flat_map named_in (map content is)
 bare_namings [] = refl
-bare_namings (i ∷ is) =
-    map_split bare (namings_in i) (namings is)
-    ∙ ap (λ z. z ++ map bare (namings is)) (bare_by i.head.kind i)
-    ∙ ap (λ z. named_in (content i) ++ z) (bare_namings is)
+bare_namings (i ∷ is) = cc (map_split bare (namings_in i) (namings is), bare_by i.head.kind i, bare_namings is)
 
 -- the names in an item of the layout
 abbrev laid_in : Shape → parts.SampleItem → List Naming
@@ -198,9 +193,7 @@ module _ (s : Shape) (few : length s.names ≤ 4000) where
       let rows : flat_map object_names (range_with_len 1 dirs) ≡ flat_map (names_row number) (range_with_len 0 dirs) =
       flat_same object_names (names_row number) 1 0 dirs
       (λ j lt. let here : 1 + j ≡ j + 1 = omega arith in let there : j ≡ 0 + j = omega arith in ap object_names here ∙ names_named j lt ∙ ap (names_row number) there) in
-      ap (λ n. flat_map object_names (range_with_len 0 n)) whole
-      ∙ ap (λ z. object_names 0 ++ z) (flat_join object_names 1 dirs number ∙ ap (λ z. flat_map object_names (range_with_len 1 dirs) ++ z) rest ∙ append-nil (flat_map object_names (range_with_len 1 dirs)) ∙ rows)
-      ∙ ap (λ z. z ++ flat_map (names_row number) (range_with_len 0 dirs)) root_named
+      cc (flat_join object_names 1 dirs number, append-nil (flat_map object_names (range_with_len 1 dirs)), root_named)
 
   -- bodies of directories are on the grammar of entries
   pub root_formed : are_entries (2 + dirs) (body_bytes s true Root) ≡ true

@@ -64,9 +64,7 @@ module _ (wanted : ℕ) (all : List DiskChild) (right : All FitsPointer all) (so
     back = flat_map disk_child_bytes (drop (suc i) all) ++ gap
 
     split : flat_map disk_child_bytes all ≡ before ++ (disk_child_bytes own ++ flat_map disk_child_bytes (drop (suc i) all))
-    split =
-        ap (flat_map disk_child_bytes) (sym (take-append-drop i all) ∙ ap (λ z. take i all ++ z) (drop-cons all i d lt))
-        ∙ flat_split disk_child_bytes (take i all) (own ∷ drop (suc i) all)
+    split = cc (take-append-drop i all, drop-cons all i d lt, flat_split disk_child_bytes (take i all) (own ∷ drop (suc i) all))
 
     at_pointer : bytes ≡ (front ++ (keys ++ before)) ++ (disk_child_bytes own ++ back)
     at_pointer =

@@ -61,20 +61,7 @@ abbrev pub directory_stat : ℕ → ℕ → StatData
 directory_stat nlink count = attributes DIRECTORY_MODE nlink (24 * count) System base_time (div_ceil (24 * count) 512) no_direct_byte
 
 directory_room : (nlink count : ℕ) → nlink ≤ 102 → count ≤ 102 → HasStatRoom (directory_stat nlink count)
-directory_room nlink count low few = record {
-  mode = omega arith;
-  attrs = omega arith;
-  nlink = omega (arith, low);
-  size = omega (arith, few);
-  uid = omega arith;
-  gid = omega arith;
-  atime = omega arith;
-  mtime = omega arith;
-  ctime = omega arith;
-  blocks = omega (arith, few);
-  rdev = omega arith;
-  first_direct_byte = omega arith;
-}
+directory_room nlink count low few = omega (arith, low, few)
 
 directory_object : (s : Shape) (found : List ReiserItem) (key : ObjectKey) (id : ObjectId) (nlink count : ℕ) (body : Body) → nlink ≤ 102 → count ≤ 102
     → map content (items_of key found) ≡ map (laid_content s) (directory_items s.old id nlink count body) → IsSampleObject s found key kinds.Directory (directory_stat nlink count)
@@ -90,20 +77,7 @@ abbrev pub file_stat : ℕ → ℕ → ℕ → ℕ → Bool → StatData
 file_stat number i whole rest sparse = attributes 0x81A4 (name_count number i) (4096 * whole + rest) User (base_time + i) (file_units (stored_of whole sparse) rest) (first_direct_of whole rest)
 
 symlink_room : (i : ℕ) → i ≤ 5000 → HasStatRoom (symlink_stat i)
-symlink_room i low = record {
-  mode = omega arith;
-  attrs = omega arith;
-  nlink = omega arith;
-  size = omega arith;
-  uid = omega arith;
-  gid = omega arith;
-  atime = omega (arith, low);
-  mtime = omega (arith, low);
-  ctime = omega (arith, low);
-  blocks = omega arith;
-  rdev = omega arith;
-  first_direct_byte = omega arith;
-}
+symlink_room i low = omega (arith, low)
 
 stored_low : (whole : ℕ) (sparse : Bool) → stored_of whole sparse ≤ whole
 stored_low whole true = omega arith

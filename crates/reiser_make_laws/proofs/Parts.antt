@@ -85,9 +85,7 @@ directory_laid s k lt =
     let not_root : (o == 0) ≡ false = ne_eqb o 0 (λ same. omega (arith, same)) in
     let inside : nat_lt o (dirs + 1) ≡ true = grind (arith, nat_tests, lt) in
     let number : o - 1 ≡ k = omega arith in
-    ap (λ b. cond b (root_items s) (cond (nat_lt o (dirs + 1)) (names_items s (o - 1)) (file_items s i))) not_root
-    ∙ ap (λ b. cond b (names_items s (o - 1)) (file_items s i)) inside
-    ∙ ap (names_items s) number
+    cc
 
 pub file_laid : (s : Shape) (i : ℕ) → laid.items_of_name s (directory_count (length s.names) + 1 + i) ≡ file_items s i
 unfolding laid.items_of_name
@@ -97,9 +95,7 @@ file_laid s i =
     let not_root : (o == 0) ≡ false = ne_eqb o 0 (λ same. omega (arith, same)) in
     let past : nat_lt o (dirs + 1) ≡ false = grind (arith, nat_tests) in
     let number : o - dirs - 1 ≡ i = omega arith in
-    ap (λ b. cond b (root_items s) (cond (nat_lt o (dirs + 1)) (names_items s (o - 1)) (file_items s (o - dirs - 1)))) not_root
-    ∙ ap (λ b. cond b (names_items s (o - 1)) (file_items s (o - dirs - 1))) past
-    ∙ ap (file_items s) number
+    cc
 
 pub directory_at : (s : Shape) (k : ℕ) → k < directory_count (length s.names) → key_at s (k + 1) ≡ directory_key k
 directory_at s k lt =

@@ -1,5 +1,5 @@
 -- No two blocks of a sample go to one place, so each block has what the layout gives.
-use Rattle.reiser_make_laws.proofs.Imports.{◌≡◌, ◌≢◌, ℕ, zero, suc, ◌+◌, ◌-◌, ◌*◌, ◌≤◌, ◌<◌, List, [], ◌∷◌, ◌++◌, length, map, take, get_or, sym, ◌∙◌, ap, subst, arith, slice_index_or, append_assoc, slice_set, range_with_len, flat_map, sum_by, take-length, get_or-set_same, take_more, sum_by-append, BITS_IN_BLOCK, Image, block_at, needed, total, root_level, level_nodes, nodes_below, Placed, laid_over, volume_blocks, system_part, system_row, system_placed, data_part, data_of_name, data_of_content, data_placed, leaf_part, leaf_placed, inner_part, level_part, inner_placed, bitmap_part, bitmap_placed, leaves, place, bitmap_blocks, Shape, stored_before, stored_in, stored_blocks, stored_of, SampleEntry, Name, Symlink, File, root_low, SamplesHoldTheirBlocks}
+use Rattle.reiser_make_laws.proofs.Imports.{◌≡◌, ◌≢◌, ℕ, zero, suc, ◌+◌, ◌-◌, ◌*◌, ◌≤◌, ◌<◌, List, [], ◌∷◌, ◌++◌, length, map, take, get_or, sym, ◌∙◌, ap, subst, arith, slice_index_or, append_assoc, slice_set, range_with_len, flat_map, sum_by, take-length, get_or-set_same, take_more, sum_by-append, BITS_IN_BLOCK, Image, block_at, needed, total, root_level, level_nodes, nodes_below, Placed, laid_over, volume_blocks, system_part, system_row, system_placed, data_part, data_of_name, data_of_content, data_placed, leaf_part, leaf_placed, inner_part, level_part, inner_placed, bitmap_part, bitmap_placed, leaves, place, bitmap_blocks, Shape, stored_before, stored_in, stored_blocks, stored_of, SampleEntry, Name, File, root_low, SamplesHoldTheirBlocks}
 use Rattle.reiser_make_laws.proofs.Blocks.{Away, away-append, away_row, later_keeps, length-set}
 
 -- the blocks of a list go to places of their own
@@ -33,10 +33,6 @@ Climbs low high (p ∷ ps) = (j : ℕ) × (low ≤ j) × (p.0 ≡ place j) × Cl
 climbs_later : (low lower high : ℕ) (ps : List Placed) → lower ≤ low → Climbs low high ps → Climbs lower high ps
 climbs_later low lower high [] under climbs = omega (arith, under, climbs)
 climbs_later low lower high (p ∷ ps) under climbs = (climbs.0, omega (arith, under, climbs.1), climbs.2, climbs.3)
-
-climbs_end : (low high : ℕ) (ps : List Placed) → Climbs low high ps → low ≤ high
-climbs_end low high [] climbs = climbs
-climbs_end low high (p ∷ ps) climbs = omega (arith, climbs.1, climbs_end (climbs.0 + 1) high ps climbs.3)
 
 climbs-append : (low mid high : ℕ) (ps qs : List Placed) → Climbs low mid ps → Climbs mid high qs → Climbs low high (ps ++ qs)
 climbs-append low mid high [] qs first second = climbs_later mid low high qs first second
@@ -98,11 +94,10 @@ climbs_no_map low high needed blocks (p ∷ ps) climbs = (
 
 -- the data, name by name
 data_climbs : (s : Shape) (i : ℕ) (content : SampleEntry) → Climbs (stored_before s.names i) (stored_before s.names i + stored_blocks content) (data_of_content s i content)
-data_climbs s i Name = omega arith
-data_climbs s i Symlink = omega arith
 data_climbs s i (File whole rest sparse) =
     climbs_row (data_placed s i sparse) 0 (stored_of whole sparse) (stored_before s.names i)
     (λ k low high. ap (λ n. place (stored_before s.names i + n)) (let same : k ≡ k - 0 = omega arith in same))
+data_climbs s i _ = omega arith
 
 pub stored_next : (names : List SampleEntry) (i : ℕ) (d : SampleEntry) → i < length names → stored_before names i + stored_blocks (get_or names i d) ≡ stored_before names (i + 1)
 stored_next names i d lt =
@@ -171,10 +166,6 @@ rising_apart f a (suc n) rises =
 row_away : (f : ℕ → Placed) (a n : ℕ) (qs : List Placed) → ((k : ℕ) → a ≤ k → k < a + n → Away (f k).0 qs) → AreAway (map f (range_with_len a n)) qs
 row_away f a zero qs each = tt
 row_away f a (suc n) qs each = (each a (omega arith) (omega arith), row_away f (a + 1) n qs (λ k low high. each k (omega (arith, low)) (omega (arith, high))))
-
-away-join : (ps qs rs : List Placed) → AreAway ps rs → AreAway qs rs → AreAway (ps ++ qs) rs
-away-join [] qs rs first second = second
-away-join (p ∷ ps) qs rs first second = (first.0, away-join ps qs rs first.1 second)
 
 system_no_map : (s : Shape) (needed blocks : ℕ) (b : ℕ) → b < 8211 → Away b (bitmap_part needed blocks)
 system_no_map s needed blocks b low = away_row b (bitmap_placed needed blocks) 1 (bitmap_blocks blocks - 1) (λ k above below. λ same. omega (arith, low, above, same))

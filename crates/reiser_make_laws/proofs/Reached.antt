@@ -1,5 +1,5 @@
 -- The blocks that a walk of a sample reaches: used ones, none of the volume's own, and each once.
-use Rattle.reiser_make_laws.proofs.Imports.{◌≡◌, ◌≢◌, ◌⊎◌, inl, inr, ℕ, zero, suc, ◌+◌, ◌-◌, ◌≤◌, ◌<◌, Bool, List, [], ◌∷◌, ◌++◌, length, map, get_or, refl, sym, ◌∙◌, ap, subst, arith, append-nil, length-append, nat_lt, range_with_len, flat_map, Image, total, node_place, leaf_at, level_nodes, nodes_below, nodes_above, root_level, first_child, end_child, child_count, leaves, place, Shape, shape, stored_in, Event, pointer, item_events, held_by, reached_in, BlockPointer, reached_in-append, Each, Pairs, FitsSample, made, met_item, leaf_items, laid_events}
+use Rattle.reiser_make_laws.proofs.Imports.{◌≡◌, ◌≢◌, ◌⊎◌, inl, inr, ℕ, zero, suc, ◌+◌, ◌-◌, ◌≤◌, ◌<◌, Bool, List, [], ◌∷◌, ◌++◌, length, map, get_or, refl, sym, ◌∙◌, ap, subst, arith, append-nil, length-append, nat_lt, range_with_len, flat_map, Image, total, node_place, leaf_at, level_nodes, nodes_below, nodes_above, root_level, first_child, end_child, child_count, leaves, place, Shape, shape, stored_in, Event, pointer, item_events, held_by, reached_in, BlockPointer, reached_in-append, Each, Pairs, FitsSample, met_item, leaf_items, laid_events}
 use Rattle.reiser_make.specs.Items as laid
 use Rattle.reiser_make.specs.declared.sample_item.SampleItem as parts
 use Rattle.reiser_make_laws.proofs.Ascending.{each_join, each_to, pairs_append}
@@ -19,16 +19,14 @@ data_first s [] = refl
 data_first s (l ∷ ls) = refl
 
 data_rises : (s : Shape) (ls : List (List parts.SampleItem)) (m k : ℕ) → m ≤ k → data_edge s ls m ≤ data_edge s ls k
-data_rises s [] m k low = omega arith
-data_rises s (l ∷ ls) zero k low = omega arith
 data_rises s (l ∷ ls) (suc m) zero low = absurd (omega (arith, low))
 data_rises s (l ∷ ls) (suc m) (suc k) low = omega (arith, data_rises s ls m k (omega (arith, low)))
+data_rises s _ m k low = omega arith
 
 data_most : (s : Shape) (ls : List (List parts.SampleItem)) (m : ℕ) → data_edge s ls m ≤ length (list_blocks s (joined ls))
-data_most s [] m = omega arith
-data_most s (l ∷ ls) zero = omega arith
 data_most s (l ∷ ls) (suc m) =
     omega (arith, data_most s ls m, ap length (flat_split (item_blocks s) l (joined ls)), length-append (list_blocks s l) (list_blocks s (joined ls)))
+data_most s _ m = omega arith
 
 leaf_runs : (s : Shape) (ls : List (List parts.SampleItem)) (a b : ℕ) → Runs a b (list_blocks s (joined ls)) → (m : ℕ) → m < length ls
     → Runs (a + data_edge s ls m) (a + data_edge s ls (suc m)) (list_blocks s (get_or ls m []))
@@ -109,9 +107,6 @@ module _ (number : ℕ) (old : Bool) (blocks : ℕ) (image : Image) (fits : Fits
   abbrev pub s : Shape
   s = shape number old
 
-  abbrev pub volume : Image
-  volume = made s blocks image
-
   abbrev pub count : ℕ
   count = length (leaves s)
 
@@ -152,8 +147,7 @@ module _ (number : ℕ) (old : Bool) (blocks : ℕ) (image : Image) (fits : Fits
   apart : (level a b c d : ℕ) (p q : BlockPointer) → b ≤ c → Below level a b p → Below level c d q → p.block ≢ q.block
   apart level a b c d p q low (to_node k i some up lt from to is) (to_node l j any higher less begin end are) = λ same.
       let both = same_node k i l j some any lt less (sym is ∙ same ∙ are) in
-      let edges : edge count k i ≡ edge count l j = ap (λ n. edge count n i) both.0 ∙ ap (edge count l) both.1 in
-      omega (arith, to, begin, low, edges)
+      omega (arith, to, begin, low, ap (λ n. edge count n i) both.0 ∙ ap (edge count l) both.1)
   apart level a b c d p q low (to_node k i some up lt from to is) (to_data y) = λ same.
       omega (arith, place_same _ _ (sym is ∙ same ∙ y.is), y.high, D_most d)
   apart level a b c d p q low (to_data x) (to_node l j any higher less begin end are) = λ same.
@@ -169,9 +163,8 @@ module _ (number : ℕ) (old : Bool) (blocks : ℕ) (image : Image) (fits : Fits
 
   rows : (level : ℕ) (F : ℕ → List Event) (e : ℕ → ℕ) (a n : ℕ) → ((k : ℕ) → a ≤ k → k < a + suc n → Reaches level (e k) (e (k + 1)) (F k)) → Reaches level (e a) (e (a + suc n)) (flat_map F (range_with_len a (suc n)))
   rows level F e a zero each =
-      let one : Reaches level (e a) (e (a + 1)) (F a) = each a (omega arith) (omega arith) in
       let whole : F a ++ [] ≡ F a = append-nil (F a) in
-      subst (λ (es : List Event). Reaches level (e a) (e (a + 1)) es) (sym whole) one
+      subst (λ (es : List Event). Reaches level (e a) (e (a + 1)) es) (sym whole) (each a (omega arith) (omega arith))
   rows level F e a (suc n) each =
       let more : List Event = flat_map F (range_with_len (a + 1) (suc n)) in
       let one : Reaches level (e a) (e (a + 1)) (F a) = each a (omega arith) (omega arith) in

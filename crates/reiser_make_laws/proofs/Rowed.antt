@@ -19,9 +19,7 @@ use Rattle.reiser_make_laws.proofs.Ways.{IsPath, at_root, at_directory, at_name,
 
 -- a symlink has one name
 one_name : (number j : ℕ) → is_symlink j ≡ true → name_count number j ≡ 1
-one_name number j is =
-    let at : j % 50 ≡ 24 = eqb-true (j % 50) 24 is in
-    ap (λ b. cond (b && nat_le (j + 2) number) 2 1) (ne_eqb (j % 10) 8 (λ same. omega (arith, at, same)))
+one_name number j is = ap (λ b. cond (b && nat_le (j + 2) number) 2 1) (ne_eqb (j % 10) 8 (λ same. omega (arith, eqb-true (j % 50) 24 is, same)))
 
 -- an object's own name is its first
 own_first : (j : ℕ) → is_further_name j ≡ false → named_by j ≡ j

@@ -12,10 +12,9 @@ use Rattle.reiser_make_laws.proofs.Small.{length_contents}
 use Rattle.reiser_make_laws.proofs.Walked.{samples_walked}
 
 none_of : (a b c d : Bool) → a ≡ false → b ≡ false → d ≡ false → (a || (b || (c && d))) ≡ false
-none_of true b c d is-a is-b is-d = cc
-none_of false true c d is-a is-b is-d = cc
 none_of false false true d is-a is-b is-d = is-d
 none_of false false false d is-a is-b is-d = refl
+none_of _ b c d is-a is-b is-d = cc
 
 place_high : (j : ℕ) → 8211 ≤ place j
 unfolding place

@@ -1,9 +1,9 @@
 -- A walk of a sample meets the nodes of its layout.
-use Rattle.reiser_make_laws.proofs.Imports.{◌≡◌, ℕ, zero, suc, ◌+◌, ◌-◌, ◌≤◌, ◌<◌, Bool, true, false, cond, ◌&&◌, List, [], ◌∷◌, ◌++◌, length, map, drop, get_or, refl, sym, ◌∙◌, ap, subst, arith, Some, nat_lt, range_with_len, flat_map, drop-cons, drop-length, nat_tests, get_or-map-range_with_len, length-map-range_with_len, SUPER_BLOCK, Image, block_at, is_marked, needed, node_place, leaf_at, level_nodes, root_level, first_child, child_count, child, children, leaves, Shape, shape, DiskChild, node_below, root_low, nodes_some, leaves_some, is_inner, child_block_at, count, is_leaf, Event, node, item_events, item_at, item_of, events_of, leaf_events, node_events, at_children, tree_events, superblock, used_of, reiser_tree_of, FitsSample, made, ReadsAs, NamesChildren, met_item, leaf_items, laid_events, SamplesAreWalked}
+use Rattle.reiser_make_laws.proofs.Imports.{◌≡◌, ℕ, zero, suc, ◌+◌, ◌-◌, ◌≤◌, ◌<◌, Bool, true, cond, ◌&&◌, List, [], ◌∷◌, ◌++◌, length, map, drop, get_or, refl, sym, ◌∙◌, ap, subst, arith, Some, nat_lt, range_with_len, flat_map, drop-cons, drop-length, nat_tests, get_or-map-range_with_len, length-map-range_with_len, SUPER_BLOCK, Image, block_at, is_marked, needed, node_place, leaf_at, level_nodes, root_level, first_child, child_count, child, children, leaves, Shape, shape, DiskChild, node_below, root_low, nodes_some, leaves_some, is_inner, child_block_at, count, is_leaf, Event, node, item_events, item_at, item_of, events_of, leaf_events, node_events, at_children, tree_events, superblock, used_of, reiser_tree_of, FitsSample, made, ReadsAs, NamesChildren, met_item, leaf_items, laid_events, SamplesAreWalked}
 use Rattle.reiser_volume.proofs.reiser_node.Grammar.{leaf_decides, inner_decides}
 use Rattle.reiser_make.specs.declared.sample_item.SampleItem as parts
 use Rattle.reiser_make_laws.proofs.Cleanness.{HasFields, super_made}
-use Rattle.reiser_make_laws.proofs.Held.{leaf_held, inner_held, many_nodes, HasChildren, has_children}
+use Rattle.reiser_make_laws.proofs.Held.{leaf_held, inner_held, many_nodes, has_children}
 
 -- the items of a leaf from item i on
 leaf_walk : (s : Shape) (b : ℕ) (bytes : List ℕ) (items : List parts.SampleItem) (d : parts.SampleItem) → ReadsAs s items bytes → (i k : ℕ) → i + k ≡ length items
@@ -40,8 +40,7 @@ children_walk f g bytes first total each i (suc k) whole =
 
 opened : {X : Type 0} (a b : Bool) (x y : X) → a ≡ true → b ≡ true → cond (a && b) x y ≡ x
 opened true true x y first second = refl
-opened true false x y first second = cc
-opened false b x y first second = cc
+opened _ b x y first second = cc
 
 module _ (number : ℕ) (old : Bool) (blocks : ℕ) (image : Image) (fits : FitsSample number old blocks image) where
   abbrev pub s : Shape
@@ -89,13 +88,12 @@ module _ (number : ℕ) (old : Bool) (blocks : ℕ) (image : Image) (fits : Fits
       let total : ℕ = child_count n m in
       let named : NamesChildren (suc (suc k)) (children s (suc k) m) bytes = names_children k m high lt in
       let many : 1 < n = many_nodes leaf_count (suc k) (omega arith) (omega (arith, high)) in
-      let has : HasChildren n m = has_children n m (omega (arith, many)) lt in
       let size : length (children s (suc k) m) ≡ total = length-map-range_with_len (child s (suc k)) first total in
       let below : (j : ℕ) → j < total → node_events volume blocks (suc k) b (child_block_at bytes j) ≡ laid_events s (suc k) (first + j) b =
       λ j low_j.
       let d : DiskChild = child s (suc k) 0 in
       ap (node_events volume blocks (suc k) b) (named.blocks j d (omega (arith, low_j, size)) ∙ ap (λ c. c.block) (get_or-map-range_with_len (child s (suc k)) first total j (first + j) d low_j refl) ∙ child_block s (suc k) (first + j))
-      ∙ walk_is (suc k) (first + j) b (omega arith) (omega (arith, high)) (omega (arith, low_j, has.within)) in
+      ∙ walk_is (suc k) (first + j) b (omega arith) (omega (arith, high)) (omega (arith, low_j, (has_children n m (omega (arith, many)) lt).within)) in
       ap (λ z. node (record { block = b; holder = holder }) (suc (suc k)) ∷ z)
       (opened (nat_lt b blocks) (is_inner (suc (suc k)) bytes) _ [] (inside (suc (suc k)) m low high lt) ((inner_decides (suc (suc k)) bytes).1 named.inner)
       ∙ ap (at_children (node_events volume blocks (suc k) b) bytes 0) (named.count ∙ size)
