@@ -1,5 +1,5 @@
 -- What the runs of a function say of it.
-use Rattle.reiser_volume_files.proofs.Imports.{◌≡◌, ◌≢◌, ℕ, zero, suc, ◌+◌, ◌-◌, ◌<◌, ◌≤◌, Bool, true, false, cond, eqb, ltb, leb, List, [], ◌∷◌, Option, Some, None, All, refl, sym, ap, subst, ◌∙◌, arith, inl, inr, div_ceil, AllPairs, false≢true, cases_lt, cases_eq, cond_both, cond-true, cond-false, and_from, and_left, and_right, and_parts, eqb-true, ne_eqb, le-leb, lt-leb, lt-ltb, le-ltb, All-nil, All-cons, All-head, All-tail, All-weaker, ReiserItem, FileRun, RunFrom, Disk, Tail, next_from, is_next, goes_on, run_of, longer, with_block, extended, runs_of, is_in_run, lies_at, IsFileRunBefore, AreRunsOf, block_from, file_runs}
+use Rattle.reiser_volume_files.proofs.Imports.{◌≡◌, ◌≢◌, ℕ, zero, suc, ◌+◌, ◌-◌, ◌<◌, ◌≤◌, true, false, cond, eqb, ltb, leb, List, [], ◌∷◌, Option, Some, None, All, refl, sym, ap, subst, ◌∙◌, arith, inl, inr, div_ceil, AllPairs, false≢true, cases_lt, cases_eq, cond_both, cond-true, cond-false, and_from, and_left, and_right, and_parts, eqb-true, ne_eqb, le-leb, lt-leb, lt-ltb, le-ltb, All-nil, All-cons, All-head, All-tail, All-weaker, ReiserItem, FileRun, RunFrom, Disk, Tail, next_from, is_next, goes_on, run_of, longer, with_block, extended, runs_of, is_in_run, lies_at, IsFileRunBefore, AreRunsOf, block_from, file_runs}
 use Rattle.std.proofs.lemmas.List.Kept.{AllPairs-cons}
 use Rattle.reiser_volume_files.proofs.Joining.{no_runs, runs_more}
 use Rattle.reiser_volume_files.proofs.Placing.{from_past}
@@ -21,16 +21,12 @@ before_run r k h = and_left (leb r.at k) (ltb k (r.at + r.count)) (lt-leb _ _ h)
 
 next_is : (from : RunFrom) (n : ℕ) (other : RunFrom) → is_next from n other ≡ true → next_from from n ≡ other
 next_is (Disk b) n (Disk c) h = ap (λ (x : ℕ). Disk x) (eqb-true (b + n) c h)
-next_is (Disk b) n Tail h = absurd (false≢true h)
-next_is Tail n (Disk c) h = absurd (false≢true h)
 next_is Tail n Tail h = refl
+next_is _ n _ h = absurd (false≢true h)
 
 next_none : (from : RunFrom) → next_from from 0 ≡ from
 next_none (Disk b) = ap (λ (x : ℕ). Disk x) (omega arith)
 next_none Tail = refl
-
-abbrev lies_by : Bool → FileRun → List FileRun → ℕ → Option RunFrom
-lies_by t r runs k = cond t (Some (next_from r.from (k - r.at))) (lies_at runs k)
 
 pub lies_in : (r : FileRun) (runs : List FileRun) (k : ℕ) → is_in_run r k ≡ true → lies_at (r ∷ runs) k ≡ Some (next_from r.from (k - r.at))
 lies_in r runs k h = cond-true (is_in_run r k) (Some (next_from r.from (k - r.at))) (lies_at runs k) h
@@ -70,8 +66,7 @@ old_in_longer r k other =
           elim (cases_lt k (r.at + r.count)) as (λ _. lies_at (longer r ∷ []) k ≡ lies_at (r ∷ []) k) [
             | inl high ↦ lies_in (longer r) [] k (in_run (longer r) k low (omega (arith, high))) ∙ sym (lies_in r [] k (in_run r k low high))
             | inr past ↦
-                let further : r.at + (r.count + 1) ≤ k = omega (arith, past, other) in
-                lies_on (longer r) [] k (past_run (longer r) k further) ∙ sym (lies_on r [] k (past_run r k past))
+                lies_on (longer r) [] k (past_run (longer r) k (omega (arith, past, other))) ∙ sym (lies_on r [] k (past_run r k past))
           ]
     ]
 

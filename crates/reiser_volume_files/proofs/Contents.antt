@@ -35,18 +35,12 @@ by_kind image given kind i n =
     unwrap_or (option_or (direct_byte given n) (direct_by_kind kind i n)) (block_byte image (cond (eqb (named_block given (n / 4096)) 0) (pointer_by_kind kind i (n / 4096)) (named_block given (n / 4096))) (n % 4096))
 
 byte_more : (image : Image) (given : List ReiserItem) (i : ReiserItem) (n : ℕ) → file_byte image (given ++ i ∷ []) n ≡ by_kind image given i.head.kind i n
-byte_more image given i n =
-    ap (λ (o : Option ℕ). unwrap_or o (block_byte image (named_block (given ++ i ∷ []) (n / 4096)) (n % 4096))) (direct_more given i n)
-    ∙ ap (λ (p : ℕ). unwrap_or (option_or (direct_byte given n) (direct_by_kind i.head.kind i n)) (block_byte image p (n % 4096))) (named_more given i (n / 4096))
+byte_more image given i n = cc (direct_more given i n, named_more given i (n / 4096))
 
 -- the byte that a direct item has, where no other one has any
 direct_there : (image : Image) (given : List ReiserItem) (i : ReiserItem) (n : ℕ) → i.head.kind ≡ Direct → first_byte i ≤ n → n < first_byte i + length i.body → All (EndsBy (first_byte i)) given
     → file_byte image (given ++ i ∷ []) n ≡ get_or i.body (n - first_byte i) 0
-direct_there image given i n is low high ends =
-    byte_more image given i n
-    ∙ ap (λ (kind : ItemKind). by_kind image given kind i n) is
-    ∙ ap (λ (o : Option ℕ). unwrap_or (option_or o (direct_by_kind Direct i n)) (block_byte image (cond (eqb (named_block given (n / 4096)) 0) 0 (named_block given (n / 4096))) (n % 4096))) (direct_none (first_byte i) given n ends low)
-    ∙ ap (λ (o : Option ℕ). unwrap_or o (block_byte image (cond (eqb (named_block given (n / 4096)) 0) 0 (named_block given (n / 4096))) (n % 4096))) (covered i n low high)
+direct_there image given i n is low high ends = cc (byte_more image given i n, direct_none (first_byte i) given n ends low, covered i n low high)
 
 named_there : (image : Image) (given : List ReiserItem) (i : ReiserItem) (n : ℕ) → i.head.kind ≡ Indirect → first_byte i ≤ n → All (EndsBy (first_byte i)) given
     → file_byte image (given ++ i ∷ []) n ≡ block_byte image (get_or (pointers i.body) (n / 4096 - first_byte i / 4096) 0) (n % 4096)

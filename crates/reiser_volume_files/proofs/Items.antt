@@ -1,5 +1,5 @@
 -- What one more item makes of the bytes of a file.
-use Rattle.reiser_volume_files.proofs.Imports.{◌≡◌, ◌≢◌, ℕ, ◌+◌, ◌-◌, ◌*◌, ◌/◌, ◌%◌, ◌<◌, ◌≤◌, true, false, cond, eqb, ltb, leb, List, [], ◌∷◌, ◌++◌, length, get_or, Option, Some, None, unwrap_or, All, refl, sym, ap, ◌∙◌, arith, inl, inr, option_or, cases_Bool, and_parts, and_from, cond-true, cond-false, ltb-true, leb-true, lt-ltb, le-leb, lt-leb, cases_lt, eqb-true, get_or_past, All-head, All-tail, Image, ItemKind, Stat, Indirect, Direct, Directory, pointers, pointers_length, ReiserItem, first_byte, byte_count, is_covered, direct_by_kind, direct_byte, pointer_by_kind, named_block, block_byte, file_byte, EndsBy}
+use Rattle.reiser_volume_files.proofs.Imports.{◌≡◌, ◌≢◌, ℕ, ◌+◌, ◌-◌, ◌*◌, ◌/◌, ◌<◌, ◌≤◌, true, false, cond, eqb, ltb, leb, List, [], ◌∷◌, ◌++◌, length, get_or, Option, Some, None, All, refl, sym, ap, ◌∙◌, arith, inl, inr, option_or, cases_Bool, and_parts, and_from, cond-true, cond-false, ltb-true, leb-true, lt-ltb, le-leb, lt-leb, cases_lt, eqb-true, get_or_past, All-head, All-tail, Image, ItemKind, Indirect, Direct, pointers, pointers_length, ReiserItem, first_byte, byte_count, is_covered, direct_by_kind, direct_byte, pointer_by_kind, named_block, file_byte, EndsBy}
 
 -- an item of this kind and body ends at this byte or before, if it has any
 abbrev pub EndsAt : ItemKind → ReiserItem → ℕ → Type 0
@@ -19,16 +19,12 @@ covered i n low high =
     (and_from (leb (first_byte i) n) (ltb n (first_byte i + length i.body)) (le-leb _ _ low) (lt-ltb _ _ high))
 
 pub no_direct_past : (kind : ItemKind) (i : ReiserItem) (n : ℕ) → EndsAt kind i n → direct_by_kind kind i n ≡ None
-no_direct_past Stat i n ends = refl
-no_direct_past Indirect i n ends = refl
 no_direct_past Direct i n ends = uncovered i n (λ low high. let some : length i.body ≢ 0 = λ (e : length i.body ≡ 0). omega (arith, e, low, high) in omega (arith, ends some, low, high))
-no_direct_past Directory i n ends = refl
+no_direct_past _ i n ends = refl
 
 pub no_direct_before : (kind : ItemKind) (i : ReiserItem) (n : ℕ) → n < first_byte i → direct_by_kind kind i n ≡ None
-no_direct_before Stat i n h = refl
-no_direct_before Indirect i n h = refl
 no_direct_before Direct i n h = uncovered i n (λ low high. omega (arith, low, h))
-no_direct_before Directory i n h = refl
+no_direct_before _ i n h = refl
 
 pub pointer_is : (i : ReiserItem) (k : ℕ) → first_byte i / 4096 ≤ k → pointer_by_kind Indirect i k ≡ get_or (pointers i.body) (k - first_byte i / 4096) 0
 pointer_is i k low = cond-true (leb (first_byte i / 4096) k) (get_or (pointers i.body) (k - first_byte i / 4096) 0) 0 (le-leb _ _ low)
@@ -41,23 +37,18 @@ no_pointer_by i k ends =
     ]
 
 pub no_pointer_past : (kind : ItemKind) (i : ReiserItem) (n : ℕ) → EndsAt kind i n → pointer_by_kind kind i (n / 4096) ≡ 0
-no_pointer_past Stat i n ends = refl
 no_pointer_past Indirect i n ends =
     elim (cases_lt 0 (length i.body / 4)) as (λ _. pointer_by_kind Indirect i (n / 4096) ≡ 0) [
       | inl some ↦
           let much : 4096 * (length i.body / 4) ≢ 0 = λ (e : 4096 * (length i.body / 4) ≡ 0). omega (arith, e, some) in
-          let end : first_byte i + 4096 * (length i.body / 4) ≤ n = ends much in
-          no_pointer_by i (n / 4096) (λ h. omega (arith, end))
+          no_pointer_by i (n / 4096) (λ h. omega (arith, ends much))
       | inr none ↦ no_pointer_by i (n / 4096) (λ h. omega (arith, none, h))
     ]
-no_pointer_past Direct i n ends = refl
-no_pointer_past Directory i n ends = refl
+no_pointer_past _ i n ends = refl
 
 pub no_pointer_before : (kind : ItemKind) (i : ReiserItem) (k : ℕ) → k < first_byte i / 4096 → pointer_by_kind kind i k ≡ 0
-no_pointer_before Stat i k h = refl
 no_pointer_before Indirect i k h = no_pointer_by i k (λ low. absurd (omega (arith, low, h)))
-no_pointer_before Direct i k h = refl
-no_pointer_before Directory i k h = refl
+no_pointer_before _ i k h = refl
 
 -- past the end of all items there is nothing
 pub direct_none : (b : ℕ) → (items : List ReiserItem) (n : ℕ) → All (EndsBy b) items → b ≤ n → direct_byte items n ≡ None
@@ -123,6 +114,4 @@ same_named items i k none = named_more items i k ∙ ap (λ (p : ℕ). or_zero (
 -- an item that has nothing of a byte leaves it as it is
 pub same_byte : (image : Image) (items : List ReiserItem) (i : ReiserItem) (n : ℕ) → direct_by_kind i.head.kind i n ≡ None → pointer_by_kind i.head.kind i (n / 4096) ≡ 0
     → file_byte image (items ++ i ∷ []) n ≡ file_byte image items n
-same_byte image items i n none zero_there =
-    ap (λ (o : Option ℕ). unwrap_or o (block_byte image (named_block (items ++ i ∷ []) (n / 4096)) (n % 4096))) (same_direct items i n none)
-    ∙ ap (λ (p : ℕ). unwrap_or (direct_byte items n) (block_byte image p (n % 4096))) (same_named items i (n / 4096) zero_there)
+same_byte image items i n none zero_there = cc (same_direct items i n none, same_named items i (n / 4096) zero_there)

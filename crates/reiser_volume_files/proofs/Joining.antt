@@ -4,19 +4,15 @@ use Rattle.reiser_volume_files.proofs.Imports.{◌≡◌, ◌≢◌, ℕ, zero, 
 -- the last run goes on
 pub run_grown : (xs : List FileRun) (n : ℕ) (d : FileRun) (k : ℕ) (from : RunFrom) → n + 1 ≡ length xs → goes_on (get_or xs n d) k from ≡ true
     → set xs n (longer (get_or xs n d)) ≡ with_block xs k from
-run_grown [] n d k from last on = absurd (omega (arith, last))
 run_grown (r ∷ []) zero d k from last on = sym (cond-true (goes_on r k from) (longer r ∷ []) (r ∷ run_of k from ∷ []) on)
-run_grown (r ∷ []) (suc n) d k from last on = absurd (omega (arith, last))
-run_grown (r ∷ (s ∷ xs)) zero d k from last on = absurd (omega (arith, last))
 run_grown (r ∷ (s ∷ xs)) (suc n) d k from last on = ap (λ rs. r ∷ rs) (run_grown (s ∷ xs) n d k from (omega (arith, last)) on)
+run_grown _ n d k from last on = absurd (omega (arith, last))
 
 -- it does not
 pub run_begun : (xs : List FileRun) (n : ℕ) (d : FileRun) (k : ℕ) (from : RunFrom) → n + 1 ≡ length xs → goes_on (get_or xs n d) k from ≡ false → xs ++ run_of k from ∷ [] ≡ with_block xs k from
-run_begun [] n d k from last off = absurd (omega (arith, last))
 run_begun (r ∷ []) zero d k from last off = sym (cond-false (goes_on r k from) (longer r ∷ []) (r ∷ run_of k from ∷ []) off)
-run_begun (r ∷ []) (suc n) d k from last off = absurd (omega (arith, last))
-run_begun (r ∷ (s ∷ xs)) zero d k from last off = absurd (omega (arith, last))
 run_begun (r ∷ (s ∷ xs)) (suc n) d k from last off = ap (λ rs. r ∷ rs) (run_begun (s ∷ xs) n d k from (omega (arith, last)) off)
+run_begun _ n d k from last off = absurd (omega (arith, last))
 
 -- there is none
 pub first_run : (xs : List FileRun) (k : ℕ) (from : RunFrom) → length xs ≡ 0 → xs ++ run_of k from ∷ [] ≡ with_block xs k from

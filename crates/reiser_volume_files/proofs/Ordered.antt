@@ -1,9 +1,8 @@
 -- The order of the items of one object.
 use Rattle.reiser_volume_files.proofs.Imports.{◌≡◌, ℕ, ◌<◌, ◌≤◌, true, cond, eqb, ltb, List, get_or, All, sym, ap, ◌∙◌, arith, inl, inr, AllPairs, false≢true, cases_lt, cond-true, cond-false, le-ltb, ne_eqb, eq-eqb, All-get_or, ItemHead, ReiserItem, first_byte, IsItemOf, AreInOrder}
-use Rattle.std.specs.declared.cmp.Ordering.{Ordering}
 use Rattle.std.specs.declared.cmp.Ordering.TheVariants.{Less, Equal, Greater}
-use Rattle.std.specs.Ordering.{nat_cmp, ordering_then, is_lt}
-use Rattle.reiser_walk.specs.reiser_items.Order.{kind_number, key_order}
+use Rattle.std.specs.Ordering.{nat_cmp, is_lt}
+use Rattle.reiser_walk.specs.reiser_items.Order.{key_order}
 
 same_numbers : (x y : ℕ) → x ≡ y → nat_cmp x y ≡ Equal
 same_numbers x y is = cond-false (ltb x y) Less (cond (eqb x y) Equal Greater) (le-ltb x y (omega (arith, is))) ∙ cond-true (eqb x y) Equal Greater (eq-eqb x y is)
@@ -15,10 +14,7 @@ greater_number x y h =
 
 -- a key is not below one with a lower offset
 not_below : (a b : ItemHead) → a.dir ≡ b.dir → a.object ≡ b.object → b.offset < a.offset → key_order a b ≡ Greater
-not_below a b dir object h =
-    ap (λ (o : Ordering). ordering_then (ordering_then (ordering_then o (nat_cmp a.object b.object)) (nat_cmp a.offset b.offset)) (nat_cmp (kind_number a.kind) (kind_number b.kind))) (same_numbers a.dir b.dir dir)
-    ∙ ap (λ (o : Ordering). ordering_then (ordering_then o (nat_cmp a.offset b.offset)) (nat_cmp (kind_number a.kind) (kind_number b.kind))) (same_numbers a.object b.object object)
-    ∙ ap (λ (o : Ordering). ordering_then o (nat_cmp (kind_number a.kind) (kind_number b.kind))) (greater_number a.offset b.offset h)
+not_below a b dir object h = cc (same_numbers a.dir b.dir dir, same_numbers a.object b.object object, greater_number a.offset b.offset h)
 
 pub keys_order : (dir object : ℕ) (items : List ReiserItem) → All (IsItemOf dir object) items → AllPairs (λ i j. is_lt (key_order i.head j.head) ≡ true) items → AreInOrder items
 keys_order dir object items all ascending = λ i j d low high.

@@ -1,5 +1,5 @@
 -- What one more item makes of where the blocks of a file lie.
-use Rattle.reiser_volume_files.proofs.Imports.{◌≡◌, ℕ, ◌+◌, ◌-◌, ◌*◌, ◌/◌, ◌%◌, ◌<◌, ◌≤◌, min, max, Bool, true, false, ◌||◌, cond, eqb, ltb, List, [], ◌∷◌, ◌++◌, length, get_or, Some, None, All, refl, sym, ap, subst, ◌∙◌, arith, inl, inr, list_any, cases_lt, cond-true, cond-false, lt-ltb, le-ltb, or_right, All-head, All-tail, ItemKind, Stat, Indirect, Direct, Directory, pointers, ReiserItem, Tail, first_byte, byte_count, pointer_by_kind, named_block, EndsBy, AlignedByKind, MayFollow, holds_by_kind, is_held, disk_or_hole, block_from, OverlaysTail, OverlaysDisks}
+use Rattle.reiser_volume_files.proofs.Imports.{◌≡◌, ℕ, ◌+◌, ◌-◌, ◌*◌, ◌/◌, ◌%◌, ◌<◌, ◌≤◌, min, max, Bool, true, false, ◌||◌, cond, eqb, ltb, List, [], ◌∷◌, ◌++◌, length, get_or, Some, None, All, refl, sym, ap, subst, ◌∙◌, arith, inl, inr, list_any, cases_lt, cond-true, cond-false, lt-ltb, le-ltb, or_right, All-head, All-tail, ItemKind, Indirect, Direct, pointers, ReiserItem, Tail, first_byte, byte_count, pointer_by_kind, named_block, EndsBy, AlignedByKind, MayFollow, holds_by_kind, is_held, disk_or_hole, block_from, OverlaysTail, OverlaysDisks}
 use Rattle.reiser_volume_files.proofs.Items.{EndsAt, pointer_is, no_pointer_past, no_pointer_before, named_none, named_more, same_named}
 use Rattle.reiser_volume_files.proofs.Contents.{count_direct, count_indirect}
 
@@ -23,11 +23,9 @@ same_held items i size k none = held_more items i size k ∙ ap (λ (b : Bool). 
 
 -- no byte of the block is one of the item's
 pub not_held : (kind : ItemKind) (i : ReiserItem) (size k : ℕ) → min (first_byte i + byte_count kind i.body) (min (4096 * k + 4096) size) ≤ max (first_byte i) (4096 * k) → holds_by_kind kind i size k ≡ false
-not_held Stat i size k none = refl
-not_held Indirect i size k none = refl
 not_held Direct i size k none =
     le-ltb (max (first_byte i) (4096 * k)) (min (min (first_byte i + length i.body) (4096 * k + 4096)) size) (omega (arith, none))
-not_held Directory i size k none = refl
+not_held _ i size k none = refl
 
 pub not_held_past : (kind : ItemKind) (i : ReiserItem) (size k : ℕ) → EndsAt kind i (4096 * k) → holds_by_kind kind i size k ≡ false
 not_held_past kind i size k ends =
@@ -50,9 +48,7 @@ from_past items size k h = cond-false (ltb (4096 * k) size) (cond (is_held items
 
 -- an item that has nothing of a block leaves it where it is
 pub same_from : (items : List ReiserItem) (i : ReiserItem) (size k : ℕ) → holds_by_kind i.head.kind i size k ≡ false → pointer_by_kind i.head.kind i k ≡ 0 → block_from (items ++ i ∷ []) size k ≡ block_from items size k
-same_from items i size k none zero_there =
-    ap (λ (t : Bool). cond (ltb (4096 * k) size) (cond t (Some Tail) (disk_or_hole (named_block (items ++ i ∷ []) k))) None) (same_held items i size k none)
-    ∙ ap (λ (b : ℕ). cond (ltb (4096 * k) size) (cond (is_held items size k) (Some Tail) (disk_or_hole b)) None) (same_named items i k zero_there)
+same_from items i size k none zero_there = cc (same_held items i size k none, same_named items i k zero_there)
 
 pub both_from_past : (items : List ReiserItem) (i : ReiserItem) (size k : ℕ) → size ≤ 4096 * k → block_from (items ++ i ∷ []) size k ≡ block_from items size k
 both_from_past items i size k h = from_past (items ++ i ∷ []) size k h ∙ sym (from_past items size k h)
@@ -70,9 +66,7 @@ empty_from given i size none k = sym (same_from given i size k (not_held_past i.
 
 -- past the end of all items there is nothing
 pub nothing_from : (given : List ReiserItem) (size b k : ℕ) → All (EndsBy b) given → b ≤ 4096 * k → block_from given size k ≡ None
-nothing_from given size b k ends h =
-    ap (λ (t : Bool). cond (ltb (4096 * k) size) (cond t (Some Tail) (disk_or_hole (named_block given k))) None) (held_none b given size k ends h)
-    ∙ ap (λ (p : ℕ). cond (ltb (4096 * k) size) (disk_or_hole p) None) (named_none_at b given k ends h) ∙ either (ltb (4096 * k) size)
+nothing_from given size b k ends h = cc (held_none b given size k ends h, named_none_at b given k ends h, either (ltb (4096 * k) size))
   where
     either : (t : Bool) → cond t (disk_or_hole 0) None ≡ None
     either true = refl

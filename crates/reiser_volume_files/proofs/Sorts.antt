@@ -1,5 +1,5 @@
 -- Each file block is of one sort.
-use Rattle.reiser_volume_files.proofs.Imports.{◌≡◌, ◌≢◌, ℕ, suc, ◌+◌, ◌-◌, ◌*◌, ◌/◌, ◌%◌, ◌<◌, ◌≤◌, min, max, true, false, cond, eqb, ltb, List, [], ◌∷◌, ◌++◌, length, get_or, take, replicate, Option, Some, None, unwrap_or, All, refl, sym, ap, subst, ◌∙◌, arith, inl, inr, Contains, option_or, false≢true, cases_Bool, cases_lt, cases_eq, cases_order, or_cases, or_parts, cond-true, cond-false, ltb-true, ltb-false, lt-ltb, le-ltb, ne_eqb, get_or_default, get_or_past, get_or-take, get_or_append_left, get_or-append_right, get_or-replicate, length-take, length-append, length-replicate, All-get_or, All-head, All-tail, Contains-get_or, Image, block_at, ItemKind, Stat, Indirect, Direct, Directory, pointers, pointers_length, ReiserItem, bytes_are, byte_at, length_bytes, same_block, zero_block, below_size, past_size, RunFrom, Disk, Tail, first_byte, byte_count, direct_by_kind, direct_byte, pointer_by_kind, named_block, block_byte, file_byte, content, direct_content, bytes_by, file_block, tail_block, file_bytes, target_bytes, IsAligned, AlignedByKind, holds_by_kind, is_held, disk_or_hole, block_from, SharesByte, AreItemsApart, up_to_size, held_from, IsNoIndirect, IsNamedBlock}
+use Rattle.reiser_volume_files.proofs.Imports.{◌≡◌, ◌≢◌, ℕ, suc, ◌+◌, ◌-◌, ◌*◌, ◌/◌, ◌%◌, ◌<◌, ◌≤◌, min, max, true, false, cond, eqb, ltb, List, [], ◌∷◌, ◌++◌, length, get_or, take, replicate, Option, Some, None, unwrap_or, All, refl, sym, ap, subst, ◌∙◌, arith, inl, inr, Contains, option_or, false≢true, cases_Bool, cases_lt, cases_eq, cases_order, or_cases, or_parts, cond-true, cond-false, ltb-true, ltb-false, lt-ltb, le-ltb, ne_eqb, get_or_default, get_or_past, get_or-take, get_or_append_left, get_or-append_right, get_or-replicate, length-take, length-append, length-replicate, All-get_or, All-head, All-tail, Contains-get_or, Image, block_at, ItemKind, Indirect, Direct, pointers, pointers_length, ReiserItem, bytes_are, byte_at, length_bytes, same_block, zero_block, below_size, past_size, RunFrom, Disk, Tail, first_byte, byte_count, direct_by_kind, direct_byte, pointer_by_kind, named_block, block_byte, file_byte, content, direct_content, bytes_by, file_block, tail_block, file_bytes, target_bytes, IsAligned, AlignedByKind, holds_by_kind, is_held, disk_or_hole, block_from, SharesByte, AreItemsApart, up_to_size, held_from, IsNoIndirect, IsNamedBlock}
 use Rattle.reiser_walk.specs.vol_block.Volume.{zeros}
 use Rattle.reiser_volume_files.proofs.Items.{uncovered, pointer_is, no_pointer_before}
 use Rattle.reiser_volume_files.proofs.Contents.{count_direct, count_indirect}
@@ -11,10 +11,8 @@ record HoldsOf (size k : ℕ) (i : ReiserItem) : Type 0 where
   some : max (first_byte i) (4096 * k) < min (min (first_byte i + length i.body) (4096 * k + 4096)) size
 
 holds_by : (kind : ItemKind) (i : ReiserItem) (size k : ℕ) → holds_by_kind kind i size k ≡ true → (kind ≡ Direct) × (max (first_byte i) (4096 * k) < min (min (first_byte i + length i.body) (4096 * k + 4096)) size)
-holds_by Stat i size k h = absurd (false≢true h)
-holds_by Indirect i size k h = absurd (false≢true h)
 holds_by Direct i size k h = (refl, ltb-true _ _ h)
-holds_by Directory i size k h = absurd (false≢true h)
+holds_by _ i size k h = absurd (false≢true h)
 
 -- an indirect item that names a block for this one
 pub record NamesOf (k : ℕ) (i : ReiserItem) : Type 0 where
@@ -36,10 +34,8 @@ names_direct i k some =
     ]
 
 names_kind : (kind : ItemKind) (i : ReiserItem) (k : ℕ) → pointer_by_kind kind i k ≢ 0 → kind ≡ Indirect
-names_kind Stat i k some = absurd (some refl)
 names_kind Indirect i k some = refl
-names_kind Direct i k some = absurd (some refl)
-names_kind Directory i k some = absurd (some refl)
+names_kind _ i k some = absurd (some refl)
 
 names_of : (i : ReiserItem) (k : ℕ) → pointer_by_kind i.head.kind i k ≢ 0 → NamesOf k i
 names_of i k some =
@@ -94,14 +90,13 @@ shared : (size k : ℕ) (d i : ReiserItem) → IsAligned i → HoldsOf size k d 
 shared size k d i aligned holds names =
     let offset : i.head.offset % 4096 ≡ 1 = subst (λ (kind : ItemKind). AlignedByKind kind i.head.offset) names.kind aligned in
     let whole : 4096 * (first_byte i / 4096) ≡ first_byte i = omega (arith, offset) in
-    let counted : byte_count i.head.kind i.body ≡ 4096 * (length i.body / 4) = count_indirect i names.kind in
     let held : byte_count d.head.kind d.body ≡ length d.body = count_direct d holds.kind in
     record {
       byte = max (first_byte d) (4096 * k);
       first_from = omega arith;
       first_to = omega (arith, holds.some, held);
       second_from = omega (arith, names.from, whole);
-      second_to = omega (arith, holds.some, names.to, whole, counted);
+      second_to = omega (arith, holds.some, names.to, whole, count_indirect i names.kind);
     }
 
 turned : (i j : ReiserItem) → SharesByte i j → SharesByte j i
@@ -133,12 +128,10 @@ one_sort items size k apart aligned held =
     ]
 
 unheld : (kind : ItemKind) (i : ReiserItem) (size k n : ℕ) → holds_by_kind kind i size k ≡ false → 4096 * k ≤ n → n < 4096 * k + 4096 → n < size → direct_by_kind kind i n ≡ None
-unheld Stat i size k n none from to below = refl
-unheld Indirect i size k n none from to below = refl
 unheld Direct i size k n none from to below =
     let apart = ltb-false (max (first_byte i) (4096 * k)) (min (min (first_byte i + length i.body) (4096 * k + 4096)) size) none in
     uncovered i n (λ low high. omega (arith, apart, from, to, below, low, high))
-unheld Directory i size k n none from to below = refl
+unheld _ i size k n none from to below = refl
 
 no_direct : (items : List ReiserItem) (size k n : ℕ) → is_held items size k ≡ false → 4096 * k ≤ n → n < 4096 * k + 4096 → n < size → direct_byte items n ≡ None
 no_direct [] size k n none from to below = refl
@@ -152,10 +145,7 @@ by_block : (image : Image) (items : List ReiserItem) (size k n : ℕ) → is_hel
 by_block image items size k n none from to below =
     let place : n / 4096 ≡ k = omega (arith, from, to) in
     let rest : n % 4096 ≡ n - 4096 * k = omega (arith, from, to) in
-    below_size (file_byte image items) n size below
-    ∙ ap (λ (o : Option ℕ). unwrap_or o (block_byte image (named_block items (n / 4096)) (n % 4096))) (no_direct items size k n none from to below)
-    ∙ ap (λ (j : ℕ). block_byte image (named_block items j) (n % 4096)) place
-    ∙ ap (λ (r : ℕ). block_byte image (named_block items k) r) rest
+    cc (below_size (file_byte image items) n size below, no_direct items size k n none from to below)
 
 -- a block of n bytes up to a place, and zeros from there on
 padded_at : (n cut j : ℕ) (bytes : List ℕ) → j < n → get_or (take n (take cut bytes ++ replicate n 0)) j 0 ≡ cond (ltb j cut) (get_or bytes j 0) 0
@@ -176,9 +166,7 @@ padded_at n cut j bytes h =
 padded_length : (n cut : ℕ) (bytes : List ℕ) → length (take n (take cut bytes ++ replicate n 0)) ≡ n
 padded_length n cut bytes =
     let none : ℕ = 0 in
-    let pad : length (replicate n none) ≡ n = length-replicate n none in
-    let all : length (take cut bytes ++ replicate n none) ≡ length (take cut bytes) + length (replicate n none) = length-append (take cut bytes) (replicate n none) in
-    length-take n (take cut bytes ++ replicate n 0) ∙ omega (arith, all, pad)
+    length-take n (take cut bytes ++ replicate n 0) ∙ omega (arith, length-append (take cut bytes) (replicate n none), length-replicate n none)
 
 padded_are : (n cut at : ℕ) (bytes : List ℕ) (f : ℕ → ℕ) → ((j : ℕ) → j < n → f (at + j) ≡ cond (ltb j cut) (get_or bytes j 0) 0) → take n (take cut bytes ++ replicate n 0) ≡ bytes_by n f at
 padded_are n cut at bytes f is = bytes_are n f at (take n (take cut bytes ++ replicate n 0)) (padded_length n cut bytes) (λ j h. padded_at n cut j bytes h ∙ sym (is j h))

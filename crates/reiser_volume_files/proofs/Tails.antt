@@ -1,5 +1,5 @@
 -- What direct items hold of a file.
-use Rattle.reiser_volume_files.proofs.Imports.{◌≡◌, ◌≢◌, ℕ, ◌+◌, ◌-◌, ◌<◌, ◌≤◌, min, cond, ltb, List, [], ◌∷◌, ◌++◌, length, get_or, take, Option, None, unwrap_or, All, sym, ap, ◌∙◌, arith, inl, inr, ◌⊎◌, option_or, cases_lt, get_or-take, length-take, ItemKind, Stat, Indirect, Direct, Directory, ReiserItem, Overlays, same_block, below_size, past_size, first_byte, byte_count, direct_by_kind, direct_byte, direct_content, tail_block, EndsBy, MayFollow}
+use Rattle.reiser_volume_files.proofs.Imports.{◌≡◌, ◌≢◌, ℕ, ◌+◌, ◌-◌, ◌<◌, ◌≤◌, min, cond, ltb, List, [], ◌∷◌, ◌++◌, length, get_or, take, Option, None, unwrap_or, All, sym, ap, ◌∙◌, arith, inl, inr, ◌⊎◌, cases_lt, get_or-take, length-take, ItemKind, Stat, Indirect, Direct, Directory, ReiserItem, Overlays, same_block, below_size, past_size, first_byte, byte_count, direct_by_kind, direct_byte, direct_content, tail_block, EndsBy, MayFollow}
 use Rattle.reiser_volume_files.proofs.Items.{covered, no_direct_past, no_direct_before, direct_none, direct_more, same_direct}
 use Rattle.reiser_volume_files.proofs.Contents.{count_direct}
 
@@ -11,11 +11,7 @@ same_held_byte given i size n none = ap (λ (o : Option ℕ). cond (ltb n size) 
 
 held_there : (given : List ReiserItem) (i : ReiserItem) (n : ℕ) → i.head.kind ≡ Direct → first_byte i ≤ n → n < first_byte i + length i.body → All (EndsBy (first_byte i)) given
     → held_byte (given ++ i ∷ []) n ≡ get_or i.body (n - first_byte i) 0
-held_there given i n is low high ends =
-    ap (λ (o : Option ℕ). unwrap_or o 0) (direct_more given i n)
-    ∙ ap (λ (kind : ItemKind). unwrap_or (option_or (direct_byte given n) (direct_by_kind kind i n)) 0) is
-    ∙ ap (λ (o : Option ℕ). unwrap_or (option_or o (direct_by_kind Direct i n)) 0) (direct_none (first_byte i) given n ends low)
-    ∙ ap (λ (o : Option ℕ). unwrap_or o 0) (covered i n low high)
+held_there given i n is low high ends = cc (direct_more given i n, direct_none (first_byte i) given n ends low, covered i n low high)
 
 -- what a direct item adds
 pub tail_overlays : (given : List ReiserItem) (i : ReiserItem) (size : ℕ) → i.head.kind ≡ Direct → MayFollow given i

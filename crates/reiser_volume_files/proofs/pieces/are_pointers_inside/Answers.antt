@@ -4,8 +4,7 @@ use Rattle.reiser_volume_files.proofs.pieces.are_pointers_inside.Goals as goal
 
 pub loop-j-preserved : goal.loop-j-preserved
 loop-j-preserved c =
-    let many = pointers_length c.args.body.now in
-    list_all_more (λ b. is_inside b c.args.blocks) (pointers c.args.body.now) c.loop-j.j 0 (omega (arith, many, c.loop-j-test.true))
+    list_all_more (λ b. is_inside b c.args.blocks) (pointers c.args.body.now) c.loop-j.j 0 (omega (arith, pointers_length c.args.body.now, c.loop-j-test.true))
     ∙ ap (λ (t : Bool). t && is_inside (get_or (pointers c.args.body.now) c.loop-j.j 0) c.args.blocks) c.loop-j.invariant
     ∙ ap (λ (b : ℕ). is_inside b c.args.blocks) (sym c.pointer.ensures) ∙ sym c.is_inside.ensures ∙ c.if-not-is_inside.false
 
