@@ -1,0 +1,6 @@
+use Rattle.std.specs.Prelude.{take, All}
+use Rattle.btr_check_rules.specs.Groups.{IsChunkOn}
+use Rattle.btr_check.proofs.chunks.invalid_chunk.Given as goal
+
+abbrev pub invariant-loop-c : goal.invariant-loop-c
+invariant-loop-c l = All (IsChunkOn l.sup) (take l.c-index l.chunks)

@@ -1,0 +1,7 @@
+use Rattle.std.specs.Prelude.{◌≡◌, drop}
+use Rattle.std.specs.List.{list_any}
+use Rattle.btr_check.specs.Read.{is_extent_of}
+use Rattle.btr_check.proofs.extents.has_extent.Given as goal
+
+abbrev pub invariant-loop-e : goal.invariant-loop-e
+invariant-loop-e l = list_any (is_extent_of l.c l.s) (drop l.e-index l.extents) ≡ list_any (is_extent_of l.c l.s) l.extents

@@ -1,0 +1,6 @@
+use Rattle.std.specs.Prelude.{◌≡◌, map, take}
+use Rattle.btr_check_rules.specs.Groups.{chunk_span}
+use Rattle.btr_check.proofs.stripes.chunk_spans.Given as goal
+
+abbrev pub invariant-loop-c : goal.invariant-loop-c
+invariant-loop-c l = l.spans.items ≡ map chunk_span (take l.c-index l.chunks)

@@ -1,0 +1,7 @@
+use Rattle.std.specs.Prelude.{◌≡◌, ◌+◌, take}
+use Rattle.std.specs.List.{sum_by}
+use Rattle.btr_check.specs.declared.found.GroupAt.{GroupAt}
+use Rattle.btr_check.proofs.totals.used_is.Given as goal
+
+abbrev pub invariant-loop-g : goal.invariant-loop-g
+invariant-loop-g l = l.left + sum_by (λ (g : GroupAt). g.group.used) (take l.g-index l.groups) ≡ l.total

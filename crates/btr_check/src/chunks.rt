@@ -1,0 +1,56 @@
+// What Linux asks of each chunk by itself.
+ghost use Rattle.std.specs.Prelude.{◌≡◌, All};
+ghost use Rattle.btr_check_rules.specs.Groups.{IsChunkOn};
+ghost use Rattle.btr_check.specs.Failing.{Answers, FailsOf};
+ghost use Rattle.btr_check.specs.Tests.{is_chunk, is_second, is_stripe};
+ghost use Rattle.btr_reader.specs.declared.chunk.ChunkAt.{ChunkAt as Chunk};
+
+use btr_reader::ChunkAt;
+use btr_space_items::Stripe;
+use btr_super::Super;
+
+/// Whether a stripe of so many bytes is on the volume's device, and lies within its bytes.
+fn is_stripe(sup: &Super, length: u64, stripe: &Stripe) -> bool
+    ensures { result ≡ is_stripe sup.now length stripe.now }
+{
+    stripe.devid == sup.dev_item.devid
+        && stripe.device_uuid == sup.dev_item.uuid
+        && stripe.offset % 4096 == 0
+        && stripe.offset as u128 + length as u128 <= sup.total_bytes as u128
+}
+
+/// The same of a second stripe, if there is one.
+fn is_second(sup: &Super, length: u64, stripe: &Option<Stripe>) -> bool
+    ensures { result ≡ is_second sup.now length stripe.now }
+{
+    match stripe {
+        Some(stripe) => is_stripe(sup, length, stripe),
+        None => true,
+    }
+}
+
+/// Whether Linux takes a chunk: by its sizes, and by where its stripes lie.
+fn is_chunk(sup: &Super, c: &ChunkAt) -> bool
+    ensures { result ≡ is_chunk sup.now c.now }
+{
+    c.chunk.sector_size == 4096
+        && c.chunk.stripe_len == 65536
+        && c.chunk.length != 0
+        && c.logical % 4096 == 0
+        && c.chunk.length % 4096 == 0
+        && c.logical as u128 + c.chunk.length as u128 <= u64::MAX as u128
+        && is_stripe(sup, c.chunk.length, &c.chunk.stripe)
+        && is_second(sup, c.chunk.length, &c.mirror)
+}
+
+/// The address of the first chunk that Linux would not take; None where there is none.
+pub fn invalid_chunk(sup: &Super, chunks: &[ChunkAt]) -> Option<u64>
+    ensures { Answers (All (IsChunkOn sup.now) chunks.now) (FailsOf (λ (c : Chunk). c.logical) (IsChunkOn sup.now) chunks.now) result }
+{
+    for c in chunks {
+        if !is_chunk(sup, c) {
+            return Some(c.logical);
+        }
+    }
+    None
+}
