@@ -13,13 +13,13 @@ use Rattle.btr_check_rules.specs.Groups.{Apart, IsChunkOn, IsStripe, second_of, 
 use Rattle.btr_check_rules.specs.declared.span.Span.{Span}
 use Rattle.btr_check.specs.Tests.{are_apart, is_chunk, is_second, is_stripe}
 
-decides_leb : (a b : ℕ) → Decides (leb a b) (a ≤ b)
+pub decides_leb : (a b : ℕ) → Decides (leb a b) (a ≤ b)
 decides_leb a b = grind (arith, nat_tests)
 
 pub decides_apart : (a b : Span) → Decides (are_apart a b) (Apart a b)
 decides_apart a b = Decides-or _ _ (decides_leb (a.start + a.length) b.start) (decides_leb (b.start + b.length) a.start)
 
-decides_uuid : (a b : List ℕ) → Decides (pointwise nat_eq a b) (a ≡ b)
+pub decides_uuid : (a b : List ℕ) → Decides (pointwise nat_eq a b) (a ≡ b)
 decides_uuid a b = slice_eq-Decides Decides-eqb a b (pointwise nat_eq a b) refl
 
 abbrev StripeParts : Super → ℕ → Stripe → Type 0

@@ -1,1 +1,9 @@
+pub mod ChunkRules
 pub mod Deciding
+pub mod ExtentRules
+pub mod GroupRules
+pub mod Listing
+pub mod NotedRules
+pub mod RootRules
+pub mod SuperRules
+pub mod TotalRules

@@ -1,13 +1,17 @@
 // What Linux asks of each chunk by itself.
-ghost use Rattle.std.specs.Prelude.{◌≡◌, All};
-ghost use Rattle.btr_check_rules.specs.Groups.{IsChunkOn};
+ghost use Rattle.std.specs.Prelude.{◌≡◌, ℕ, All, IfOk};
+ghost use Rattle.btr_check_rules.specs.Groups.{AreChunksApart, IsChunkOn};
 ghost use Rattle.btr_check.specs.Failing.{Answers, FailsOf};
 ghost use Rattle.btr_check.specs.Tests.{is_chunk, is_second, is_stripe};
 ghost use Rattle.btr_reader.specs.declared.chunk.ChunkAt.{ChunkAt as Chunk};
 
+use crate::overlap::overlap;
+use crate::stripes::{chunk_spans, device_spans};
 use btr_reader::ChunkAt;
+use btr_reader_walk::Memory;
 use btr_space_items::Stripe;
 use btr_super::Super;
+use std::alloc::Global;
 
 /// Whether a stripe of so many bytes is on the volume's device, and lies within its bytes.
 fn is_stripe(sup: &Super, length: u64, stripe: &Stripe) -> bool
@@ -53,4 +57,20 @@ pub fn invalid_chunk(sup: &Super, chunks: &[ChunkAt]) -> Option<u64>
         }
     }
     None
+}
+
+/// The address of a chunk that Linux would not take, or that overlaps another one; or a place of the device where two
+/// overlap. None where there is none.
+pub fn wrong_chunk(alloc: Global, sup: &Super, chunks: &[ChunkAt]) -> Result<Option<u64>, Memory>
+    ensures { IfOk result (Answers ((a : ℕ) → AreChunksApart sup.now chunks.now a) (λ a. ¬ AreChunksApart sup.now chunks.now a)) }
+{
+    if let Some(address) = invalid_chunk(sup, chunks) {
+        return Ok(Some(address));
+    }
+    let addresses = chunk_spans(alloc, chunks)?;
+    if let Some(address) = overlap(addresses.as_slice()) {
+        return Ok(Some(address));
+    }
+    let places = device_spans(alloc, chunks)?;
+    Ok(overlap(places.as_slice()))
 }

@@ -1,4 +1,13 @@
+use btr_reader::ChunkAt;
 use btr_space_items::{BlockGroup, DevExtent};
+
+/// A chunk, and how many bytes of its addresses extents use.
+#[derive(Clone, Copy, Debug, PartialEq, Eq)]
+pub struct ChunkUse {
+    pub chunk: ChunkAt,
+    /// In bytes.
+    pub used: u64,
+}
 
 /// A block group, with the numbers of its key.
 #[derive(Clone, Copy, Debug, PartialEq, Eq)]

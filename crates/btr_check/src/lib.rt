@@ -2,9 +2,13 @@
 #![tactic(auto)]
 
 mod chunks;
+mod device_tree;
+mod devices;
 mod extents;
 mod found;
 mod groups;
 mod overlap;
+mod root_items;
 mod stripes;
+mod supers;
 mod totals;

@@ -1,11 +1,16 @@
 // The sums that the superblock and the device's item tell.
-ghost use Rattle.std.specs.Prelude.{◌≡◌, ◌*◌, length};
+ghost use Rattle.std.specs.Prelude.{◌≡◌, ◌*◌, List, length};
 ghost use Rattle.std.specs.Bool.{Decides};
 ghost use Rattle.std.specs.List.{sum_by};
-ghost use Rattle.btr_check_rules.specs.Groups.{stripe_bytes, stripes_of};
+ghost use Rattle.btr_reader.specs.btr_node.Leaf.{Item};
+ghost use Rattle.btr_super.specs.declared.superblock.Super.{Super as SuperOf};
+ghost use Rattle.btr_check_rules.specs.Groups.{AreTotals, IsOnlyDevice, stripe_bytes, stripes_of};
+ghost use Rattle.btr_check.specs.Devices.{FindsDevices};
+ghost use Rattle.btr_check.specs.Read.{AreReadOf, group_at};
 ghost use Rattle.btr_check.specs.declared.found.GroupAt.{GroupAt as Group};
 ghost use Rattle.btr_check.specs.Totals.{Leaves, tells_volume};
 
+use crate::devices::DevicesFound;
 use crate::found::GroupAt;
 use btr_reader::ChunkAt;
 use btr_super::Super;
@@ -54,4 +59,31 @@ pub fn tells_volume(sup: &Super) -> bool
     ensures { result ≡ tells_volume sup.now }
 {
     sup.dev_item.fsid == sup.node_fsid() && sup.dev_item.total_bytes == sup.total_bytes
+}
+
+/// Whether the superblock tells the bytes in use, the device and its bytes, and the chunk tree has this device alone.
+pub fn totals_hold(
+    sup: &Super,
+    chunks: &[ChunkAt],
+    groups: &[GroupAt],
+    devices: &DevicesFound,
+) -> bool
+    ensures { (items others : List Item) → AreReadOf group_at items groups.now → FindsDevices sup.now others devices.now
+        → Decides result (AreTotals sup.now chunks.now items others) }
+{
+    is_one(devices)
+        && used_is(sup.bytes_used, groups)
+        && tells_volume(sup)
+        && stripes_are(sup.dev_item.bytes_used, chunks)
+}
+
+/// Whether the superblock's device item was met alone.
+fn is_one(devices: &DevicesFound) -> bool
+    ensures { (s : SuperOf) (items : List Item) → FindsDevices s items devices.now → Decides result (IsOnlyDevice s items) }
+{
+    match devices {
+        DevicesFound::None => false,
+        DevicesFound::One => true,
+        DevicesFound::Wrong => false,
+    }
 }

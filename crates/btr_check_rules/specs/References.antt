@@ -12,7 +12,7 @@ use Rattle.btr_reader.specs.btr_node.Inner.{children_in}
 use Rattle.btr_reader.specs.btr_node.Leaf.{Item, items_in}
 use Rattle.btr_reader.specs.btr_node.declared.child.Child.{Child}
 use Rattle.btr_check_rules.specs.Extents.{Extent, RefCount, Reference, by_tree, by_parent, by_file, by_leaf, extent_of, is_extent_item, is_full, is_node, is_ref_item, kind_of_ref, place_of_ref, ref_of_item, refers_to_node, same_reference}
-use Rattle.btr_check_rules.specs.Recount.{Recount, TreeOn, DataUse, EachAt, all_trees, has_feature, holds_files, node_addresses, node_bytes, nodes_met, object_of, of_kind, recounted_items, uses_of}
+use Rattle.btr_check_rules.specs.Recount.{Recount, TreeOn, DataUse, EachAt, PairsAt, all_trees, has_feature, holds_files, node_addresses, node_bytes, nodes_met, object_of, of_kind, recounted_items, uses_of}
 use Rattle.btr_check_rules.specs.Trees.{is_relocated}
 
 -- ---- what is told
@@ -153,6 +153,8 @@ pub record FitFeatures (r : Recount) (a : ℕ) : Type 0 where
 pub record KeepsReferences (image : Image) (r : Recount) (a : ℕ) : Type 0 where
   pub items : EachAt object_of a (IsExtentTreeItem r) (extent_items r)
   pub extents : EachAt (λ (e : Extent). e.start) a (KeepsExtentItem image r) (extents_told r)
+  -- an extent has one item
+  pub once : PairsAt (λ (e : Extent). e.start) a (λ e f. e.start ≢ f.start) (extents_told r)
   pub told : EachAt (λ (m : Made). m.start) a (IsTold r) (refs_made image r)
   pub shared : EachAt (λ n. n) a (IsShared image r) (nodes_met r)
   pub features : FitFeatures r a

@@ -4,7 +4,7 @@ use Rattle.std.specs.Prelude.{◌≡◌, ◌≢◌, ◌⊎◌, ◌≤◌, ◌<�
 use Rattle.std.specs.List.{flat_map, list_any}
 use Rattle.btrfs_format.specs.declared.block.TheConstants.{SUPER_INFO_OFFSET}
 use Rattle.btrfs_format.specs.declared.flag.TheConstants.{BLOCK_GROUP_DUP, HEADER_FLAG_WRITTEN, MIXED_BACKREF_REV, ROOT_SUBVOL_RDONLY}
-use Rattle.btrfs_format.specs.declared.key.TheConstants.{BLOCK_GROUP_ITEM, CHUNK_ITEM, DEV_EXTENT, DEV_ITEM, EXTENT_CSUM, EXTENT_ITEM, METADATA_ITEM, ROOT_ITEM}
+use Rattle.btrfs_format.specs.declared.key.TheConstants.{BLOCK_GROUP_ITEM, CHUNK_ITEM, DEV_EXTENT, DEV_ITEM, EXTENT_CSUM, EXTENT_ITEM, METADATA_ITEM, ROOT_BACKREF, ROOT_ITEM, ROOT_REF}
 use Rattle.btrfs_format.specs.declared.object.TheConstants.{CHUNK_TREE, CSUM_TREE, DATA_RELOC_TREE, DEV_TREE, EXTENT_TREE, FIRST_FREE_OBJECTID, FS_TREE, ROOT_TREE, TREE_RELOC}
 use Rattle.btrfs_format.specs.declared.size.TheConstants.{HEADER_SIZE, SYSTEM_CHUNK_SIZE}
 use Rattle.btr_reader.specs.outside.History.{Image}
@@ -24,7 +24,7 @@ use Rattle.btr_reader.specs.btr_space_items.declared.root_item.RootItem.{RootIte
 use Rattle.btr_reader.specs.btr_super.declared.superblock.Super.{Super}
 use Rattle.btr_reader.specs.btr_reader_walk.declared.tree.NodePointer.{NodePointer}
 use Rattle.btr_reader.specs.declared.chunk.ChunkAt.{ChunkAt}
-use Rattle.btr_check_rules.specs.Recount.{Recount, TreeOn, EachAt, PairsAt, all_trees, has_tree, holds_files, node_bytes, object_of, of_kind}
+use Rattle.btr_check_rules.specs.Recount.{Recount, TreeOn, EachAt, PairsAt, all_trees, file_trees, has_tree, holds_files, node_bytes, object_of, of_kind}
 use Rattle.btr_check_rules.specs.RootFiles.{AreRootFiles}
 use Rattle.btr_check_rules.specs.Walk.{is_subvolume, shared_faults}
 
@@ -151,6 +151,14 @@ own_kinds =
     ∷ ((DEV_EXTENT, DEV_TREE)
     ∷ ((EXTENT_CSUM, CSUM_TREE) ∷ [])))))))
 
+-- A reference between two trees is told by a tree of files that is there (check_root_refs of `btrfs check`): a root ref by the tree
+-- that it stands under, a root backref by the one that it names.
+abbrev pub is_root_ref : Item → Bool
+is_root_ref i = (i.0.kind == ROOT_REF) || (i.0.kind == ROOT_BACKREF)
+
+abbrev pub referring : Item → ℕ
+referring i = if i.0.kind == ROOT_REF then i.0.objectid else i.0.offset
+
 -- ---- the part
 
 -- What part 1 asks at an address or at a number.
@@ -160,6 +168,7 @@ pub record KeepsTrees (image : Image) (r : Recount) (a : ℕ) : Type 0 where
   pub root_items : EachAt object_of a (IsRootItem r.super) (of_kind ROOT_ITEM r.root_tree.items)
   -- a tree has one root item
   pub root_once : PairsAt object_of a (λ i j. i.0.objectid ≢ j.0.objectid) (of_kind ROOT_ITEM r.root_tree.items)
+  pub root_refs : EachAt referring a (λ i. list_any (λ t. t.number == referring i) (file_trees r) ≡ true) (filter is_root_ref r.root_tree.items)
   pub kinds : EachAt (λ (t : TreeOn). t.number) a (λ t. All (λ i. only_in i.0.kind own_kinds t.number ≡ true) t.items) (all_trees r)
   pub root_files : a ≡ ROOT_TREE → AreRootFiles r
   pub super : a ≡ SUPER_INFO_OFFSET → KeepsSuper r.super

@@ -1,0 +1,176 @@
+-- The tests of the totals tell what is asked of them.
+use Rattle.std.proofs.Common.{◌≡◌, ℕ, zero, suc, ◌+◌, ◌==◌, ◌&&◌, nat_eq, Bool, true, false, List, [], ◌∷◌, ◌++◌, length, map, Option, Some, None, refl, sym, ap, subst, ◌∙◌, append_assoc, arith}
+use Rattle.std.specs.Bool.{Decides}
+use Rattle.std.specs.Cmp.Lexicographic.{pointwise}
+use Rattle.std.specs.List.{sum_by}
+use Rattle.std.specs.Option.{option_map_or}
+use Rattle.std.proofs.lemmas.Bool.{false≢true}
+use Rattle.std.proofs.lemmas.Bool.Decides.{Decides-and, Decides-eqb, Decides-like}
+use Rattle.std.proofs.lemmas.List.{append-nil}
+use Rattle.btr_reader.specs.btr_keys.declared.key.Key.{Key}
+use Rattle.btr_reader.specs.btr_node.Leaf.{Item}
+use Rattle.btr_reader.specs.btr_space_items.BlockGroup.{block_group_of}
+use Rattle.btr_reader.specs.btr_space_items.Device.{device_of}
+use Rattle.btr_reader.specs.btr_space_items.declared.block_group.BlockGroup.{BlockGroup}
+use Rattle.btr_reader.specs.btr_space_items.declared.device.Device.{Device}
+use Rattle.btr_reader.specs.btr_super.Super.{node_fsid}
+use Rattle.btr_reader.specs.btr_super.declared.superblock.Super.{Super}
+use Rattle.btr_reader.specs.declared.chunk.ChunkAt.{ChunkAt}
+use Rattle.btrfs_format.specs.declared.key.TheConstants.{DEV_ITEM}
+use Rattle.btrfs_format.specs.declared.object.TheConstants.{DEV_ITEMS_OBJECTID}
+use Rattle.btr_check_rules.specs.Groups.{AreTotals, IsDeviceItem, IsOnlyDevice, group_used, stripe_bytes}
+use Rattle.btr_check.specs.Devices.{FindsDevices, is_device_body, is_device_item, is_device_key, same_device}
+use Rattle.btr_check.specs.Read.{AreReadOf, group_at}
+use Rattle.btr_check.specs.Totals.{tells_volume}
+use Rattle.btr_check.specs.declared.devices.DevicesFound.{DevicesFound}
+use Rattle.btr_check.specs.declared.devices.DevicesFound.TheVariants as found
+use Rattle.btr_check.specs.declared.found.GroupAt.{GroupAt}
+use Rattle.btr_check.proofs.Deciding.{decides_uuid}
+use Rattle.btr_check.proofs.GroupRules.{is_read}
+use Rattle.btr_check.proofs.Listing.{first_or, not_none, rest_of, some_same}
+
+-- ---- the bytes in use
+
+abbrev used_of : GroupAt → ℕ
+used_of g = g.group.used
+
+-- block groups have in use what their items tell
+pub used_read : (items : List Item) (groups : List GroupAt) → AreReadOf group_at items groups → sum_by group_used items ≡ sum_by used_of groups
+used_read [] [] are = refl
+used_read [] (g ∷ groups) are = absurd (omega (arith, ap length are))
+used_read (i ∷ items) [] are = absurd (omega (arith, ap length are))
+used_read (i ∷ items) (g ∷ groups) are =
+    let read = is_read i g (ap (first_or None) are) in
+    let own : group_used i ≡ g.group.used = ap (λ (b : Option BlockGroup). option_map_or (λ (x : BlockGroup). x.used) b 0) read.body in
+    let rest = used_read items groups (ap rest_of are) in
+    omega (arith, own, rest)
+
+-- ---- the device
+
+abbrev DeviceParts : Device → Device → Type 0
+DeviceParts a b =
+    (a.devid ≡ b.devid)
+    × ((a.total_bytes ≡ b.total_bytes)
+    × ((a.bytes_used ≡ b.bytes_used)
+    × ((a.io_align ≡ b.io_align)
+    × ((a.io_width ≡ b.io_width)
+    × ((a.sector_size ≡ b.sector_size)
+    × ((a.kind ≡ b.kind)
+    × ((a.generation ≡ b.generation)
+    × ((a.start_offset ≡ b.start_offset)
+    × ((a.dev_group ≡ b.dev_group)
+    × ((a.seek_speed ≡ b.seek_speed) × ((a.bandwidth ≡ b.bandwidth) × ((a.uuid ≡ b.uuid) × (a.fsid ≡ b.fsid)))))))))))))
+
+one_device : (a b : Device) → DeviceParts a b → a ≡ b
+one_device a b (p1, (p2, (p3, (p4, (p5, (p6, (p7, (p8, (p9, (p10, (p11, (p12, (p13, p14))))))))))))) = cc
+
+device_parts : (a b : Device) → a ≡ b → DeviceParts a b
+device_parts a b same = (
+  ap (λ (d : Device). d.devid) same,
+  (
+    ap (λ (d : Device). d.total_bytes) same,
+    (
+      ap (λ (d : Device). d.bytes_used) same,
+      (
+        ap (λ (d : Device). d.io_align) same,
+        (
+          ap (λ (d : Device). d.io_width) same,
+          (
+            ap (λ (d : Device). d.sector_size) same,
+            (
+              ap (λ (d : Device). d.kind) same,
+              (
+                ap (λ (d : Device). d.generation) same,
+                (
+                  ap (λ (d : Device). d.start_offset) same,
+                  (
+                    ap (λ (d : Device). d.dev_group) same,
+                    (ap (λ (d : Device). d.seek_speed) same, (ap (λ (d : Device). d.bandwidth) same, (ap (λ (d : Device). d.uuid) same, ap (λ (d : Device). d.fsid) same))),
+                  ),
+                ),
+              ),
+            ),
+          ),
+        ),
+      ),
+    ),
+  ),
+)
+
+decides_device : (a b : Device) → Decides (same_device a b) (a ≡ b)
+decides_device a b =
+    Decides-like (same_device a b) (one_device a b) (device_parts a b)
+    (Decides-and _ _ (Decides-eqb a.devid b.devid)
+    (Decides-and _ _ (Decides-eqb a.total_bytes b.total_bytes)
+    (Decides-and _ _ (Decides-eqb a.bytes_used b.bytes_used)
+    (Decides-and _ _ (Decides-eqb a.io_align b.io_align)
+    (Decides-and _ _ (Decides-eqb a.io_width b.io_width)
+    (Decides-and _ _ (Decides-eqb a.sector_size b.sector_size)
+    (Decides-and _ _ (Decides-eqb a.kind b.kind)
+    (Decides-and _ _ (Decides-eqb a.generation b.generation)
+    (Decides-and _ _ (Decides-eqb a.start_offset b.start_offset)
+    (Decides-and _ _ (Decides-eqb a.dev_group b.dev_group)
+    (Decides-and _ _ (Decides-eqb a.seek_speed b.seek_speed)
+    (Decides-and _ _ (Decides-eqb a.bandwidth b.bandwidth) (Decides-and _ _ (decides_uuid a.uuid b.uuid) (decides_uuid a.fsid b.fsid))))))))))))))
+
+decides_body : (s : Super) (o : Option Device) → Decides (is_device_body s o) (o ≡ Some s.dev_item)
+decides_body s None = ((λ no. absurd (false≢true no)), (λ none. absurd (not_none s.dev_item none)))
+decides_body s (Some d) = Decides-like (same_device d s.dev_item) (λ same. ap Some same) (λ same. some_same d s.dev_item same) (decides_device d s.dev_item)
+
+abbrev device_key : Super → Key
+device_key s = record { objectid = DEV_ITEMS_OBJECTID; kind = DEV_ITEM; offset = s.dev_item.devid }
+
+same_key : (s : Super) (k : Key) → k.objectid ≡ DEV_ITEMS_OBJECTID → k.kind ≡ DEV_ITEM → k.offset ≡ s.dev_item.devid → k ≡ device_key s
+same_key s k a b c = cc
+
+decides_key : (s : Super) (k : Key) → Decides (is_device_key s k) (k ≡ device_key s)
+decides_key s k =
+    Decides-like (is_device_key s k) (λ p. same_key s k p.0 p.1.0 p.1.1) (λ same. (ap (λ (x : Key). x.objectid) same, (ap (λ (x : Key). x.kind) same, ap (λ (x : Key). x.offset) same)))
+    (Decides-and _ _ (Decides-eqb k.objectid DEV_ITEMS_OBJECTID) (Decides-and _ _ (Decides-eqb k.kind DEV_ITEM) (Decides-eqb k.offset s.dev_item.devid)))
+
+pub decides_item : (s : Super) (k : Key) (body : List ℕ) → Decides (is_device_item s k body) (IsDeviceItem s (k, body))
+decides_item s k body =
+    Decides-like (is_device_item s k body) (λ p. record { key = p.0; body = p.1 }) (λ is. (is.key, is.body)) (Decides-and _ _ (decides_key s k) (decides_body s (device_of body)))
+
+-- ---- device items one after the other
+
+long_not_one : (s : Super) (i j : Item) (items : List Item) → ¬ IsOnlyDevice s (i ∷ (j ∷ items))
+long_not_one s i j items (k, (are, is)) = omega (arith, ap length are)
+
+other_not_one : (s : Super) (i : Item) (more : List Item) → ¬ IsDeviceItem s i → ¬ IsOnlyDevice s (i ∷ more)
+other_not_one s i more no (k, (are, is)) = no (subst (IsDeviceItem s) (sym (ap (first_or i) are)) is)
+
+pub first_found : (s : Super) (i : Item) (items : List Item) → items ≡ [] → IsDeviceItem s i → FindsDevices s (items ++ i ∷ []) found.One
+first_found s i items none is = subst (λ (l : List Item). IsOnlyDevice s (l ++ i ∷ [])) (sym none) (i, (refl, is))
+
+pub first_wrong : (s : Super) (i : Item) (items : List Item) → items ≡ [] → ¬ IsDeviceItem s i → FindsDevices s (items ++ i ∷ []) found.Wrong
+first_wrong s i items none no = λ more one. other_not_one s i more no (subst (λ (l : List Item). IsOnlyDevice s ((l ++ i ∷ []) ++ more)) none one)
+
+pub second_wrong : (s : Super) (i : Item) (items : List Item) → FindsDevices s items found.One → FindsDevices s (items ++ i ∷ []) found.Wrong
+second_wrong s i items (j, (are, is)) = λ more one. long_not_one s j i more (subst (λ (l : List Item). IsOnlyDevice s ((l ++ i ∷ []) ++ more)) are one)
+
+pub still_wrong : (s : Super) (i : Item) (items : List Item) → FindsDevices s items found.Wrong → FindsDevices s (items ++ i ∷ []) found.Wrong
+still_wrong s i items wrong = λ more one. wrong (i ∷ more) (subst (IsOnlyDevice s) (append_assoc items (i ∷ []) more) one)
+
+pub none_alone : (s : Super) (items : List Item) → FindsDevices s items found.None → ¬ IsOnlyDevice s items
+none_alone s items none (i, (are, is)) = omega (arith, ap length (sym none ∙ are))
+
+pub wrong_alone : (s : Super) (items : List Item) → FindsDevices s items found.Wrong → ¬ IsOnlyDevice s items
+wrong_alone s items wrong one = wrong [] (subst (IsOnlyDevice s) (sym (append-nil items)) one)
+
+-- ---- together
+
+decides_volume : (s : Super) → Decides (tells_volume s) ((s.dev_item.fsid ≡ node_fsid s) × (s.dev_item.total_bytes ≡ s.total_bytes))
+decides_volume s = Decides-and _ _ (decides_uuid s.dev_item.fsid (node_fsid s)) (Decides-eqb s.dev_item.total_bytes s.total_bytes)
+
+pub decides_totals : (s : Super) (chunks : List ChunkAt) (items others : List Item) (groups : List GroupAt) (one used volume stripes : Bool) → AreReadOf group_at items groups
+    → Decides one (IsOnlyDevice s others) → Decides used (s.bytes_used ≡ sum_by used_of groups) → volume ≡ tells_volume s → Decides stripes (s.dev_item.bytes_used ≡ stripe_bytes chunks)
+    → Decides (one && (used && (volume && stripes))) (AreTotals s chunks items others)
+decides_totals s chunks items others groups one used volume stripes read own in_use told taken =
+    Decides-like _
+    (λ p. record { used = p.1.0 ∙ sym sums; device = record { fsid = p.1.1.0.0; total = p.1.1.0.1; used = p.1.1.1 }; one = p.0 })
+    (λ are. (are.one, (are.used ∙ sums, ((are.device.fsid, are.device.total), are.device.used))))
+    (Decides-and one _ own (Decides-and used _ in_use (Decides-and volume stripes (subst (λ (b : Bool). Decides b _) (sym told) (decides_volume s)) taken)))
+  where
+    sums : sum_by group_used items ≡ sum_by used_of groups
+    sums = used_read items groups read

@@ -1,0 +1,6 @@
+use Rattle.std.specs.Prelude.{◌≡◌, take, true, All}
+use Rattle.btr_check.specs.Read.{extent_of}
+use Rattle.btr_check.proofs.extents.without_chunk.Given as goal
+
+abbrev pub invariant-loop-e : goal.invariant-loop-e
+invariant-loop-e l = All (λ x. extent_of l.chunks x ≡ true) (take l.e-index l.extents)

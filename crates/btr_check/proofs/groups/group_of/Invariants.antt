@@ -1,0 +1,7 @@
+use Rattle.std.specs.Prelude.{◌≡◌, drop}
+use Rattle.std.specs.List.{list_any}
+use Rattle.btr_check.specs.Read.{is_group_of}
+use Rattle.btr_check.proofs.groups.group_of.Given as goal
+
+abbrev pub invariant-loop-u : goal.invariant-loop-u
+invariant-loop-u l = list_any (λ u. is_group_of u l.g) (drop l.u-index l.chunks) ≡ list_any (λ u. is_group_of u l.g) l.chunks

@@ -1,0 +1,6 @@
+use Rattle.std.specs.Prelude.{◌≡◌, take, true, All}
+use Rattle.btr_check.specs.Read.{has_group}
+use Rattle.btr_check.proofs.groups.without_group.Given as goal
+
+abbrev pub invariant-loop-u : goal.invariant-loop-u
+invariant-loop-u l = All (λ x. has_group l.groups x ≡ true) (take l.u-index l.chunks)
