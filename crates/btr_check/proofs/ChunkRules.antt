@@ -10,10 +10,10 @@ use Rattle.btr_check_rules.specs.declared.span.Span.{Span}
 use Rattle.btr_check.specs.Failing.{FailsOf, FailsOfTwo}
 
 pub fails_at : {A : Type 0} (at : A → ℕ) (P : A → Type 0) (xs : List A) (a : ℕ) → FailsOf at P xs a → ¬ EachAt at a P xs
-fails_at at P xs a (x, (h, (is, no))) each = no (All-contains (λ y. at y ≡ a → P y) xs x each h is)
+fails_at at P xs a (x, h, is, no) each = no (All-contains (λ y. at y ≡ a → P y) xs x each h is)
 
 pub two_fail_at : {A : Type 0} (at : A → ℕ) (P : A → A → Type 0) (xs : List A) (a : ℕ) → FailsOfTwo at P xs a → ¬ PairsAt at a P xs
-two_fail_at at P xs a (i, (j, (d, (less, (low, (here, no)))))) pairs = no (pairs i j d less low here)
+two_fail_at at P xs a (i, j, d, less, low, here, no) pairs = no (pairs i j d less low here)
 
 abbrev start_of : Span → ℕ
 start_of s = s.start

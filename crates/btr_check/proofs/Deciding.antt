@@ -16,6 +16,10 @@ use Rattle.btr_check.specs.Tests.{are_apart, is_chunk, is_second, is_stripe}
 pub decides_leb : (a b : ℕ) → Decides (leb a b) (a ≤ b)
 decides_leb a b = grind (arith, nat_tests)
 
+-- a test decides that it is true
+pub itself : (b : Bool) → Decides b (b ≡ true)
+itself b = ((λ is. is), (λ is. is))
+
 pub decides_apart : (a b : Span) → Decides (are_apart a b) (Apart a b)
 decides_apart a b = Decides-or _ _ (decides_leb (a.start + a.length) b.start) (decides_leb (b.start + b.length) a.start)
 
@@ -41,7 +45,7 @@ decides_stripe s length stripe =
 decides_second : (s : Super) (length : ℕ) (stripe : Option Stripe) → Decides (is_second s length stripe) (All (IsStripe s length) (second_of stripe))
 decides_second s length None = (λ _. All-nil (IsStripe s length), λ _. refl)
 decides_second s length (Some stripe) =
-    Decides-like (is_stripe s length stripe) (λ is. All-cons (IsStripe s length) stripe [] is (All-nil (IsStripe s length))) (All-head (IsStripe s length) stripe []) (decides_stripe s length stripe)
+    Decides-like {P = IsStripe s length stripe} (is_stripe s length stripe) (λ is. All-cons (IsStripe s length) stripe [] is (All-nil (IsStripe s length))) (All-head (IsStripe s length) stripe []) (decides_stripe s length stripe)
 
 abbrev ChunkParts : Super → ChunkAt → Type 0
 ChunkParts s c =

@@ -91,7 +91,7 @@ decides_extent c s i e read = Decides-like (is_extent_of c s e) to from (decides
             sym read.offset ∙ ap (λ (k : Key). k.offset) is.key,
             (
               ap (λ (x : DevExtent). x.chunk_tree) same ∙ is.chunk.0,
-              (ap (λ (x : DevExtent). x.chunk_objectid) same ∙ is.chunk.1.0, (ap (λ (x : DevExtent). x.chunk_offset) same ∙ is.chunk.1.1, ap (λ (x : DevExtent). x.length) same ∙ is.length)),
+              (ap (λ (x : DevExtent). x.chunk_objectid) same ∙ is.chunk.1, (ap (λ (x : DevExtent). x.chunk_offset) same ∙ is.chunk.2, ap (λ (x : DevExtent). x.length) same ∙ is.length)),
             ),
           ),
         )
@@ -102,30 +102,31 @@ module _ (chunks : List ChunkAt) (items : List Item) (extents : List ExtentAt) (
   abbrev HasOne : ChunkAt → Stripe → Type 0
   HasOne c s = (i : Item) × Contains items i × IsExtentOf c s i
 
+  -- a device extent was read of an item that is the stripe's
+  abbrev OfItem : ChunkAt → Stripe → ExtentAt → Type 0
+  OfItem c s e = (i : Item) × Contains items i × (extent_at i ≡ Some e) × IsExtentOf c s i
+
   decides_one : (c : ChunkAt) (s : Stripe) → Decides (has_extent extents c s) (HasOne c s)
-  decides_one c s = Decides-like (has_extent extents c s) to from (decides_some (is_extent_of c s) OfItem extents each)
+  decides_one c s = Decides-like (has_extent extents c s) to from (decides_some (is_extent_of c s) (OfItem c s) extents each)
     where
-      OfItem : ExtentAt → Type 0
-      OfItem e = (i : Item) × Contains items i × (extent_at i ≡ Some e) × IsExtentOf c s i
-
-      each : (e : ExtentAt) → Contains extents e → Decides (is_extent_of c s e) (OfItem e)
+      each : (e : ExtentAt) → Contains extents e → Decides (is_extent_of c s e) (OfItem c s e)
       each e in_ =
-          let (i, (there, is)) = of_item extent_at items extents read e in_ in
-          ((λ yes. (i, (there, (is, (decides_extent c s i e (is_read i e is)).0 yes)))), (λ some. let (j, (at, (was, own))) = some in (decides_extent c s j e (is_read j e was)).1 own))
+          let (i, there, is) = of_item extent_at items extents read e in_ in
+          ((λ yes. (i, there, is, (decides_extent c s i e (is_read i e is)).0 yes)), (λ some. let (j, at, was, own) = some in (decides_extent c s j e (is_read j e was)).1 own))
 
-      to : ((e : ExtentAt) × Contains extents e × OfItem e) → HasOne c s
-      to (e, (in_, (i, (there, (is, own))))) = (i, (there, own))
+      to : ((e : ExtentAt) × Contains extents e × OfItem c s e) → HasOne c s
+      to (e, in_, (i, there, is, own)) = (i, there, own)
 
-      from : HasOne c s → (e : ExtentAt) × Contains extents e × OfItem e
-      from (i, (there, own)) = let (e, (in_, is)) = read_of extent_at items extents read i there in (e, (in_, (i, (there, (is, own)))))
+      from : HasOne c s → (e : ExtentAt) × Contains extents e × OfItem c s e
+      from (i, there, own) = let (e, in_, is) = read_of extent_at items extents read i there in (e, in_, (i, there, is, own))
 
   decides_second : (c : ChunkAt) (s : Option Stripe) → Decides (has_second extents c s) (All (HasOne c) (second_of s))
   decides_second c None = (λ _. All-nil (HasOne c), λ _. refl)
-  decides_second c (Some s) = Decides-like (has_extent extents c s) (λ is. All-cons (HasOne c) s [] is (All-nil (HasOne c))) (All-head (HasOne c) s []) (decides_one c s)
+  decides_second c (Some s) = Decides-like {P = HasOne c s} (has_extent extents c s) (λ is. All-cons (HasOne c) s [] is (All-nil (HasOne c))) (All-head (HasOne c) s []) (decides_one c s)
 
   pub decides_extents : (c : ChunkAt) → Decides (has_extents extents c) (HasExtents items c)
   decides_extents c =
-      Decides-like (has_extents extents c) (λ both. All-cons (HasOne c) c.chunk.stripe (second_of c.mirror) both.0 both.1)
+      Decides-like {P = HasOne c c.chunk.stripe × All (HasOne c) (second_of c.mirror)} (has_extents extents c) (λ both. All-cons (HasOne c) c.chunk.stripe (second_of c.mirror) both.0 both.1)
       (λ all. (All-head (HasOne c) c.chunk.stripe (second_of c.mirror) all, All-tail (HasOne c) c.chunk.stripe (second_of c.mirror) all))
       (Decides-and _ _ (decides_one c c.chunk.stripe) (decides_second c c.mirror))
 
@@ -133,45 +134,45 @@ module _ (chunks : List ChunkAt) (items : List Item) (extents : List ExtentAt) (
   OfStripe c i = (s : Stripe) × Contains (stripes_of c) s × IsExtentOf c s i
 
   of_second : (c : ChunkAt) (s : Option Stripe) (i : Item) (e : ExtentAt) → IsRead i e → Decides (is_of_second c s e) ((x : Stripe) × Contains (second_of s) x × IsExtentOf c x i)
-  of_second c None i e read = ((λ no. absurd (false≢true no)), (λ some. let (x, ((k, (low, at)), own)) = some in absurd (omega (arith, low))))
+  of_second c None i e read = ((λ no. absurd (false≢true no)), (λ some. let (x, (k, low, at), own) = some in absurd (omega (arith, low))))
   of_second c (Some s) i e read =
-      Decides-like (is_extent_of c s e) (λ own. (s, (at_head s [], own)))
-      (λ some. let (x, (h, own)) = some in ⊎_elim (λ (here : s ≡ x). subst (λ (y : Stripe). IsExtentOf c y i) (sym here) own) (λ (there : Contains [] x). let (k, (low, at)) = there in absurd (omega (arith, low))) (head_or_tail s [] x h))
+      Decides-like {P = IsExtentOf c s i} {Q = (x : Stripe) × Contains (s ∷ []) x × IsExtentOf c x i} (is_extent_of c s e) (λ own. (s, at_head s [], own))
+      (λ some. let (x, h, own) = some in ⊎_elim (λ (here : s ≡ x). subst (λ (y : Stripe). IsExtentOf c y i) (sym here) own) (λ (there : Contains [] x). let (k, low, at) = there in absurd (omega (arith, low))) (head_or_tail s [] x h))
       (decides_extent c s i e read)
+
+  abbrev OfSecond : ChunkAt → Item → Type 0
+  OfSecond c i = (x : Stripe) × Contains (second_of c.mirror) x × IsExtentOf c x i
 
   of_stripe : (c : ChunkAt) (i : Item) (e : ExtentAt) → IsRead i e → Decides (is_of_chunk c e) (OfStripe c i)
   of_stripe c i e read = Decides-like (is_of_chunk c e) to from (Decides-or _ _ (decides_extent c c.chunk.stripe i e read) (of_second c c.mirror i e read))
     where
-      Second : Type 0
-      Second = (x : Stripe) × Contains (second_of c.mirror) x × IsExtentOf c x i
+      to : IsExtentOf c c.chunk.stripe i ⊎ OfSecond c i → OfStripe c i
+      to (inl own) = (c.chunk.stripe, at_head c.chunk.stripe (second_of c.mirror), own)
+      to (inr (x, h, own)) = (x, in_tail c.chunk.stripe (second_of c.mirror) x h, own)
 
-      to : IsExtentOf c c.chunk.stripe i ⊎ Second → OfStripe c i
-      to (inl own) = (c.chunk.stripe, (at_head c.chunk.stripe (second_of c.mirror), own))
-      to (inr (x, (h, own))) = (x, (in_tail c.chunk.stripe (second_of c.mirror) x h, own))
-
-      from : OfStripe c i → IsExtentOf c c.chunk.stripe i ⊎ Second
-      from (x, (h, own)) =
-          ⊎_elim (λ (here : c.chunk.stripe ≡ x). inl (subst (λ (y : Stripe). IsExtentOf c y i) (sym here) own)) (λ (there : Contains (second_of c.mirror) x). inr (x, (there, own)))
+      from : OfStripe c i → IsExtentOf c c.chunk.stripe i ⊎ OfSecond c i
+      from (x, h, own) =
+          ⊎_elim (λ (here : c.chunk.stripe ≡ x). inl (subst (λ (y : Stripe). IsExtentOf c y i) (sym here) own)) (λ (there : Contains (second_of c.mirror) x). inr (x, there, own))
           (head_or_tail c.chunk.stripe (second_of c.mirror) x h)
 
   pub decides_of : (i : Item) (e : ExtentAt) → extent_at i ≡ Some e → Decides (extent_of chunks e) (IsOfChunk chunks i)
   decides_of i e is =
-      Decides-like (extent_of chunks e) (λ some. let (c, (h, (s, (at, own)))) = some in (c, (s, (h, (at, own))))) (λ some. let (c, (s, (h, (at, own)))) = some in (c, (h, (s, (at, own)))))
+      Decides-like {P = (c : ChunkAt) × Contains chunks c × OfStripe c i} {Q = IsOfChunk chunks i} (extent_of chunks e) (λ some. let (c, h, (s, at, own)) = some in (c, s, h, at, own)) (λ some. let (c, s, h, at, own) = some in (c, h, (s, at, own)))
       (decides_some (λ c. is_of_chunk c e) (λ c. OfStripe c i) chunks (λ c h. of_stripe c i e (is_read i e is)))
 
   pub all_right : All (λ c. has_extents extents c ≡ true) chunks → All (λ e. extent_of chunks e ≡ true) extents → (a : ℕ) → AreExtentsOf chunks items a
   all_right chunks_right extents_right = λ a. record {
     each = all_from_contains _ items (λ i h at.
-        let (e, (in_, is)) = read_of extent_at items extents read i h in
+        let (e, in_, is) = read_of extent_at items extents read i h in
         (decides_of i e is).0 (All-contains (λ (x : ExtentAt). extent_of chunks x ≡ true) extents e extents_right in_));
     whole = all_from_contains _ chunks (λ c h at. (decides_extents c).0 (All-contains (λ (x : ChunkAt). has_extents extents x ≡ true) chunks c chunks_right h));
   }
 
   pub chunk_wrong : (a : ℕ) → FailsTest (λ (c : ChunkAt). c.logical) (has_extents extents) chunks a → ¬ AreExtentsOf chunks items a
-  chunk_wrong a (c, (h, (at, no))) are =
+  chunk_wrong a (c, h, at, no) are =
       not_from_Decides (has_extents extents c) (decides_extents c) no (All-contains (λ d. d.logical ≡ a → HasExtents items d) chunks c are.whole h at)
 
   pub extent_wrong : (a : ℕ) → FailsTest (λ (e : ExtentAt). e.offset) (extent_of chunks) extents a → ¬ AreExtentsOf chunks items a
-  extent_wrong a (e, (h, (at, no))) are =
-      let (i, (there, is)) = of_item extent_at items extents read e h in
+  extent_wrong a (e, h, at, no) are =
+      let (i, there, is) = of_item extent_at items extents read e h in
       not_from_Decides (extent_of chunks e) (decides_of i e is) no (All-contains (λ (j : Item). j.0.offset ≡ a → IsOfChunk chunks j) items i are.each there ((is_read i e is).offset ∙ at))

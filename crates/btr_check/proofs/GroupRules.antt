@@ -102,14 +102,14 @@ in_map : (us : List ChunkUse) (u : ChunkUse) → Contains us u → Contains (map
 in_map (v ∷ us) u h =
     ⊎_elim (λ (here : v ≡ u). subst (λ (c : ChunkAt). Contains (v.chunk ∷ map chunk_of us) c) (ap chunk_of here) (at_head v.chunk (map chunk_of us)))
     (λ (there : Contains us u). in_tail v.chunk (map chunk_of us) u.chunk (in_map us u there)) (head_or_tail v us u h)
-in_map [] u (k, (low, is)) = absurd (omega (arith, low))
+in_map [] u (k, low, is) = absurd (omega (arith, low))
 
 of_map : (us : List ChunkUse) (c : ChunkAt) → Contains (map chunk_of us) c → (u : ChunkUse) × Contains us u × (u.chunk ≡ c)
 of_map (v ∷ us) c h =
-    ⊎_elim (λ (here : v.chunk ≡ c). (v, (at_head v us, here)))
-    (λ (there : Contains (map chunk_of us) c). let (u, (in_, is)) = of_map us c there in (u, (in_tail v us u in_, is)))
+    ⊎_elim (λ (here : v.chunk ≡ c). (v, at_head v us, here))
+    (λ (there : Contains (map chunk_of us) c). let (u, in_, is) = of_map us c there in (u, in_tail v us u in_, is))
     (head_or_tail v.chunk (map chunk_of us) c h)
-of_map [] c (k, (low, is)) = absurd (omega (arith, low))
+of_map [] c (k, low, is) = absurd (omega (arith, low))
 
 module _ (used : ChunkAt → ℕ) (chunks : List ChunkUse) (items : List Item) (groups : List GroupAt) (told : All (λ u. u.used ≡ used u.chunk) chunks) (read : AreReadOf group_at items groups) where
   abbrev HasGroup : ChunkAt → Type 0
@@ -125,49 +125,49 @@ module _ (used : ChunkAt → ℕ) (chunks : List ChunkUse) (items : List Item) (
   decides_use : (u : ChunkUse) (i : Item) (g : GroupAt) → Contains chunks u → group_at i ≡ Some g → Decides (is_group_of u g) (IsGroupOf (used u.chunk) u.chunk i)
   decides_use u i g h is = subst (λ (n : ℕ). Decides (is_group_of u g) (IsGroupOf n u.chunk i)) (right u h) (decides_group u i g (is_read i g is))
 
+  -- a block group was read of an item that is the chunk's
+  abbrev OfItem : ChunkUse → GroupAt → Type 0
+  OfItem u g = (i : Item) × Contains items i × (group_at i ≡ Some g) × IsGroupOf (used u.chunk) u.chunk i
+
+  decides_item : (u : ChunkUse) → Contains chunks u → (g : GroupAt) → Contains groups g → Decides (is_group_of u g) (OfItem u g)
+  decides_item u h g in_ =
+      let (i, there, is) = of_item group_at items groups read g in_ in
+      ((λ yes. (i, there, is, (decides_use u i g h is).0 yes)), (λ some. let (j, at, was, own) = some in (decides_use u j g h was).1 own))
+
   pub decides_has : (u : ChunkUse) → Contains chunks u → Decides (has_group groups u) (HasGroup u.chunk)
-  decides_has u h = (to, from)
+  decides_has u h = Decides-like (has_group groups u) to from (decides_some (is_group_of u) (OfItem u) groups (decides_item u h))
     where
-      to : has_group groups u ≡ true → HasGroup u.chunk
-      to yes =
-          let (g, (in_, (i, (there, (is, own))))) = (decides_some (is_group_of u) (λ g. (i : Item) × Contains items i × (group_at i ≡ Some g) × IsGroupOf (used u.chunk) u.chunk i) groups each).0 yes in
-          (i, (there, own))
+      to : ((g : GroupAt) × Contains groups g × OfItem u g) → HasGroup u.chunk
+      to (g, in_, (i, there, is, own)) = (i, there, own)
 
-      each : (g : GroupAt) → Contains groups g → Decides (is_group_of u g) ((i : Item) × Contains items i × (group_at i ≡ Some g) × IsGroupOf (used u.chunk) u.chunk i)
-      each g in_ =
-          let (i, (there, is)) = of_item group_at items groups read g in_ in
-          ((λ yes. (i, (there, (is, (decides_use u i g h is).0 yes)))), (λ some. let (j, (at, (was, own))) = some in (decides_use u j g h was).1 own))
-
-      from : HasGroup u.chunk → has_group groups u ≡ true
-      from (i, (there, own)) =
-          let (g, (in_, is)) = read_of group_at items groups read i there in
-          (decides_some (is_group_of u) (λ g. (i : Item) × Contains items i × (group_at i ≡ Some g) × IsGroupOf (used u.chunk) u.chunk i) groups each).1 (g, (in_, (i, (there, (is, own)))))
+      from : HasGroup u.chunk → (g : GroupAt) × Contains groups g × OfItem u g
+      from (i, there, own) = let (g, in_, is) = read_of group_at items groups read i there in (g, in_, (i, there, is, own))
 
   pub decides_of : (i : Item) (g : GroupAt) → group_at i ≡ Some g → Decides (group_of chunks g) (HasChunk i)
   decides_of i g is =
       Decides-like (group_of chunks g) to from (decides_some (λ u. is_group_of u g) (λ u. IsGroupOf (used u.chunk) u.chunk i) chunks (λ u h. decides_use u i g h is))
     where
       to : ((u : ChunkUse) × Contains chunks u × IsGroupOf (used u.chunk) u.chunk i) → HasChunk i
-      to (u, (h, own)) = (u.chunk, (in_map chunks u h, own))
+      to (u, h, own) = (u.chunk, in_map chunks u h, own)
 
       from : HasChunk i → (u : ChunkUse) × Contains chunks u × IsGroupOf (used u.chunk) u.chunk i
-      from (c, (h, own)) = let (u, (in_, is)) = of_map chunks c h in (u, (in_, subst (λ (d : ChunkAt). IsGroupOf (used d) d i) (sym is) own))
+      from (c, h, own) = let (u, in_, is) = of_map chunks c h in (u, in_, subst (λ (d : ChunkAt). IsGroupOf (used d) d i) (sym is) own)
 
   pub all_right : All (λ u. has_group groups u ≡ true) chunks → All (λ g. group_of chunks g ≡ true) groups → (a : ℕ) → AreGroupsOf used (map chunk_of chunks) items a
   all_right chunks_right groups_right = λ a. record {
     each = all_from_contains _ items (λ i h at.
-        let (g, (in_, is)) = read_of group_at items groups read i h in
+        let (g, in_, is) = read_of group_at items groups read i h in
         (decides_of i g is).0 (All-contains (λ (x : GroupAt). group_of chunks x ≡ true) groups g groups_right in_));
     whole = all_from_contains _ (map chunk_of chunks) (λ c h at.
-        let (u, (in_, is)) = of_map chunks c h in
+        let (u, in_, is) = of_map chunks c h in
         subst HasGroup is ((decides_has u in_).0 (All-contains (λ (x : ChunkUse). has_group groups x ≡ true) chunks u chunks_right in_)));
   }
 
   pub chunk_wrong : (a : ℕ) → FailsTest (λ (u : ChunkUse). u.chunk.logical) (has_group groups) chunks a → ¬ AreGroupsOf used (map chunk_of chunks) items a
-  chunk_wrong a (u, (h, (at, no))) are =
+  chunk_wrong a (u, h, at, no) are =
       not_from_Decides (has_group groups u) (decides_has u h) no (All-contains (λ c. c.logical ≡ a → HasGroup c) (map chunk_of chunks) u.chunk are.whole (in_map chunks u h) at)
 
   pub group_wrong : (a : ℕ) → FailsTest (λ (g : GroupAt). g.start) (group_of chunks) groups a → ¬ AreGroupsOf used (map chunk_of chunks) items a
-  group_wrong a (g, (h, (at, no))) are =
-      let (i, (there, is)) = of_item group_at items groups read g h in
+  group_wrong a (g, h, at, no) are =
+      let (i, there, is) = of_item group_at items groups read g h in
       not_from_Decides (group_of chunks g) (decides_of i g is) no (All-contains (λ j. object_of j ≡ a → HasChunk j) items i are.each there ((is_read i g is).start ∙ at))

@@ -3,6 +3,7 @@ pub mod Deciding
 pub mod ExtentRules
 pub mod GroupRules
 pub mod Listing
+pub mod NodeRules
 pub mod NotedRules
 pub mod RootRules
 pub mod SuperRules

@@ -13,7 +13,7 @@ use Rattle.btr_check_rules.specs.Recount.{holds_files}
 use Rattle.btr_check_rules.specs.Trees.{IsRootItem}
 use Rattle.btr_check_rules.specs.Walk.{is_subvolume}
 use Rattle.btr_check.specs.Roots.{has_files_root, is_whole, keeps_root, keeps_some_root}
-use Rattle.btr_check.proofs.Deciding.{decides_leb}
+use Rattle.btr_check.proofs.Deciding.{decides_leb, itself}
 use Rattle.btr_check.proofs.Listing.{not_none, some_same}
 
 abbrev zero_key : Key
@@ -25,17 +25,16 @@ same_key k a b c = cc
 abbrev IsWhole : RootItem → Type 0
 IsWhole root = (root.drop_progress ≡ zero_key) × (root.drop_level ≡ 0)
 
+abbrev WholeParts : RootItem → Type 0
+WholeParts root = (root.drop_progress.objectid ≡ 0) × ((root.drop_progress.kind ≡ 0) × ((root.drop_progress.offset ≡ 0) × (root.drop_level ≡ 0)))
+
 decides_whole : (root : RootItem) → Decides (is_whole root) (IsWhole root)
 decides_whole root =
-    Decides-like (is_whole root)
+    Decides-like {P = WholeParts root} {Q = IsWhole root} (is_whole root)
     (λ p. (same_key root.drop_progress p.0 p.1.0 p.1.1.0, p.1.1.1))
     (λ is. (ap (λ (k : Key). k.objectid) is.0, (ap (λ (k : Key). k.kind) is.0, (ap (λ (k : Key). k.offset) is.0, is.1))))
     (Decides-and _ _ (Decides-eqb root.drop_progress.objectid 0)
     (Decides-and _ _ (Decides-eqb root.drop_progress.kind 0) (Decides-and _ _ (Decides-eqb root.drop_progress.offset 0) (Decides-eqb root.drop_level 0))))
-
--- a test decides that it is true
-itself : (b : Bool) → Decides b (b ≡ true)
-itself b = ((λ is. is), (λ is. is))
 
 abbrev IsFilesRoot : ℕ → RootItem → Type 0
 IsFilesRoot number root = holds_files number ≡ true → (root.refs ≡ 1) × (root.root_dirid ≡ FIRST_FREE_OBJECTID)
@@ -94,7 +93,7 @@ root_from s k body root is (generation, (second, (snapshot, (address, (level, (f
 
 root_parts : (s : Super) (k : Key) (body : List ℕ) → (is : IsRootItem s (k, body)) → Parts s k is.root
 root_parts s k body is =
-    (is.generations.0, (is.generations.1.0, (is.generations.1.1, (is.address, (is.level, (is.flags, (is.whole, (is.settled, (is.place, is.files)))))))))
+    (is.generations.0, (is.generations.1, (is.generations.2, (is.address, (is.level, (is.flags, (is.whole, (is.settled, (is.place, is.files)))))))))
 
 by_root : (s : Super) (k : Key) (body : List ℕ) (o : Option RootItem) → root_item_of body ≡ o → Decides (keeps_some_root s k o) (IsRootItem s (k, body))
 by_root s k body None none = ((λ no. absurd (false≢true no)), (λ is. absurd (not_none is.root (sym none ∙ is.root_is))))

@@ -115,7 +115,7 @@ decides_device a b =
 
 decides_body : (s : Super) (o : Option Device) → Decides (is_device_body s o) (o ≡ Some s.dev_item)
 decides_body s None = ((λ no. absurd (false≢true no)), (λ none. absurd (not_none s.dev_item none)))
-decides_body s (Some d) = Decides-like (same_device d s.dev_item) (λ same. ap Some same) (λ same. some_same d s.dev_item same) (decides_device d s.dev_item)
+decides_body s (Some d) = Decides-like {P = d ≡ s.dev_item} {Q = Some d ≡ Some s.dev_item} (same_device d s.dev_item) (λ same. ap Some same) (λ same. some_same d s.dev_item same) (decides_device d s.dev_item)
 
 abbrev device_key : Super → Key
 device_key s = record { objectid = DEV_ITEMS_OBJECTID; kind = DEV_ITEM; offset = s.dev_item.devid }
@@ -125,35 +125,35 @@ same_key s k a b c = cc
 
 decides_key : (s : Super) (k : Key) → Decides (is_device_key s k) (k ≡ device_key s)
 decides_key s k =
-    Decides-like (is_device_key s k) (λ p. same_key s k p.0 p.1.0 p.1.1) (λ same. (ap (λ (x : Key). x.objectid) same, (ap (λ (x : Key). x.kind) same, ap (λ (x : Key). x.offset) same)))
+    Decides-like {P = (k.objectid ≡ DEV_ITEMS_OBJECTID) × ((k.kind ≡ DEV_ITEM) × (k.offset ≡ s.dev_item.devid))} {Q = k ≡ device_key s} (is_device_key s k) (λ p. same_key s k p.0 p.1.0 p.1.1) (λ same. (ap (λ (x : Key). x.objectid) same, (ap (λ (x : Key). x.kind) same, ap (λ (x : Key). x.offset) same)))
     (Decides-and _ _ (Decides-eqb k.objectid DEV_ITEMS_OBJECTID) (Decides-and _ _ (Decides-eqb k.kind DEV_ITEM) (Decides-eqb k.offset s.dev_item.devid)))
 
 pub decides_item : (s : Super) (k : Key) (body : List ℕ) → Decides (is_device_item s k body) (IsDeviceItem s (k, body))
 decides_item s k body =
-    Decides-like (is_device_item s k body) (λ p. record { key = p.0; body = p.1 }) (λ is. (is.key, is.body)) (Decides-and _ _ (decides_key s k) (decides_body s (device_of body)))
+    Decides-like {P = (k ≡ device_key s) × (device_of body ≡ Some s.dev_item)} {Q = IsDeviceItem s (k, body)} (is_device_item s k body) (λ p. record { key = p.0; body = p.1 }) (λ is. (is.key, is.body)) (Decides-and _ _ (decides_key s k) (decides_body s (device_of body)))
 
 -- ---- device items one after the other
 
 long_not_one : (s : Super) (i j : Item) (items : List Item) → ¬ IsOnlyDevice s (i ∷ (j ∷ items))
-long_not_one s i j items (k, (are, is)) = omega (arith, ap length are)
+long_not_one s i j items (k, are, is) = omega (arith, ap length are)
 
 other_not_one : (s : Super) (i : Item) (more : List Item) → ¬ IsDeviceItem s i → ¬ IsOnlyDevice s (i ∷ more)
-other_not_one s i more no (k, (are, is)) = no (subst (IsDeviceItem s) (sym (ap (first_or i) are)) is)
+other_not_one s i more no (k, are, is) = no (subst (IsDeviceItem s) (sym (ap (first_or i) are)) is)
 
 pub first_found : (s : Super) (i : Item) (items : List Item) → items ≡ [] → IsDeviceItem s i → FindsDevices s (items ++ i ∷ []) found.One
-first_found s i items none is = subst (λ (l : List Item). IsOnlyDevice s (l ++ i ∷ [])) (sym none) (i, (refl, is))
+first_found s i items none is = subst (λ (l : List Item). IsOnlyDevice s (l ++ i ∷ [])) (sym none) (i, refl, is)
 
 pub first_wrong : (s : Super) (i : Item) (items : List Item) → items ≡ [] → ¬ IsDeviceItem s i → FindsDevices s (items ++ i ∷ []) found.Wrong
 first_wrong s i items none no = λ more one. other_not_one s i more no (subst (λ (l : List Item). IsOnlyDevice s ((l ++ i ∷ []) ++ more)) none one)
 
 pub second_wrong : (s : Super) (i : Item) (items : List Item) → FindsDevices s items found.One → FindsDevices s (items ++ i ∷ []) found.Wrong
-second_wrong s i items (j, (are, is)) = λ more one. long_not_one s j i more (subst (λ (l : List Item). IsOnlyDevice s ((l ++ i ∷ []) ++ more)) are one)
+second_wrong s i items (j, are, is) = λ more one. long_not_one s j i more (subst (λ (l : List Item). IsOnlyDevice s ((l ++ i ∷ []) ++ more)) are one)
 
 pub still_wrong : (s : Super) (i : Item) (items : List Item) → FindsDevices s items found.Wrong → FindsDevices s (items ++ i ∷ []) found.Wrong
 still_wrong s i items wrong = λ more one. wrong (i ∷ more) (subst (IsOnlyDevice s) (append_assoc items (i ∷ []) more) one)
 
 pub none_alone : (s : Super) (items : List Item) → FindsDevices s items found.None → ¬ IsOnlyDevice s items
-none_alone s items none (i, (are, is)) = omega (arith, ap length (sym none ∙ are))
+none_alone s items none (i, are, is) = omega (arith, ap length (sym none ∙ are))
 
 pub wrong_alone : (s : Super) (items : List Item) → FindsDevices s items found.Wrong → ¬ IsOnlyDevice s items
 wrong_alone s items wrong one = wrong [] (subst (IsOnlyDevice s) (sym (append-nil items)) one)
@@ -163,11 +163,15 @@ wrong_alone s items wrong one = wrong [] (subst (IsOnlyDevice s) (sym (append-ni
 decides_volume : (s : Super) → Decides (tells_volume s) ((s.dev_item.fsid ≡ node_fsid s) × (s.dev_item.total_bytes ≡ s.total_bytes))
 decides_volume s = Decides-and _ _ (decides_uuid s.dev_item.fsid (node_fsid s)) (Decides-eqb s.dev_item.total_bytes s.total_bytes)
 
+abbrev TotalParts : Super → List ChunkAt → List Item → List GroupAt → Type 0
+TotalParts s chunks others groups =
+    IsOnlyDevice s others × ((s.bytes_used ≡ sum_by used_of groups) × (((s.dev_item.fsid ≡ node_fsid s) × (s.dev_item.total_bytes ≡ s.total_bytes)) × (s.dev_item.bytes_used ≡ stripe_bytes chunks)))
+
 pub decides_totals : (s : Super) (chunks : List ChunkAt) (items others : List Item) (groups : List GroupAt) (one used volume stripes : Bool) → AreReadOf group_at items groups
     → Decides one (IsOnlyDevice s others) → Decides used (s.bytes_used ≡ sum_by used_of groups) → volume ≡ tells_volume s → Decides stripes (s.dev_item.bytes_used ≡ stripe_bytes chunks)
     → Decides (one && (used && (volume && stripes))) (AreTotals s chunks items others)
 decides_totals s chunks items others groups one used volume stripes read own in_use told taken =
-    Decides-like _
+    Decides-like {P = TotalParts s chunks others groups} {Q = AreTotals s chunks items others} _
     (λ p. record { used = p.1.0 ∙ sym sums; device = record { fsid = p.1.1.0.0; total = p.1.1.0.1; used = p.1.1.1 }; one = p.0 })
     (λ are. (are.one, (are.used ∙ sums, ((are.device.fsid, are.device.total), are.device.used))))
     (Decides-and one _ own (Decides-and used _ in_use (Decides-and volume stripes (subst (λ (b : Bool). Decides b _) (sym told) (decides_volume s)) taken)))

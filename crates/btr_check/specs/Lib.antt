@@ -2,6 +2,7 @@ pub use Rattle.btr_check_rules.specs as btr_check_rules
 pub use Rattle.btr_reader.specs as btr_reader
 pub mod Devices
 pub mod Failing
+pub mod Nodes
 pub mod Noted
 pub mod Read
 pub mod Roots

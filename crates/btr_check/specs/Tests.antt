@@ -6,7 +6,7 @@ use Rattle.btr_reader.specs.btr_keys.declared.key.Key.{Key}
 use Rattle.btr_reader.specs.btr_space_items.declared.stripe.Stripe.{Stripe}
 use Rattle.btr_reader.specs.btr_super.declared.superblock.Super.{Super}
 use Rattle.btr_reader.specs.declared.chunk.ChunkAt.{ChunkAt}
-use Rattle.btr_check_rules.specs.Recount.{Span}
+use Rattle.btr_check_rules.specs.declared.span.Span.{Span}
 
 -- a stripe of so many bytes is on the volume's device, and lies within its bytes
 abbrev pub is_stripe : Super → ℕ → Stripe → Bool

@@ -32,7 +32,7 @@ impl Notes for ExtentsFound {
     ghost holds = { λ begun notes items. HoldsExtents notes items };
 
     /// Notes one more item of the device tree. Items of other kinds are passed over.
-    fn note(&mut self, _: Global, key: &Key, body: &[u8], _leaf: u64) -> Result<(), Memory> {
+    fn note(&mut self, _: Global, key: &Key, body: &[u8], _: u64) -> Result<(), Memory> {
         if key.kind != DEV_EXTENT {
             return Ok(());
         }

@@ -1,6 +1,5 @@
 // The device item of the chunk tree.
 ghost use Rattle.std.specs.Prelude.{◌≡◌, ◌++◌, ◌∷◌, [], List};
-ghost use Rattle.std.specs.Bool.{Decides};
 ghost use Rattle.btr_reader.specs.btr_node.Leaf.{Item};
 ghost use Rattle.btr_check.specs.Devices.{FindsDevices, is_device_body, is_device_item, is_device_key, same_device};
 

@@ -1,6 +1,5 @@
 // Block groups and the chunks that they are of.
-ghost use Rattle.std.specs.Prelude.{◌≡◌, ℕ, List, All, map};
-ghost use Rattle.std.specs.List.{list_any};
+ghost use Rattle.std.specs.Prelude.{◌≡◌, ℕ, List, All, map, true};
 ghost use Rattle.btr_reader.specs.btr_node.Leaf.{Item};
 ghost use Rattle.btr_reader.specs.declared.chunk.ChunkAt.{ChunkAt as Chunk};
 ghost use Rattle.btr_check_rules.specs.Groups.{AreGroupsOf};

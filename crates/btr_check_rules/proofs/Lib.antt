@@ -1,1 +1,2 @@
+pub mod LeafItems
 pub mod PlainWalk

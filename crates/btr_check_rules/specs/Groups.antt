@@ -17,7 +17,8 @@ use Rattle.btr_reader.specs.btr_super.declared.superblock.Super.{Super}
 use Rattle.btr_reader.specs.Chunks.{is_chunk_key}
 use Rattle.btr_reader.specs.Opening.{form_of}
 use Rattle.btr_reader.specs.declared.chunk.ChunkAt.{ChunkAt}
-use Rattle.btr_check_rules.specs.Recount.{Recount, DataUse, EachAt, PairsAt, Span, data_uses, is_within, nodes_met, object_of, of_kind, recounted_items, span_of}
+use Rattle.btr_check_rules.specs.Recount.{Recount, DataUse, EachAt, PairsAt, data_uses, is_within, nodes_met, object_of, of_kind, recounted_items, span_of}
+use Rattle.btr_check_rules.specs.declared.span.Span.{Span}
 
 -- ---- block groups
 

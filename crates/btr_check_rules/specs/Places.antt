@@ -7,7 +7,8 @@ use Rattle.btr_reader.specs.vol_block.Volume.{IsReserved}
 use Rattle.btr_reader.specs.btr_reader_walk.Map.{place, second_place}
 use Rattle.btr_reader.specs.Chunks.{is_dup_kind, system_kind, metadata_kind, data_kind}
 use Rattle.btr_reader.specs.declared.chunk.ChunkAt.{ChunkAt}
-use Rattle.btr_check_rules.specs.Recount.{Recount, TreeOn, PairsAt, Span, IsData, IsNodeOf, all_trees, map_of}
+use Rattle.btr_check_rules.specs.Recount.{Recount, TreeOn, PairsAt, IsData, IsNodeOf, all_trees, map_of}
+use Rattle.btr_check_rules.specs.declared.span.Span.{Span}
 
 -- ---- extents and chunks
 

@@ -22,7 +22,7 @@ use Rattle.btr_reader.specs.Chunks.{chunk_in, range_of}
 use Rattle.btr_reader.specs.Opening.{form_of, chunk_tree, root_tree, chunk_map, boot_chunks, boot_list}
 use Rattle.btr_reader.specs.Parts.{own_super}
 use Rattle.btr_check_rules.specs.Walk.{is_subvolume, shared_walk}
-pub use Rattle.btr_check_rules.specs.declared.span.Span.{Span}
+use Rattle.btr_check_rules.specs.declared.span.Span.{Span}
 
 -- ---- what stands at an address
 

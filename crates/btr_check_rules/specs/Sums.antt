@@ -11,7 +11,8 @@ use Rattle.btr_reader.specs.btr_node.Leaf.{Item}
 use Rattle.btr_reader.specs.Opening.{form_of}
 use Rattle.btr_reader.specs.btr_reader_walk.Map.{place}
 use Rattle.btr_check_rules.specs.Inodes.{HasInode, has_no_sums}
-use Rattle.btr_check_rules.specs.Recount.{Recount, TreeOn, DataUse, EachAt, PairsAt, Span, data_uses, file_trees, is_within, map_of, recounted_items, span_of, uses_in}
+use Rattle.btr_check_rules.specs.Recount.{Recount, TreeOn, DataUse, EachAt, PairsAt, data_uses, file_trees, is_within, map_of, recounted_items, span_of, uses_in}
+use Rattle.btr_check_rules.specs.declared.span.Span.{Span}
 
 -- ---- checksum items
 

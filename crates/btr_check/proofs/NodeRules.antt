@@ -1,0 +1,60 @@
+-- The tests of a node's bytes tell what is asked of them.
+use Rattle.std.proofs.Common.{◌≡◌, ℕ, ◌+◌, ◌-◌, ◌≤◌, ◌==◌, ◌&&◌, nat_le, ◌||◌, ◌⊎◌, inl, inr, Bool, true, false, not, List, [], ◌∷◌, length, replicate, refl, sym, ap, subst, ◌∙◌, ⊎_elim, arith}
+use Rattle.std.specs.Bool.{Decides}
+use Rattle.std.specs.List.{list_any}
+use Rattle.std.proofs.lemmas.Bool.{both_ways, cases_Bool}
+use Rattle.std.proofs.lemmas.Bool.Decides.{Decides-and, Decides-eqb, Decides-like, Decides-not, Decides-or}
+use Rattle.btrfs_format.specs.declared.flag.TheConstants.{HEADER_FLAG_WRITTEN, MIXED_BACKREF_REV}
+use Rattle.btrfs_format.specs.declared.size.TheConstants.{HEADER_SIZE}
+use Rattle.btr_reader.specs.btr_node.Head.{head_in}
+unfoldable use Rattle.btr_reader.specs.btr_node.Leaf.{heads_in}
+use Rattle.btr_reader.specs.btr_node.declared.head.Head.{Head}
+use Rattle.btr_reader.specs.btr_reader_walk.declared.tree.NodePointer.{NodePointer}
+use Rattle.btr_reader.specs.btr_super.declared.superblock.Super.{Super}
+use Rattle.btr_check_rules.specs.Trees.{IsWritten, KeepsNode, RELOCATED, is_packed, never_empty}
+use Rattle.btr_check.specs.Nodes.{is_empty_right, is_packed_leaf, is_written}
+use Rattle.btr_check.proofs.Deciding.{decides_leb, decides_uuid, itself}
+
+decides_written : (h : Head) → Decides (is_written h) (IsWritten h)
+decides_written h =
+    Decides-like {P = ((h.flags ≡ (HEADER_FLAG_WRITTEN ∷ replicate 6 0)) ⊎ (h.flags ≡ ((HEADER_FLAG_WRITTEN + RELOCATED) ∷ replicate 6 0))) × (h.revision ≡ MIXED_BACKREF_REV)} {Q = IsWritten h} (is_written h) (λ p. record { flags = p.0; revision = p.1 }) (λ is. (is.flags, is.revision))
+    (Decides-and _ _ (Decides-or _ _ (decides_uuid h.flags (HEADER_FLAG_WRITTEN ∷ replicate 6 0)) (decides_uuid h.flags ((HEADER_FLAG_WRITTEN + RELOCATED) ∷ replicate 6 0))) (Decides-eqb h.revision MIXED_BACKREF_REV))
+
+-- where a fact is asked for only if another one holds
+decides_if : {P Q : Type 0} (x y : Bool) → Decides x P → Decides y Q → Decides (not x || y) (P → Q)
+decides_if {P} {Q} x y dx dy = Decides-like (not x || y) to from (Decides-or _ _ (Decides-not x dx) dy)
+  where
+    to : (¬ P) ⊎ Q → P → Q
+    to (inl no) p = absurd (no p)
+    to (inr q) p = q
+
+    from : (P → Q) → (¬ P) ⊎ Q
+    from f = ⊎_elim (λ (yes : x ≡ true). inr (f (dx.0 yes))) (λ (no : x ≡ false). inl (λ p. both_ways x no (dx.1 p))) (cases_Bool x)
+
+decides_packed : (s : Super) (level : ℕ) (bytes : List ℕ) → length bytes ≡ s.nodesize → Decides (is_packed_leaf level bytes) (level ≡ 0 → is_packed (s.nodesize - HEADER_SIZE) (heads_in bytes) ≡ true)
+decides_packed s level bytes size =
+    subst (λ (n : ℕ). Decides (is_packed_leaf level bytes) (level ≡ 0 → is_packed (n - HEADER_SIZE) (heads_in bytes) ≡ true)) size
+    (decides_if (level == 0) (is_packed (length bytes - HEADER_SIZE) (heads_in bytes)) (Decides-eqb level 0) (itself (is_packed (length bytes - HEADER_SIZE) (heads_in bytes))))
+
+-- a test decides that it is false
+decides_no : (b : Bool) → Decides (not b) (b ≡ false)
+decides_no true = ((λ no. sym no), (λ no. sym no))
+decides_no false = ((λ yes. refl), (λ yes. refl))
+
+decides_empty : (h : Head) → Decides (is_empty_right h) (h.count ≡ 0 → list_any (λ number. number == h.owner) never_empty ≡ false)
+decides_empty h =
+    decides_if (h.count == 0) (not (list_any (λ number. number == h.owner) never_empty)) (Decides-eqb h.count 0) (decides_no (list_any (λ number. number == h.owner) never_empty))
+
+abbrev Parts : Super → NodePointer → List ℕ → Type 0
+Parts s p bytes =
+    IsWritten (head_in bytes)
+    × ((p.generation ≤ s.generation)
+    × ((p.level ≡ 0 → is_packed (s.nodesize - HEADER_SIZE) (heads_in bytes) ≡ true)
+    × ((head_in bytes).count ≡ 0 → list_any (λ number. number == (head_in bytes).owner) never_empty ≡ false)))
+
+pub decides_node : (s : Super) (p : NodePointer) (bytes : List ℕ) → length bytes ≡ s.nodesize
+    → Decides (is_written (head_in bytes) && (nat_le p.generation s.generation && (is_packed_leaf p.level bytes && is_empty_right (head_in bytes)))) (KeepsNode s p bytes)
+decides_node s p bytes size =
+    Decides-like {P = Parts s p bytes} {Q = KeepsNode s p bytes} _ (λ q. record { written = q.0; generation = q.1.0; packed = q.1.1.0; some = q.1.1.1 }) (λ is. (is.written, (is.generation, (is.packed, is.some))))
+    (Decides-and _ _ (decides_written (head_in bytes))
+    (Decides-and _ _ (decides_leb p.generation s.generation) (Decides-and _ _ (decides_packed s p.level bytes size) (decides_empty (head_in bytes)))))
