@@ -3,7 +3,7 @@ use Rattle.std.proofs.Common.{◌≡◌, ℕ, ◌==◌, ◌&&◌, ◌||◌, ◌�
 use Rattle.std.specs.Bool.{Decides}
 use Rattle.std.specs.List.{All, Contains}
 use Rattle.std.specs.Option.{option_map}
-use Rattle.std.proofs.lemmas.Bool.{cases_Bool, eqb-true, false≢true}
+use Rattle.std.proofs.lemmas.Bool.{cases_Bool, eq-eqb, eqb-true, false≢true}
 use Rattle.std.proofs.lemmas.Bool.Decides.{Decides-and, Decides-eqb, Decides-like, Decides-or, not_from_Decides}
 use Rattle.std.proofs.lemmas.List.Elements.{All-cons, All-contains, All-head, All-nil, All-tail}
 use Rattle.btrfs_format.specs.declared.key.TheConstants.{DEV_EXTENT}
@@ -15,7 +15,7 @@ use Rattle.btr_reader.specs.btr_space_items.declared.dev_extent.DevExtent.{DevEx
 use Rattle.btr_reader.specs.btr_space_items.declared.stripe.Stripe.{Stripe}
 use Rattle.btr_reader.specs.declared.chunk.ChunkAt.{ChunkAt}
 use Rattle.btr_check_rules.specs.Groups.{AreExtentsOf, HasExtents, IsExtentOf, IsOfChunk, second_of, stripes_of}
-use Rattle.btr_check.specs.Failing.{FailsTest}
+use Rattle.btr_check.specs.Failing.{Answers, FailsTest}
 use Rattle.btr_check.specs.Read.{AreReadOf, extent_at, extent_of, has_extent, has_extents, has_second, is_extent_of, is_of_chunk, is_of_second}
 use Rattle.btr_check.specs.declared.found.ExtentAt.{ExtentAt}
 use Rattle.btr_check.proofs.Listing.{all_from_contains, at_head, decides_some, head_or_tail, in_tail, not_none, of_item, read_of, some_same}
@@ -176,3 +176,15 @@ module _ (chunks : List ChunkAt) (items : List Item) (extents : List ExtentAt) (
   extent_wrong a (e, h, at, no) are =
       let (i, there, is) = of_item extent_at items extents read e h in
       not_from_Decides (extent_of chunks e) (decides_of i e is) no (All-contains (λ (j : Item). j.0.offset ≡ a → IsOfChunk chunks j) items i are.each there ((is_read i e is).offset ∙ at))
+
+  -- what is answered where each stripe has its device extent
+  pub answers_extents : (found : Option ℕ) → All (λ c. has_extents extents c ≡ true) chunks → Answers (All (λ e. extent_of chunks e ≡ true) extents) (FailsTest (λ (e : ExtentAt). e.offset) (extent_of chunks) extents) found
+      → Answers ((a : ℕ) → AreExtentsOf chunks items a) (λ a. ¬ AreExtentsOf chunks items a) found
+  answers_extents None has right = all_right has right
+  answers_extents (Some a) has fails = extent_wrong a fails
+
+-- a device extent that is off its grammar is that of no stripe
+pub off_grammar : (chunks : List ChunkAt) (items : List Item) (a : ℕ) → ((i : Item) → Contains items i → i.0.kind ≡ DEV_EXTENT) → (i : Item) → Contains items i → i.0.offset ≡ a → extent_at i ≡ None → ¬ AreExtentsOf chunks items a
+off_grammar chunks items a kinds i h at none are =
+    let (c, s, in_chunks, in_stripes, own) = All-contains (λ (j : Item). j.0.offset ≡ a → IsOfChunk chunks j) items i are.each h at in
+    not_none _ (sym none ∙ (ap (λ (b : Bool). if b then extent_by i (dev_extent_of i.1) else None) (eq-eqb i.0.kind DEV_EXTENT (kinds i h)) ∙ ap (extent_by i) own.extent_is))

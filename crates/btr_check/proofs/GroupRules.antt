@@ -15,7 +15,7 @@ use Rattle.btr_reader.specs.btr_space_items.declared.block_group.BlockGroup.{Blo
 use Rattle.btr_reader.specs.declared.chunk.ChunkAt.{ChunkAt}
 use Rattle.btr_check_rules.specs.Groups.{AreGroupsOf, IsGroupOf}
 use Rattle.btr_check_rules.specs.Recount.{object_of}
-use Rattle.btr_check.specs.Failing.{FailsTest}
+use Rattle.btr_check.specs.Failing.{Answers, FailsTest}
 use Rattle.btr_check.specs.Read.{AreReadOf, chunk_of, group_at, group_of, has_group, is_group_of}
 use Rattle.btr_check.specs.declared.found.ChunkUse.{ChunkUse}
 use Rattle.btr_check.specs.declared.found.GroupAt.{GroupAt}
@@ -171,3 +171,9 @@ module _ (used : ChunkAt → ℕ) (chunks : List ChunkUse) (items : List Item) (
   group_wrong a (g, h, at, no) are =
       let (i, there, is) = of_item group_at items groups read g h in
       not_from_Decides (group_of chunks g) (decides_of i g is) no (All-contains (λ j. object_of j ≡ a → HasChunk j) items i are.each there ((is_read i g is).start ∙ at))
+
+  -- what is answered where each chunk has its block group
+  pub answers_groups : (found : Option ℕ) → All (λ u. has_group groups u ≡ true) chunks → Answers (All (λ g. group_of chunks g ≡ true) groups) (FailsTest (λ (g : GroupAt). g.start) (group_of chunks) groups) found
+      → Answers ((a : ℕ) → AreGroupsOf used (map chunk_of chunks) items a) (λ a. ¬ AreGroupsOf used (map chunk_of chunks) items a) found
+  answers_groups None has right = all_right has right
+  answers_groups (Some a) has fails = group_wrong a fails

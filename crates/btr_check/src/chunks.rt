@@ -1,7 +1,8 @@
 // What Linux asks of each chunk by itself.
-ghost use Rattle.std.specs.Prelude.{◌≡◌, ℕ, All, IfOk};
-ghost use Rattle.btr_check_rules.specs.Groups.{AreChunksApart, IsChunkOn};
-ghost use Rattle.btr_check.specs.Failing.{Answers, FailsOf};
+ghost use Rattle.std.specs.Prelude.{◌≡◌, ℕ, All, AllPairs, IfOk, map};
+ghost use Rattle.std.specs.List.{flat_map};
+ghost use Rattle.btr_check_rules.specs.Groups.{Apart, AreChunksApart, IsChunkOn, chunk_span, stripe_spans};
+ghost use Rattle.btr_check.specs.Failing.{Answers, FailsOf, Overlaps};
 ghost use Rattle.btr_check.specs.Tests.{is_chunk, is_second, is_stripe};
 ghost use Rattle.btr_reader.specs.declared.chunk.ChunkAt.{ChunkAt as Chunk};
 
@@ -59,18 +60,25 @@ pub fn invalid_chunk(sup: &Super, chunks: &[ChunkAt]) -> Option<u64>
     None
 }
 
+/// Where two chunks overlap, by their addresses or on the device; None where no two do.
+fn overlapping(alloc: Global, chunks: &[ChunkAt]) -> Result<Option<u64>, Memory>
+    ensures { IfOk result (Answers (AllPairs Apart (map chunk_span chunks.now) × AllPairs Apart (flat_map stripe_spans chunks.now)) (Overlaps chunks.now)) }
+{
+    let addresses = chunk_spans(alloc, chunks)?;
+    let places = device_spans(alloc, chunks)?;
+    match overlap(addresses.as_slice()) {
+        Some(address) => Ok(Some(address)),
+        None => Ok(overlap(places.as_slice())),
+    }
+}
+
 /// The address of a chunk that Linux would not take, or that overlaps another one; or a place of the device where two
 /// overlap. None where there is none.
 pub fn wrong_chunk(alloc: Global, sup: &Super, chunks: &[ChunkAt]) -> Result<Option<u64>, Memory>
     ensures { IfOk result (Answers ((a : ℕ) → AreChunksApart sup.now chunks.now a) (λ a. ¬ AreChunksApart sup.now chunks.now a)) }
 {
-    if let Some(address) = invalid_chunk(sup, chunks) {
-        return Ok(Some(address));
+    match invalid_chunk(sup, chunks) {
+        Some(address) => Ok(Some(address)),
+        None => overlapping(alloc, chunks),
     }
-    let addresses = chunk_spans(alloc, chunks)?;
-    if let Some(address) = overlap(addresses.as_slice()) {
-        return Ok(Some(address));
-    }
-    let places = device_spans(alloc, chunks)?;
-    Ok(overlap(places.as_slice()))
 }

@@ -90,8 +90,8 @@ fn judge(notes: &ExtentsFound, chunks: &[ChunkAt]) -> Option<u64>
     ensures { (items : List TreeItem) → HoldsExtents notes.now items → Answers ((a : ℕ) → AreExtentsOf chunks.now (of_kind DEV_EXTENT (map bare_item items)) a)
         (λ a. ¬ AreExtentsOf chunks.now (of_kind DEV_EXTENT (map bare_item items)) a) result }
 {
-    if let Some(address) = notes.wrong {
-        return Some(address);
+    match notes.wrong {
+        Some(address) => Some(address),
+        None => wrong_extent(chunks, notes.extents.as_slice()),
     }
-    wrong_extent(chunks, notes.extents.as_slice())
 }

@@ -112,8 +112,8 @@ pub fn wrong_extent(chunks: &[ChunkAt], extents: &[ExtentAt]) -> Option<u64>
     ensures { (items : List Item) → AreReadOf extent_at items extents.now
         → Answers ((a : ℕ) → AreExtentsOf chunks.now items a) (λ a. ¬ AreExtentsOf chunks.now items a) result }
 {
-    if let Some(address) = without_extents(chunks, extents) {
-        return Some(address);
+    match without_extents(chunks, extents) {
+        Some(address) => Some(address),
+        None => without_chunk(chunks, extents),
     }
-    without_chunk(chunks, extents)
 }

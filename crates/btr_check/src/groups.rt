@@ -76,8 +76,8 @@ pub fn wrong_group(chunks: &[ChunkUse], groups: &[GroupAt]) -> Option<u64>
     ensures { (used : Chunk → ℕ) (items : List Item) → All (λ (u : Use). u.used ≡ used u.chunk) chunks.now → AreReadOf group_at items groups.now
         → Answers ((a : ℕ) → AreGroupsOf used (map chunk_of chunks.now) items a) (λ a. ¬ AreGroupsOf used (map chunk_of chunks.now) items a) result }
 {
-    if let Some(address) = without_group(chunks, groups) {
-        return Some(address);
+    match without_group(chunks, groups) {
+        Some(address) => Some(address),
+        None => without_chunk(chunks, groups),
     }
-    without_chunk(chunks, groups)
 }

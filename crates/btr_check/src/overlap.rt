@@ -1,8 +1,7 @@
 // Ranges that overlap.
 ghost use Rattle.std.specs.Prelude.{AllPairs, ◌≡◌};
 ghost use Rattle.btr_check_rules.specs.Groups.{Apart};
-ghost use Rattle.btr_check_rules.specs.declared.span.Span.{Span as Range};
-ghost use Rattle.btr_check.specs.Failing.{Answers, FailsOfTwo};
+ghost use Rattle.btr_check.specs.Failing.{Answers, FailsOfTwo, start_of};
 ghost use Rattle.btr_check.specs.Tests.{are_apart};
 
 use btr_check_rules::Span;
@@ -18,7 +17,7 @@ fn are_apart(a: &Span, b: &Span) -> bool
 /// Where a range begins that is not apart from one behind it; None where all are apart. There are as many comparisons as
 /// pairs, as where a volume is opened.
 pub fn overlap(spans: &[Span]) -> Option<u64>
-    ensures { Answers (AllPairs Apart spans.now) (FailsOfTwo (λ (s : Range). s.start) Apart spans.now) result }
+    ensures { Answers (AllPairs Apart spans.now) (FailsOfTwo start_of Apart spans.now) result }
 {
     for i in 0..spans.len() {
         for j in i + 1..spans.len() {
