@@ -1,12 +1,13 @@
 -- Chunks that are valid and apart are so at each address.
-use Rattle.std.proofs.Common.{◌≡◌, ℕ, inl, inr, List, map, Option, Some, None}
+use Rattle.std.proofs.Common.{◌≡◌, ℕ, inl, inr, List, map, Option, Some, None, Result, Ok, Err, IfOk, sym, subst}
 use Rattle.std.specs.List.{All, AllPairs, flat_map}
 use Rattle.std.proofs.lemmas.List.Elements.{All-contains}
 use Rattle.btr_reader.specs.btr_super.declared.superblock.Super.{Super}
 use Rattle.btr_reader.specs.declared.chunk.ChunkAt.{ChunkAt}
 use Rattle.btr_check_rules.specs.Groups.{Apart, AreChunksApart, IsChunkOn, chunk_span, stripe_spans}
 use Rattle.btr_check_rules.specs.Recount.{EachAt, PairsAt}
-use Rattle.btr_check.specs.Failing.{Answers, FailsOf, FailsOfTwo, Overlaps, start_of}
+use Rattle.btr_check_rules.specs.declared.span.Span.{Span}
+use Rattle.btr_check.specs.Failing.{Answers, FailsOf, FailsOfTwo, Overlaps, first_found, start_of}
 
 pub fails_at : {A : Type 0} (at : A → ℕ) (P : A → Type 0) (xs : List A) (a : ℕ) → FailsOf at P xs a → ¬ EachAt at a P xs
 fails_at at P xs a (x, h, is, no) each = no (All-contains (λ y. at y ≡ a → P y) xs x each h is)
@@ -38,13 +39,26 @@ abbrev Apart2 : List ChunkAt → Type 0
 Apart2 chunks = AllPairs Apart (map chunk_span chunks) × AllPairs Apart (flat_map stripe_spans chunks)
 
 -- what is answered where each chunk is valid
-pub answers_apart : (s : Super) (chunks : List ChunkAt) (found : Option ℕ) → All (IsChunkOn s) chunks → Answers (Apart2 chunks) (Overlaps chunks) found
+answers_apart : (s : Super) (chunks : List ChunkAt) (found : Option ℕ) → All (IsChunkOn s) chunks → Answers (Apart2 chunks) (Overlaps chunks) found
     → Answers ((a : ℕ) → AreChunksApart s chunks a) (λ a. ¬ AreChunksApart s chunks a) found
 answers_apart s chunks None valid apart = all_apart s chunks valid apart.0 apart.1
 answers_apart s chunks (Some a) valid fails = overlap_fails s chunks a fails
 
--- what is answered where no two overlap by their addresses
-pub answers_places : (chunks : List ChunkAt) (found : Option ℕ) → AllPairs Apart (map chunk_span chunks) → Answers (AllPairs Apart (flat_map stripe_spans chunks)) (FailsOfTwo start_of Apart (flat_map stripe_spans chunks)) found
+pub answers_valid : {E : Type 0} (s : Super) (chunks : List ChunkAt) (r : Result (Option ℕ) E) → All (IsChunkOn s) chunks → IfOk r (Answers (Apart2 chunks) (Overlaps chunks))
+    → IfOk r (Answers ((a : ℕ) → AreChunksApart s chunks a) (λ a. ¬ AreChunksApart s chunks a))
+answers_valid s chunks (Ok found) valid are = answers_apart s chunks found valid are
+answers_valid s chunks (Err e) valid are = tt
+
+both : (chunks : List ChunkAt) (first second : Option ℕ) → Answers (AllPairs Apart (map chunk_span chunks)) (FailsOfTwo start_of Apart (map chunk_span chunks)) first
+    → Answers (AllPairs Apart (flat_map stripe_spans chunks)) (FailsOfTwo start_of Apart (flat_map stripe_spans chunks)) second → Answers (Apart2 chunks) (Overlaps chunks) (first_found first second)
+both chunks None None logical physical = (logical, physical)
+both chunks None (Some a) logical fails = inr fails
+both chunks (Some a) second fails physical = inl fails
+
+-- what is answered by two lists of ranges, those of addresses and those of the device
+pub both_answer : (chunks : List ChunkAt) (addresses places : List Span) (first second found : Option ℕ) → addresses ≡ map chunk_span chunks → places ≡ flat_map stripe_spans chunks
+    → Answers (AllPairs Apart addresses) (FailsOfTwo start_of Apart addresses) first → Answers (AllPairs Apart places) (FailsOfTwo start_of Apart places) second → found ≡ first_found first second
     → Answers (Apart2 chunks) (Overlaps chunks) found
-answers_places chunks None logical physical = (logical, physical)
-answers_places chunks (Some a) logical fails = inr fails
+both_answer chunks addresses places first second found a p one two is =
+    subst (Answers (Apart2 chunks) (Overlaps chunks)) (sym is)
+    (both chunks first second (subst (λ (l : List Span). Answers (AllPairs Apart l) (FailsOfTwo start_of Apart l) first) a one) (subst (λ (l : List Span). Answers (AllPairs Apart l) (FailsOfTwo start_of Apart l) second) p two))

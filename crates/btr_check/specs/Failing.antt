@@ -26,6 +26,11 @@ start_of s = s.start
 abbrev pub Overlaps : List ChunkAt → ℕ → Type 0
 Overlaps chunks a = FailsOfTwo start_of Apart (map chunk_span chunks) a ⊎ FailsOfTwo start_of Apart (flat_map stripe_spans chunks) a
 
+-- the first of two answers, or the second where that is none
+abbrev pub first_found : Option ℕ → Option ℕ → Option ℕ
+first_found None second = second
+first_found (Some a) second = Some a
+
 -- an answer: all holds, or this fails at the address
 abbrev pub Answers : Type 0 → (ℕ → Type 0) → Option ℕ → Type 0
 Answers holds fails None = holds

@@ -2,7 +2,7 @@
 ghost use Rattle.std.specs.Prelude.{◌≡◌, ℕ, All, AllPairs, IfOk, map};
 ghost use Rattle.std.specs.List.{flat_map};
 ghost use Rattle.btr_check_rules.specs.Groups.{Apart, AreChunksApart, IsChunkOn, chunk_span, stripe_spans};
-ghost use Rattle.btr_check.specs.Failing.{Answers, FailsOf, Overlaps};
+ghost use Rattle.btr_check.specs.Failing.{Answers, FailsOf, Overlaps, first_found};
 ghost use Rattle.btr_check.specs.Tests.{is_chunk, is_second, is_stripe};
 ghost use Rattle.btr_reader.specs.declared.chunk.ChunkAt.{ChunkAt as Chunk};
 
@@ -60,16 +60,25 @@ pub fn invalid_chunk(sup: &Super, chunks: &[ChunkAt]) -> Option<u64>
     None
 }
 
+/// The first of two answers, or the second where that is none.
+fn first_found(first: Option<u64>, second: Option<u64>) -> Option<u64>
+    ensures { result ≡ first_found first second }
+{
+    match first {
+        Some(address) => Some(address),
+        None => second,
+    }
+}
+
 /// Where two chunks overlap, by their addresses or on the device; None where no two do.
 fn overlapping(alloc: Global, chunks: &[ChunkAt]) -> Result<Option<u64>, Memory>
     ensures { IfOk result (Answers (AllPairs Apart (map chunk_span chunks.now) × AllPairs Apart (flat_map stripe_spans chunks.now)) (Overlaps chunks.now)) }
 {
     let addresses = chunk_spans(alloc, chunks)?;
     let places = device_spans(alloc, chunks)?;
-    match overlap(addresses.as_slice()) {
-        Some(address) => Ok(Some(address)),
-        None => Ok(overlap(places.as_slice())),
-    }
+    let by_address = overlap(addresses.as_slice());
+    let on_device = overlap(places.as_slice());
+    Ok(first_found(by_address, on_device))
 }
 
 /// The address of a chunk that Linux would not take, or that overlaps another one; or a place of the device where two

@@ -37,17 +37,20 @@ impl Notes for ExtentsFound {
             return Ok(());
         }
         match DevExtent::read(body) {
-            Some(extent) => push_extent(
-                &mut self.extents,
-                ExtentAt {
+            Some(extent) => {
+                let found = ExtentAt {
                     devid: key.objectid,
                     offset: key.offset,
                     extent,
-                },
-            )?,
-            None => self.wrong = Some(key.offset),
+                };
+                push_extent(&mut self.extents, found)?;
+                Ok(())
+            }
+            None => {
+                self.wrong = Some(key.offset);
+                Ok(())
+            }
         }
-        Ok(())
     }
 }
 

@@ -25,17 +25,20 @@ impl Notes for GroupsFound {
             return Ok(());
         }
         match BlockGroup::read(body) {
-            Some(group) => push_group(
-                &mut self.groups,
-                GroupAt {
+            Some(group) => {
+                let found = GroupAt {
                     start: key.objectid,
                     length: key.offset,
                     group,
-                },
-            )?,
-            None => self.wrong = Some(key.objectid),
+                };
+                push_group(&mut self.groups, found)?;
+                Ok(())
+            }
+            None => {
+                self.wrong = Some(key.objectid);
+                Ok(())
+            }
         }
-        Ok(())
     }
 }
 

@@ -1,6 +1,7 @@
 //! Whether a Btrfs volume is sound, as the definitions of `btr_check_rules` have it: a recount in streams, part by part.
 #![tactic(auto)]
 
+mod all;
 mod chunks;
 mod device_tree;
 mod devices;

@@ -8,6 +8,7 @@ ghost use Rattle.btr_node.specs.Records.{records_in};
 ghost use Rattle.btr_check_rules.specs.Trees.{KeepsNode, is_packed, never_empty};
 ghost use Rattle.btr_check.specs.Nodes.{ends_at, is_empty_right, is_packed_leaf, is_written};
 
+use crate::all::all_passed;
 use btr_node::{BtrItemHead, Head};
 use btr_reader_walk::NodePointer;
 use btr_super::Super;
@@ -72,10 +73,12 @@ pub fn keeps_node(sup: &Super, p: &NodePointer, bytes: &[u8]) -> bool
     ensures { Decides result (KeepsNode sup.now p.now bytes.now) }
 {
     let head = Head::of(bytes);
-    is_written(&head)
-        && p.generation <= sup.generation
-        && is_packed_leaf(p.level, bytes, head.count as usize)
-        && is_empty_right(&head)
+    all_passed(
+        is_written(&head),
+        p.generation <= sup.generation,
+        is_packed_leaf(p.level, bytes, head.count as usize),
+        is_empty_right(&head),
+    )
 }
 
 /// Whether a node is no leaf, or its data is packed.

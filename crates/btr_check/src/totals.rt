@@ -10,6 +10,7 @@ ghost use Rattle.btr_check.specs.Read.{AreReadOf, group_at};
 ghost use Rattle.btr_check.specs.declared.found.GroupAt.{GroupAt as Group};
 ghost use Rattle.btr_check.specs.Totals.{Leaves, tells_volume};
 
+use crate::all::all_passed;
 use crate::devices::DevicesFound;
 use crate::found::GroupAt;
 use btr_reader::ChunkAt;
@@ -71,10 +72,12 @@ pub fn totals_hold(
     ensures { (items others : List Item) → AreReadOf group_at items groups.now → FindsDevices sup.now others devices.now
         → Decides result (AreTotals sup.now chunks.now items others) }
 {
-    is_one(devices)
-        && used_is(sup.bytes_used, groups)
-        && tells_volume(sup)
-        && stripes_are(sup.dev_item.bytes_used, chunks)
+    all_passed(
+        is_one(devices),
+        used_is(sup.bytes_used, groups),
+        tells_volume(sup),
+        stripes_are(sup.dev_item.bytes_used, chunks),
+    )
 }
 
 /// Whether the superblock's device item was met alone.
