@@ -1,13 +1,14 @@
 -- The tests of a node's bytes tell what is asked of them.
-use Rattle.std.proofs.Common.{◌≡◌, ℕ, ◌+◌, ◌-◌, ◌≤◌, ◌==◌, ◌&&◌, nat_le, ◌||◌, ◌⊎◌, inl, inr, Bool, true, false, not, List, [], ◌∷◌, length, replicate, refl, sym, ap, subst, ◌∙◌, ⊎_elim, arith}
+use Rattle.std.proofs.Common.{◌≡◌, ℕ, ◌+◌, ◌-◌, ◌≤◌, ◌==◌, ◌&&◌, nat_le, ◌||◌, ◌⊎◌, inl, inr, Bool, true, false, not, List, [], ◌∷◌, length, length-drop, replicate, refl, sym, ap, subst, ◌∙◌, ⊎_elim, arith}
 use Rattle.std.specs.Bool.{Decides}
 use Rattle.std.specs.List.{list_any}
 use Rattle.std.proofs.lemmas.Bool.{both_ways, cases_Bool}
-use Rattle.std.proofs.lemmas.Bool.Decides.{Decides-and, Decides-eqb, Decides-like, Decides-not, Decides-or}
+use Rattle.std.proofs.lemmas.Bool.Decides.{Decides-and, Decides-at, Decides-eqb, Decides-like, Decides-not, Decides-or}
 use Rattle.btrfs_format.specs.declared.flag.TheConstants.{HEADER_FLAG_WRITTEN, MIXED_BACKREF_REV}
-use Rattle.btrfs_format.specs.declared.size.TheConstants.{HEADER_SIZE}
-use Rattle.btr_reader.specs.btr_node.Head.{head_in}
-unfoldable use Rattle.btr_reader.specs.btr_node.Leaf.{heads_in}
+use Rattle.btrfs_format.specs.declared.size.TheConstants.{HEADER_SIZE, ITEM_SIZE}
+use Rattle.btr_reader.specs.btr_node.Head.{behind_head, head_in, nritems}
+unfoldable use Rattle.btr_reader.specs.btr_node.Leaf.{heads_in, item_layout}
+use Rattle.btr_reader.specs.btr_node.Records.{records_in}
 use Rattle.btr_reader.specs.btr_node.declared.head.Head.{Head}
 use Rattle.btr_reader.specs.btr_reader_walk.declared.tree.NodePointer.{NodePointer}
 use Rattle.btr_reader.specs.btr_super.declared.superblock.Super.{Super}
@@ -52,9 +53,18 @@ Parts s p bytes =
     × ((p.level ≡ 0 → is_packed (s.nodesize - HEADER_SIZE) (heads_in bytes) ≡ true)
     × ((head_in bytes).count ≡ 0 → list_any (λ number. number == (head_in bytes).owner) never_empty ≡ false)))
 
-pub decides_node : (s : Super) (p : NodePointer) (bytes : List ℕ) → length bytes ≡ s.nodesize
-    → Decides (is_written (head_in bytes) && (nat_le p.generation s.generation && (is_packed_leaf p.level bytes && is_empty_right (head_in bytes)))) (KeepsNode s p bytes)
-decides_node s p bytes size =
+pub decides_node : (s : Super) (p : NodePointer) (bytes : List ℕ) (written fresh packed some : Bool) → length bytes ≡ s.nodesize → written ≡ is_written (head_in bytes) → fresh ≡ nat_le p.generation s.generation
+    → packed ≡ is_packed_leaf p.level bytes → some ≡ is_empty_right (head_in bytes) → Decides (written && (fresh && (packed && some))) (KeepsNode s p bytes)
+decides_node s p bytes written fresh packed some size one two three four =
     Decides-like {P = Parts s p bytes} {Q = KeepsNode s p bytes} _ (λ q. record { written = q.0; generation = q.1.0; packed = q.1.1.0; some = q.1.1.1 }) (λ is. (is.written, (is.generation, (is.packed, is.some))))
-    (Decides-and _ _ (decides_written (head_in bytes))
-    (Decides-and _ _ (decides_leb p.generation s.generation) (Decides-and _ _ (decides_packed s p.level bytes size) (decides_empty (head_in bytes)))))
+    (Decides-and written _ (Decides-at _ _ one (decides_written (head_in bytes)))
+    (Decides-and fresh _ (Decides-at _ _ two (decides_leb p.generation s.generation))
+    (Decides-and packed some (Decides-at _ _ three (decides_packed s p.level bytes size)) (Decides-at _ _ four (decides_empty (head_in bytes))))))
+
+-- the data of a leaf, by what stands behind its head
+pub packed_leaf : (level count : ℕ) (bytes behind : List ℕ) → level ≡ 0 → count ≡ nritems bytes → behind ≡ behind_head bytes → is_packed (length behind) (records_in ITEM_SIZE item_layout count behind) ≡ is_packed_leaf level bytes
+unfolding heads_in
+packed_leaf level count bytes behind leaf some is =
+    ap (λ (l : List ℕ). is_packed (length l) (records_in ITEM_SIZE item_layout count l)) is
+    ∙ (ap (λ (n : ℕ). is_packed (length (behind_head bytes)) (records_in ITEM_SIZE item_layout n (behind_head bytes))) some
+    ∙ (ap (λ (n : ℕ). is_packed n (heads_in bytes)) (length-drop HEADER_SIZE bytes) ∙ ap (λ (n : ℕ). not (n == 0) || is_packed (length bytes - HEADER_SIZE) (heads_in bytes)) (sym leaf)))

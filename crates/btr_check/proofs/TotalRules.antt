@@ -5,7 +5,7 @@ use Rattle.std.specs.Cmp.Lexicographic.{pointwise}
 use Rattle.std.specs.List.{sum_by}
 use Rattle.std.specs.Option.{option_map_or}
 use Rattle.std.proofs.lemmas.Bool.{false≢true}
-use Rattle.std.proofs.lemmas.Bool.Decides.{Decides-and, Decides-eqb, Decides-like}
+use Rattle.std.proofs.lemmas.Bool.Decides.{Decides-and, Decides-at, Decides-eqb, Decides-like, not_from_Decides}
 use Rattle.std.proofs.lemmas.List.{append-nil}
 use Rattle.btr_reader.specs.btr_keys.declared.key.Key.{Key}
 use Rattle.btr_reader.specs.btr_node.Leaf.{Item}
@@ -19,7 +19,7 @@ use Rattle.btr_reader.specs.declared.chunk.ChunkAt.{ChunkAt}
 use Rattle.btrfs_format.specs.declared.key.TheConstants.{DEV_ITEM}
 use Rattle.btrfs_format.specs.declared.object.TheConstants.{DEV_ITEMS_OBJECTID}
 use Rattle.btr_check_rules.specs.Groups.{AreTotals, IsDeviceItem, IsOnlyDevice, group_used, stripe_bytes}
-use Rattle.btr_check.specs.Devices.{FindsDevices, is_device_body, is_device_item, is_device_key, same_device}
+use Rattle.btr_check.specs.Devices.{FindsDevices, first_device, is_device_body, is_device_item, is_device_key, same_device}
 use Rattle.btr_check.specs.Read.{AreReadOf, group_at}
 use Rattle.btr_check.specs.Totals.{tells_volume}
 use Rattle.btr_check.specs.declared.devices.DevicesFound.{DevicesFound}
@@ -157,6 +157,33 @@ none_alone s items none (i, are, is) = omega (arith, ap length (sym none ∙ are
 
 pub wrong_alone : (s : Super) (items : List Item) → FindsDevices s items found.Wrong → ¬ IsOnlyDevice s items
 wrong_alone s items wrong one = wrong [] (subst (IsOnlyDevice s) (sym (append-nil items)) one)
+
+-- ---- one device item more
+
+first_met : (s : Super) (items : List Item) (k : Key) (body : List ℕ) (right : Bool) → items ≡ [] → Decides right (IsDeviceItem s (k, body)) → FindsDevices s (items ++ (k, body) ∷ []) (first_device right)
+first_met s items k body true none is = first_found s (k, body) items none (is.0 refl)
+first_met s items k body false none is = first_wrong s (k, body) items none (not_from_Decides false is refl)
+
+pub none_met : (s : Super) (items : List Item) (k : Key) (body : List ℕ) (was : DevicesFound) (right : Bool) (now : DevicesFound) → was ≡ found.None → right ≡ is_device_item s k body → now ≡ first_device right
+    → FindsDevices s items was → FindsDevices s (items ++ (k, body) ∷ []) now
+none_met s items k body was right now none is then_ finds =
+    subst (FindsDevices s (items ++ (k, body) ∷ [])) (sym then_) (first_met s items k body right (subst (FindsDevices s items) none finds) (Decides-at _ _ is (decides_item s k body)))
+
+pub one_met : (s : Super) (items : List Item) (k : Key) (body : List ℕ) (was : DevicesFound) → was ≡ found.One → FindsDevices s items was → FindsDevices s (items ++ (k, body) ∷ []) found.Wrong
+one_met s items k body was one finds = second_wrong s (k, body) items (subst (FindsDevices s items) one finds)
+
+pub wrong_met : (s : Super) (items : List Item) (k : Key) (body : List ℕ) (was : DevicesFound) → was ≡ found.Wrong → FindsDevices s items was → FindsDevices s (items ++ (k, body) ∷ []) found.Wrong
+wrong_met s items k body was wrong finds = still_wrong s (k, body) items (subst (FindsDevices s items) wrong finds)
+
+-- a test of what was met
+pub alone_none : (s : Super) (items : List Item) (was : DevicesFound) → was ≡ found.None → FindsDevices s items was → Decides false (IsOnlyDevice s items)
+alone_none s items was none finds = ((λ no. absurd (false≢true no)), (λ one. absurd (none_alone s items (subst (FindsDevices s items) none finds) one)))
+
+pub alone_one : (s : Super) (items : List Item) (was : DevicesFound) → was ≡ found.One → FindsDevices s items was → Decides true (IsOnlyDevice s items)
+alone_one s items was one finds = ((λ yes. subst (FindsDevices s items) one finds), (λ is. refl))
+
+pub alone_wrong : (s : Super) (items : List Item) (was : DevicesFound) → was ≡ found.Wrong → FindsDevices s items was → Decides false (IsOnlyDevice s items)
+alone_wrong s items was wrong finds = ((λ no. absurd (false≢true no)), (λ one. absurd (wrong_alone s items (subst (FindsDevices s items) wrong finds) one)))
 
 -- ---- together
 

@@ -1,5 +1,5 @@
 -- Device items that were met, and the superblock's.
-use Rattle.std.specs.Prelude.{◌≡◌, ℕ, ◌==◌, nat_eq, Bool, false, ◌&&◌, List, [], ◌++◌, Option, Some, None}
+use Rattle.std.specs.Prelude.{◌≡◌, ℕ, ◌==◌, nat_eq, Bool, true, false, ◌&&◌, List, [], ◌++◌, Option, Some, None}
 use Rattle.std.specs.Cmp.Lexicographic.{pointwise}
 use Rattle.btrfs_format.specs.declared.key.TheConstants.{DEV_ITEM}
 use Rattle.btrfs_format.specs.declared.object.TheConstants.{DEV_ITEMS_OBJECTID}
@@ -35,6 +35,11 @@ is_device_body s (Some device) = same_device device s.dev_item
 
 abbrev pub is_device_item : Super → Key → List ℕ → Bool
 is_device_item s key body = is_device_key s key && is_device_body s (device_of body)
+
+-- what was met with one item, by whether that is the superblock's
+abbrev pub first_device : Bool → DevicesFound
+first_device true = found.One
+first_device false = found.Wrong
 
 -- what was met of these device items
 abbrev pub FindsDevices : Super → List Item → DevicesFound → Type 0

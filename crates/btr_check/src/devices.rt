@@ -1,7 +1,7 @@
 // The device item of the chunk tree.
 ghost use Rattle.std.specs.Prelude.{◌≡◌, ◌++◌, ◌∷◌, [], List};
 ghost use Rattle.btr_reader.specs.btr_node.Leaf.{Item};
-ghost use Rattle.btr_check.specs.Devices.{FindsDevices, is_device_body, is_device_item, is_device_key, same_device};
+ghost use Rattle.btr_check.specs.Devices.{FindsDevices, first_device, is_device_body, is_device_item, is_device_key, same_device};
 
 use btr_reader_walk::Key;
 use btr_space_items::Device;
@@ -61,19 +61,24 @@ fn is_device_item(sup: &Super, key: &Key, body: &[u8]) -> bool
     is_device_key(sup, key) && is_device_body(sup, &Device::read(body))
 }
 
+/// What was met with one item, by whether that is the superblock's.
+fn first_device(right: bool) -> DevicesFound
+    ensures { result ≡ first_device right }
+{
+    if right {
+        DevicesFound::One
+    } else {
+        DevicesFound::Wrong
+    }
+}
+
 impl DevicesFound {
     /// What was met with one device item more.
     pub fn with(self, sup: &Super, key: &Key, body: &[u8]) -> DevicesFound
         ensures { (items : List Item) → FindsDevices sup.now items self → FindsDevices sup.now (items ++ (key.now, body.now) ∷ []) result }
     {
         match self {
-            DevicesFound::None => {
-                if is_device_item(sup, key, body) {
-                    DevicesFound::One
-                } else {
-                    DevicesFound::Wrong
-                }
-            }
+            DevicesFound::None => first_device(is_device_item(sup, key, body)),
             DevicesFound::One => DevicesFound::Wrong,
             DevicesFound::Wrong => DevicesFound::Wrong,
         }

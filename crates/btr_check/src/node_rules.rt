@@ -1,5 +1,5 @@
 // What Linux asks of the bytes of a node, beside what every reader of trees does.
-ghost use Rattle.std.specs.Prelude.{◌≡◌, ◌==◌, ◌≤◌, ◌*◌, length};
+ghost use Rattle.std.specs.Prelude.{◌≡◌, ◌==◌, ◌≤◌, ◌*◌, length, nat_le};
 ghost use Rattle.std.specs.Bool.{Decides};
 ghost use Rattle.std.specs.List.{list_any};
 ghost use Rattle.btr_node.specs.Head.{nritems};
@@ -75,10 +75,17 @@ pub fn keeps_node(sup: &Super, p: &NodePointer, bytes: &[u8]) -> bool
     let head = Head::of(bytes);
     all_passed(
         is_written(&head),
-        p.generation <= sup.generation,
+        is_fresh(p.generation, sup.generation),
         is_packed_leaf(p.level, bytes, head.count as usize),
         is_empty_right(&head),
     )
+}
+
+/// Whether a generation is not newer than the newest.
+fn is_fresh(generation: u64, newest: u64) -> bool
+    ensures { result ≡ nat_le generation newest }
+{
+    generation <= newest
 }
 
 /// Whether a node is no leaf, or its data is packed.
@@ -88,7 +95,10 @@ fn is_packed_leaf(level: u8, bytes: &[u8], count: usize) -> bool
     requires layout { level ≡ 0 → HasLeafLayout bytes.now }
     ensures { result ≡ is_packed_leaf level bytes.now }
 {
-    level != 0 || is_packed(&bytes[HEADER_SIZE..], count)
+    if level != 0 {
+        return true;
+    }
+    is_packed(&bytes[HEADER_SIZE..], count)
 }
 
 /// Whether a node has entries, or is of a tree that may be empty.
