@@ -1,13 +1,6 @@
 -- Chunks that are valid and apart are so at each address.
-use Rattle.std.proofs.Common.{◌≡◌, ℕ, inl, inr, List, map, Option, Some, None, Result, Ok, Err, IfOk, sym, subst}
-use Rattle.std.specs.List.{All, AllPairs, flat_map}
-use Rattle.std.proofs.lemmas.List.Elements.{All-contains}
-use Rattle.btr_reader.specs.btr_super.declared.superblock.Super.{Super}
-use Rattle.btr_reader.specs.declared.chunk.ChunkAt.{ChunkAt}
-use Rattle.btr_check_rules.specs.Groups.{Apart, AreChunksApart, IsChunkOn, chunk_span, stripe_spans}
-use Rattle.btr_check_rules.specs.Recount.{EachAt, PairsAt}
-use Rattle.btr_check_rules.specs.declared.span.Span.{Span}
-use Rattle.btr_check.specs.Failing.{Answers, FailsOf, FailsOfTwo, Overlaps, first_found, start_of}
+use Rattle.btr_check.proofs.Imports.{◌≡◌, ℕ, inl, inr, List, map, Option, Some, None, Result, Ok, Err, IfOk, sym, subst, AllPairs, flat_map, All-contains, Super, ChunkAt, Apart, AreChunksApart, IsChunkOn, chunk_span, stripe_spans, EachAt, PairsAt, Span, Answers, FailsOf, FailsOfTwo, Overlaps, first_found, start_of}
+use Rattle.std.specs.List.{All}
 
 pub fails_at : {A : Type 0} (at : A → ℕ) (P : A → Type 0) (xs : List A) (a : ℕ) → FailsOf at P xs a → ¬ EachAt at a P xs
 fails_at at P xs a (x, h, is, no) each = no (All-contains (λ y. at y ≡ a → P y) xs x each h is)

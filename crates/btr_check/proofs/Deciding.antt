@@ -1,16 +1,8 @@
 -- The tests of chunks tell what is asked of them.
-use Rattle.std.proofs.Common.{◌≡◌, ℕ, ◌+◌, ◌-◌, ◌%◌, ◌^◌, ◌≤◌, ◌<◌, ◌==◌, ◌&&◌, ◌||◌, Bool, true, false, not, nat_eq, nat_le, List, [], ◌∷◌, Option, Some, None, refl, arith, leb}
-use Rattle.std.specs.Bool.{Decides}
-use Rattle.std.specs.Cmp.Lexicographic.{pointwise}
+use Rattle.btr_check.proofs.Imports.{◌≡◌, ℕ, ◌+◌, ◌-◌, ◌%◌, ◌^◌, ◌≤◌, ◌<◌, ◌==◌, ◌&&◌, ◌||◌, Bool, true, false, not, nat_eq, nat_le, List, [], ◌∷◌, Option, Some, None, refl, arith, leb, Decides, pointwise, Decides-and, Decides-eqb, Decides-like, Decides-not, Decides-or, nat_tests, Stripe, Super, ChunkAt, Apart, IsChunkOn, IsStripe, second_of, stripes_of, Span}
 use Rattle.std.specs.List.{All}
-use Rattle.std.proofs.lemmas.Bool.Decides.{Decides-and, Decides-eqb, Decides-like, Decides-not, Decides-or, nat_tests}
 use Rattle.std.proofs.lemmas.List.{All-cons, All-head, All-nil, All-tail}
 use Rattle.std.proofs.lemmas.Slice.Eq.{slice_eq-Decides}
-use Rattle.btr_reader.specs.btr_space_items.declared.stripe.Stripe.{Stripe}
-use Rattle.btr_reader.specs.btr_super.declared.superblock.Super.{Super}
-use Rattle.btr_reader.specs.declared.chunk.ChunkAt.{ChunkAt}
-use Rattle.btr_check_rules.specs.Groups.{Apart, IsChunkOn, IsStripe, second_of, stripes_of}
-use Rattle.btr_check_rules.specs.declared.span.Span.{Span}
 use Rattle.btr_check.specs.Tests.{are_apart, is_chunk, is_second, is_stripe}
 
 pub decides_leb : (a b : ℕ) → Decides (leb a b) (a ≤ b)

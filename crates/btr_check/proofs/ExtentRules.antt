@@ -1,23 +1,6 @@
 -- The tests of device extents tell what is asked of them.
-use Rattle.std.proofs.Common.{◌≡◌, ℕ, ◌==◌, ◌&&◌, ◌||◌, ◌⊎◌, inl, inr, Bool, true, false, List, [], ◌∷◌, Option, Some, None, if◌then◌else◌, refl, sym, ap, subst, ◌∙◌, ⊎_elim, arith}
-use Rattle.std.specs.Bool.{Decides}
-use Rattle.std.specs.List.{All, Contains}
-use Rattle.std.specs.Option.{option_map}
-use Rattle.std.proofs.lemmas.Bool.{cases_Bool, eq-eqb, eqb-true, false≢true}
-use Rattle.std.proofs.lemmas.Bool.Decides.{Decides-and, Decides-eqb, Decides-like, Decides-or, not_from_Decides}
-use Rattle.std.proofs.lemmas.List.Elements.{All-cons, All-contains, All-head, All-nil, All-tail}
-use Rattle.btrfs_format.specs.declared.key.TheConstants.{DEV_EXTENT}
-use Rattle.btrfs_format.specs.declared.object.TheConstants.{CHUNK_TREE, FIRST_CHUNK_TREE_OBJECTID}
-use Rattle.btr_reader.specs.btr_keys.declared.key.Key.{Key}
-use Rattle.btr_reader.specs.btr_node.Leaf.{Item}
-use Rattle.btr_reader.specs.btr_space_items.DevExtent.{dev_extent_of}
-use Rattle.btr_reader.specs.btr_space_items.declared.dev_extent.DevExtent.{DevExtent}
-use Rattle.btr_reader.specs.btr_space_items.declared.stripe.Stripe.{Stripe}
-use Rattle.btr_reader.specs.declared.chunk.ChunkAt.{ChunkAt}
-use Rattle.btr_check_rules.specs.Groups.{AreExtentsOf, HasExtents, IsExtentOf, IsOfChunk, second_of, stripes_of}
-use Rattle.btr_check.specs.Failing.{Answers, FailsTest}
-use Rattle.btr_check.specs.Read.{AreReadOf, extent_at, extent_of, has_extent, has_extents, has_second, is_extent_of, is_of_chunk, is_of_second}
-use Rattle.btr_check.specs.declared.found.ExtentAt.{ExtentAt}
+use Rattle.btr_check.proofs.Imports.{◌≡◌, ℕ, ◌==◌, ◌&&◌, ◌||◌, ◌⊎◌, inl, inr, Bool, true, false, List, [], ◌∷◌, Option, Some, None, if◌then◌else◌, refl, sym, ap, subst, ◌∙◌, ⊎_elim, arith, Decides, Contains, option_map, cases_Bool, eq-eqb, eqb-true, false≢true, Decides-and, Decides-eqb, Decides-like, Decides-or, not_from_Decides, All-cons, All-contains, All-head, All-nil, All-tail, DEV_EXTENT, CHUNK_TREE, FIRST_CHUNK_TREE_OBJECTID, Key, Item, dev_extent_of, DevExtent, Stripe, ChunkAt, AreExtentsOf, HasExtents, IsExtentOf, IsOfChunk, second_of, stripes_of, Answers, FailsTest, AreReadOf, extent_at, extent_of, has_extent, has_extents, has_second, is_extent_of, is_of_chunk, is_of_second, ExtentAt}
+use Rattle.std.specs.List.{All}
 use Rattle.btr_check.proofs.Listing.{all_from_contains, at_head, decides_some, head_or_tail, in_tail, not_none, of_item, read_of, some_same}
 
 -- what a device extent was read of

@@ -1,24 +1,7 @@
 -- The tests of block groups tell what is asked of them.
-use Rattle.std.proofs.Common.{◌≡◌, ℕ, ◌==◌, ◌&&◌, Bool, true, false, List, [], ◌∷◌, map, Option, Some, None, if◌then◌else◌, refl, sym, ap, subst, ◌∙◌, ⊎_elim, arith}
-use Rattle.std.specs.Bool.{Decides}
-use Rattle.std.specs.List.{All, Contains}
-use Rattle.std.specs.Option.{option_map}
-use Rattle.std.proofs.lemmas.Bool.{cases_Bool, eqb-true}
-use Rattle.std.proofs.lemmas.Bool.Decides.{Decides-and, Decides-eqb, Decides-like, not_from_Decides}
-use Rattle.std.proofs.lemmas.List.Elements.{All-contains}
-use Rattle.btrfs_format.specs.declared.key.TheConstants.{BLOCK_GROUP_ITEM}
-use Rattle.btrfs_format.specs.declared.object.TheConstants.{FIRST_CHUNK_TREE_OBJECTID}
-use Rattle.btr_reader.specs.btr_keys.declared.key.Key.{Key}
-use Rattle.btr_reader.specs.btr_node.Leaf.{Item}
-use Rattle.btr_reader.specs.btr_space_items.BlockGroup.{block_group_of}
-use Rattle.btr_reader.specs.btr_space_items.declared.block_group.BlockGroup.{BlockGroup}
-use Rattle.btr_reader.specs.declared.chunk.ChunkAt.{ChunkAt}
-use Rattle.btr_check_rules.specs.Groups.{AreGroupsOf, IsGroupOf}
-use Rattle.btr_check_rules.specs.Recount.{object_of}
-use Rattle.btr_check.specs.Failing.{Answers, FailsTest}
-use Rattle.btr_check.specs.Read.{AreReadOf, chunk_of, group_at, group_of, has_group, is_group_of}
+use Rattle.btr_check.proofs.Imports.{◌≡◌, ℕ, ◌==◌, ◌&&◌, Bool, true, false, List, [], ◌∷◌, map, Option, Some, None, if◌then◌else◌, refl, sym, ap, subst, ◌∙◌, ⊎_elim, arith, Decides, Contains, option_map, cases_Bool, eqb-true, Decides-and, Decides-eqb, Decides-like, not_from_Decides, All-contains, BLOCK_GROUP_ITEM, FIRST_CHUNK_TREE_OBJECTID, Key, Item, block_group_of, BlockGroup, ChunkAt, AreGroupsOf, IsGroupOf, object_of, Answers, FailsTest, AreReadOf, chunk_of, group_at, group_of, has_group, is_group_of, GroupAt}
+use Rattle.std.specs.List.{All}
 use Rattle.btr_check.specs.declared.found.ChunkUse.{ChunkUse}
-use Rattle.btr_check.specs.declared.found.GroupAt.{GroupAt}
 use Rattle.btr_check.proofs.Listing.{all_from_contains, at_head, decides_some, head_or_tail, in_tail, not_none, of_item, read_of, some_same}
 
 -- what a block group was read of

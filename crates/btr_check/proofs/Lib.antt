@@ -2,6 +2,7 @@ pub mod ChunkRules
 pub mod Deciding
 pub mod ExtentRules
 pub mod GroupRules
+pub mod Imports
 pub mod Listing
 pub mod NodeRules
 pub mod NotedRules

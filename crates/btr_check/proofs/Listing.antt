@@ -1,13 +1,7 @@
 -- What is read of items, one of the other.
-use Rattle.std.proofs.Common.{⊎_elim, inl, inr, ◌⊎◌, ◌≡◌, ℕ, zero, suc, ◌<◌, ◌+◌, Bool, true, false, List, [], ◌∷◌, length, get_or, map, Option, Some, None, refl, sym, ap, subst, ◌∙◌, arith}
-use Rattle.std.specs.Bool.{Decides}
-use Rattle.std.specs.List.{All, Any, Contains, list_any}
-use Rattle.std.specs.Option.{is_some}
-use Rattle.std.proofs.lemmas.Bool.{false≢true}
-use Rattle.std.proofs.lemmas.List.Elements.{Contains-get_or}
+use Rattle.btr_check.proofs.Imports.{⊎_elim, inl, inr, ◌⊎◌, ◌≡◌, ℕ, zero, suc, ◌<◌, ◌+◌, Bool, true, false, List, [], ◌∷◌, length, get_or, map, Option, Some, None, refl, sym, ap, subst, ◌∙◌, arith, Decides, Any, Contains, list_any, is_some, false≢true, Contains-get_or, Item, AreReadOf}
+use Rattle.std.specs.List.{All}
 use Rattle.std.proofs.lemmas.List.Folds.{Any-from_list_any, list_any-from_Any}
-use Rattle.btr_reader.specs.btr_node.Leaf.{Item}
-use Rattle.btr_check.specs.Read.{AreReadOf}
 
 pub at_head : {A : Type 0} (x : A) (xs : List A) → Contains (x ∷ xs) x
 at_head x xs = (zero, omega arith, refl)

@@ -1,19 +1,10 @@
 -- The tests of a node's bytes tell what is asked of them.
-use Rattle.std.proofs.Common.{◌≡◌, ℕ, ◌+◌, ◌-◌, ◌≤◌, ◌==◌, ◌&&◌, nat_le, ◌||◌, ◌⊎◌, inl, inr, Bool, true, false, not, List, [], ◌∷◌, length, length-drop, replicate, refl, sym, ap, subst, ◌∙◌, ⊎_elim, arith}
-use Rattle.std.specs.Bool.{Decides}
-use Rattle.std.specs.List.{list_any}
-use Rattle.std.proofs.lemmas.Bool.{both_ways, cases_Bool}
-use Rattle.std.proofs.lemmas.Bool.Decides.{Decides-and, Decides-at, Decides-eqb, Decides-like, Decides-not, Decides-or}
-use Rattle.btrfs_format.specs.declared.flag.TheConstants.{HEADER_FLAG_WRITTEN, MIXED_BACKREF_REV}
-use Rattle.btrfs_format.specs.declared.size.TheConstants.{HEADER_SIZE, ITEM_SIZE}
+use Rattle.btr_check.proofs.Imports.{◌≡◌, ℕ, ◌+◌, ◌-◌, ◌≤◌, ◌==◌, ◌&&◌, nat_le, ◌||◌, ◌⊎◌, inl, inr, Bool, true, false, not, List, [], ◌∷◌, length, length-drop, replicate, refl, sym, ap, subst, ◌∙◌, ⊎_elim, arith, Decides, list_any, both_ways, cases_Bool, Decides-and, Decides-at, Decides-eqb, Decides-like, Decides-not, Decides-or, HEADER_FLAG_WRITTEN, MIXED_BACKREF_REV, HEADER_SIZE, ITEM_SIZE, Super, IsWritten, KeepsNode, RELOCATED, is_packed, never_empty, is_empty_right, is_packed_leaf, is_written}
 use Rattle.btr_reader.specs.btr_node.Head.{behind_head, head_in, nritems}
-unfoldable use Rattle.btr_reader.specs.btr_node.Leaf.{heads_in, item_layout}
 use Rattle.btr_reader.specs.btr_node.Records.{records_in}
 use Rattle.btr_reader.specs.btr_node.declared.head.Head.{Head}
 use Rattle.btr_reader.specs.btr_reader_walk.declared.tree.NodePointer.{NodePointer}
-use Rattle.btr_reader.specs.btr_super.declared.superblock.Super.{Super}
-use Rattle.btr_check_rules.specs.Trees.{IsWritten, KeepsNode, RELOCATED, is_packed, never_empty}
-use Rattle.btr_check.specs.Nodes.{is_empty_right, is_packed_leaf, is_written}
+unfoldable use Rattle.btr_reader.specs.btr_node.Leaf.{heads_in, item_layout}
 use Rattle.btr_check.proofs.Deciding.{decides_leb, decides_uuid, itself}
 
 decides_written : (h : Head) → Decides (is_written h) (IsWritten h)

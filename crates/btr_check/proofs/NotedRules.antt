@@ -1,26 +1,7 @@
 -- Items that are noted one after the other.
-use Rattle.std.proofs.Common.{◌≡◌, ℕ, ◌==◌, Bool, true, false, List, [], ◌∷◌, ◌++◌, cond, map, Option, Some, None, if◌then◌else◌, refl, sym, ap, ap₂, subst, ◌∙◌}
-use Rattle.std.specs.List.{Contains, filter}
-use Rattle.std.specs.Option.{option_map}
-use Rattle.std.proofs.lemmas.Bool.{eqb-true}
-use Rattle.std.proofs.lemmas.List.{append-nil, map-append}
-use Rattle.std.proofs.lemmas.List.Elements.{All-contains, Contains-append_left, Contains-append_right, filter-append, filter_passes}
-use Rattle.btrfs_format.specs.declared.key.TheConstants.{BLOCK_GROUP_ITEM, DEV_EXTENT}
-use Rattle.btr_reader.specs.btr_keys.declared.key.Key.{Key}
-use Rattle.btr_reader.specs.btr_node.Leaf.{Item}
+use Rattle.btr_check.proofs.Imports.{◌≡◌, ℕ, ◌==◌, Bool, true, false, List, [], ◌∷◌, ◌++◌, cond, map, Option, Some, None, if◌then◌else◌, refl, sym, ap, ap₂, subst, ◌∙◌, Contains, filter, option_map, eqb-true, append-nil, map-append, All-contains, Contains-append_left, Contains-append_right, filter-append, filter_passes, BLOCK_GROUP_ITEM, DEV_EXTENT, Key, Item, block_group_of, dev_extent_of, BlockGroup, DevExtent, ChunkAt, AreExtentsOf, object_of, of_kind, HoldsRead, extents_in, groups_in, offset_of, AreReadOf, extent_at, group_at, ExtentAt, GroupAt}
 use Rattle.btr_reader.specs.btr_reader_walk.Events.{TreeItem}
 use Rattle.btr_reader.specs.btr_reader_walk.Tree.{bare_item}
-use Rattle.btr_reader.specs.btr_space_items.BlockGroup.{block_group_of}
-use Rattle.btr_reader.specs.btr_space_items.DevExtent.{dev_extent_of}
-use Rattle.btr_reader.specs.btr_space_items.declared.block_group.BlockGroup.{BlockGroup}
-use Rattle.btr_reader.specs.btr_space_items.declared.dev_extent.DevExtent.{DevExtent}
-use Rattle.btr_reader.specs.declared.chunk.ChunkAt.{ChunkAt}
-use Rattle.btr_check_rules.specs.Groups.{AreExtentsOf}
-use Rattle.btr_check_rules.specs.Recount.{object_of, of_kind}
-use Rattle.btr_check.specs.Noted.{HoldsRead, extents_in, groups_in, offset_of}
-use Rattle.btr_check.specs.Read.{AreReadOf, extent_at, group_at}
-use Rattle.btr_check.specs.declared.found.ExtentAt.{ExtentAt}
-use Rattle.btr_check.specs.declared.found.GroupAt.{GroupAt}
 use Rattle.btr_check.proofs.ExtentRules.{off_grammar}
 use Rattle.btr_check.proofs.Listing.{at_head}
 

@@ -1,18 +1,8 @@
 -- The test of a root item tells what is asked of it.
-use Rattle.std.proofs.Common.{◌≡◌, ℕ, ◌%◌, ◌≤◌, ◌<◌, ◌==◌, ◌&&◌, ◌||◌, ◌⊎◌, inl, inr, Bool, true, false, not, List, Option, Some, None, refl, sym, ap, subst, ◌∙◌, ⊎_elim, arith}
-use Rattle.std.specs.Bool.{Decides}
-use Rattle.std.proofs.lemmas.Bool.{both_ways, cases_Bool, false≢true}
-use Rattle.std.proofs.lemmas.Bool.Decides.{Decides-and, Decides-eqb, Decides-like, Decides-ltb, Decides-not, Decides-or}
-use Rattle.btrfs_format.specs.declared.flag.TheConstants.{ROOT_SUBVOL_RDONLY}
-use Rattle.btrfs_format.specs.declared.object.TheConstants.{FIRST_FREE_OBJECTID, TREE_RELOC}
-use Rattle.btr_reader.specs.btr_keys.declared.key.Key.{Key}
+use Rattle.btr_check.proofs.Imports.{◌≡◌, ℕ, ◌%◌, ◌≤◌, ◌<◌, ◌==◌, ◌&&◌, ◌||◌, ◌⊎◌, inl, inr, Bool, true, false, not, List, Option, Some, None, refl, sym, ap, subst, ◌∙◌, ⊎_elim, arith, Decides, both_ways, cases_Bool, false≢true, Decides-and, Decides-eqb, Decides-like, Decides-ltb, Decides-not, Decides-or, ROOT_SUBVOL_RDONLY, FIRST_FREE_OBJECTID, TREE_RELOC, Key, Super, holds_files, IsRootItem, has_files_root, is_whole, keeps_root, keeps_some_root}
 use Rattle.btr_reader.specs.btr_space_items.RootItem.{root_item_of}
 use Rattle.btr_reader.specs.btr_space_items.declared.root_item.RootItem.{RootItem}
-use Rattle.btr_reader.specs.btr_super.declared.superblock.Super.{Super}
-use Rattle.btr_check_rules.specs.Recount.{holds_files}
-use Rattle.btr_check_rules.specs.Trees.{IsRootItem}
 use Rattle.btr_check_rules.specs.Walk.{is_subvolume}
-use Rattle.btr_check.specs.Roots.{has_files_root, is_whole, keeps_root, keeps_some_root}
 use Rattle.btr_check.proofs.Deciding.{decides_leb, itself}
 use Rattle.btr_check.proofs.Listing.{not_none, some_same}
 

@@ -1,10 +1,5 @@
 -- The test of the superblock tells what is asked of it.
-use Rattle.std.proofs.Common.{◌≡◌, ℕ, ◌%◌, ◌≤◌, ◌<◌, ◌==◌, ◌&&◌, Bool, not, arith}
-use Rattle.std.specs.Bool.{Decides}
-use Rattle.std.proofs.lemmas.Bool.Decides.{Decides-and, Decides-eqb, Decides-like, Decides-ltb, Decides-not}
-use Rattle.btrfs_format.specs.declared.size.TheConstants.{SYSTEM_CHUNK_SIZE}
-use Rattle.btr_reader.specs.btr_super.declared.superblock.Super.{Super}
-use Rattle.btr_check_rules.specs.Trees.{KeepsSuper}
+use Rattle.btr_check.proofs.Imports.{◌≡◌, ℕ, ◌%◌, ◌≤◌, ◌<◌, ◌==◌, ◌&&◌, Bool, not, arith, Decides, Decides-and, Decides-eqb, Decides-like, Decides-ltb, Decides-not, SYSTEM_CHUNK_SIZE, Super, KeepsSuper}
 use Rattle.btr_check.specs.Supers.{keeps_super}
 use Rattle.btr_check.proofs.Deciding.{decides_leb}
 

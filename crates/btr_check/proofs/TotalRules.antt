@@ -1,30 +1,12 @@
 -- The tests of the totals tell what is asked of them.
-use Rattle.std.proofs.Common.{◌≡◌, ℕ, zero, suc, ◌+◌, ◌==◌, ◌&&◌, nat_eq, Bool, true, false, List, [], ◌∷◌, ◌++◌, length, map, Option, Some, None, refl, sym, ap, subst, ◌∙◌, append_assoc, arith}
-use Rattle.std.specs.Bool.{Decides}
-use Rattle.std.specs.Cmp.Lexicographic.{pointwise}
-use Rattle.std.specs.List.{sum_by}
-use Rattle.std.specs.Option.{option_map_or}
-use Rattle.std.proofs.lemmas.Bool.{false≢true}
-use Rattle.std.proofs.lemmas.Bool.Decides.{Decides-and, Decides-at, Decides-eqb, Decides-like, not_from_Decides}
-use Rattle.std.proofs.lemmas.List.{append-nil}
-use Rattle.btr_reader.specs.btr_keys.declared.key.Key.{Key}
-use Rattle.btr_reader.specs.btr_node.Leaf.{Item}
-use Rattle.btr_reader.specs.btr_space_items.BlockGroup.{block_group_of}
+use Rattle.btr_check.proofs.Imports.{◌≡◌, ℕ, zero, suc, ◌+◌, ◌==◌, ◌&&◌, nat_eq, Bool, true, false, List, [], ◌∷◌, ◌++◌, length, map, Option, Some, None, refl, sym, ap, subst, ◌∙◌, append_assoc, arith, Decides, pointwise, sum_by, option_map_or, false≢true, Decides-and, Decides-at, Decides-eqb, Decides-like, not_from_Decides, append-nil, Key, Item, block_group_of, BlockGroup, Super, ChunkAt, DEV_ITEM, DEV_ITEMS_OBJECTID, AreTotals, IsDeviceItem, IsOnlyDevice, group_used, stripe_bytes, AreReadOf, group_at, GroupAt}
 use Rattle.btr_reader.specs.btr_space_items.Device.{device_of}
-use Rattle.btr_reader.specs.btr_space_items.declared.block_group.BlockGroup.{BlockGroup}
 use Rattle.btr_reader.specs.btr_space_items.declared.device.Device.{Device}
 use Rattle.btr_reader.specs.btr_super.Super.{node_fsid}
-use Rattle.btr_reader.specs.btr_super.declared.superblock.Super.{Super}
-use Rattle.btr_reader.specs.declared.chunk.ChunkAt.{ChunkAt}
-use Rattle.btrfs_format.specs.declared.key.TheConstants.{DEV_ITEM}
-use Rattle.btrfs_format.specs.declared.object.TheConstants.{DEV_ITEMS_OBJECTID}
-use Rattle.btr_check_rules.specs.Groups.{AreTotals, IsDeviceItem, IsOnlyDevice, group_used, stripe_bytes}
 use Rattle.btr_check.specs.Devices.{FindsDevices, first_device, is_device_body, is_device_item, is_device_key, same_device}
-use Rattle.btr_check.specs.Read.{AreReadOf, group_at}
 use Rattle.btr_check.specs.Totals.{tells_volume}
 use Rattle.btr_check.specs.declared.devices.DevicesFound.{DevicesFound}
 use Rattle.btr_check.specs.declared.devices.DevicesFound.TheVariants as found
-use Rattle.btr_check.specs.declared.found.GroupAt.{GroupAt}
 use Rattle.btr_check.proofs.Deciding.{decides_uuid}
 use Rattle.btr_check.proofs.GroupRules.{is_read}
 use Rattle.btr_check.proofs.Listing.{first_or, not_none, rest_of, some_same}

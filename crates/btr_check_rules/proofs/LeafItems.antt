@@ -1,23 +1,12 @@
 -- The items of a tree are those of its leaves, one leaf after the other.
-use Rattle.std.proofs.Common.{◌≡◌, ℕ, zero, suc, ◌++◌, ◌==◌, Bool, List, [], ◌∷◌, map, if◌then◌else◌, refl, sym, ◌∙◌, ap, ap₂, append_assoc, length, arith}
-use Rattle.std.specs.List.{flat_map}
+use Rattle.btr_check_rules.proofs.Imports.{◌≡◌, ℕ, zero, suc, ◌++◌, ◌==◌, Bool, List, [], ◌∷◌, map, if◌then◌else◌, refl, sym, ◌∙◌, ap, ap₂, append_assoc, length, arith, flat_map, Image, BtrRefusal, BtrRule, Child, TreeEvent, node, leaf_events, items_in_events, nodes_in, unless_damaged, at_address, bare_item, MapRange, Form, NodePointer, shared_damages}
 use Rattle.std.proofs.lemmas.List.{append-nil, map-append}
 use Rattle.std.proofs.lemmas.List.Concat.{flat_map-append}
-use Rattle.btr_reader.specs.outside.History.{Image}
-use Rattle.btr_reader.specs.refusals.declared.refusal.BtrRefusal.{BtrRefusal}
-use Rattle.btr_reader.specs.refusals.declared.rule.BtrRule.{BtrRule}
+use Rattle.btr_reader.specs.btr_node.Leaf.{Item}
+use Rattle.btr_reader_walk.proofs.Events.{items_in-append, leaf_nodes, leaf_own, nodes_in-append}
 unfoldable use Rattle.btr_reader.specs.btr_node.Inner.{children_in}
 unfoldable use Rattle.btr_reader.specs.btr_node.Leaf.{items_in}
-use Rattle.btr_reader.specs.btr_node.Leaf.{Item}
-use Rattle.btr_reader.specs.btr_node.declared.child.Child.{Child}
-use Rattle.btr_reader.specs.btr_reader_walk.Events.{TreeEvent, node, leaf_events, items_in_events, nodes_in, unless_damaged}
 unfoldable use Rattle.btr_reader.specs.btr_reader_walk.Map.{node_at}
-use Rattle.btr_reader.specs.btr_reader_walk.Tree.{at_address, bare_item}
-use Rattle.btr_reader.specs.btr_reader_walk.declared.map.MapRange.{MapRange}
-use Rattle.btr_reader.specs.btr_reader_walk.declared.tree.Form.{Form}
-use Rattle.btr_reader.specs.btr_reader_walk.declared.tree.NodePointer.{NodePointer}
-use Rattle.btr_reader_walk.proofs.Events.{items_in-append, leaf_nodes, leaf_own, nodes_in-append}
-use Rattle.btr_check_rules.specs.Walk.{shared_damages}
 unfoldable use Rattle.btr_check_rules.specs.Walk.{shared_events}
 
 -- both parts of a list that is empty

@@ -1,21 +1,10 @@
 -- Where each node of a tree tells that tree as its owner, the walk is that of every reader of trees.
-use Rattle.std.proofs.Common.{◌≡◌, ℕ, zero, suc, ◌&&◌, ◌++◌, Bool, true, false, List, [], ◌∷◌, if◌then◌else◌, refl, ◌∙◌, ap, None}
-use Rattle.std.specs.List.{flat_map}
-use Rattle.btr_reader.specs.outside.History.{Image}
-use Rattle.btr_reader.specs.refusals.declared.refusal.BtrRefusal.{BtrRefusal}
-use Rattle.btr_reader.specs.refusals.declared.rule.BtrRule.{BtrRule}
+use Rattle.btr_check_rules.proofs.Imports.{◌≡◌, ℕ, zero, suc, ◌&&◌, ◌++◌, Bool, true, false, List, [], ◌∷◌, if◌then◌else◌, refl, ◌∙◌, ap, None, flat_map, Image, BtrRefusal, BtrRule, Child, TreeEvent, node, leaf_events, may_be_bare, items_in_events, nodes_in, unless_damaged, walk_events, at_address, order_damages, pointer_damages, tree_refusals, MapRange, Form, NodePointer, is_subvolume, owner_asked, owner_at, shared_damages, shared_faults, shared_walk}
 unfoldable use Rattle.btr_reader.specs.btr_node.Inner.{children_in}
 unfoldable use Rattle.btr_reader.specs.btr_node.Leaf.{items_in}
-use Rattle.btr_reader.specs.btr_node.declared.child.Child.{Child}
-use Rattle.btr_reader.specs.btr_reader_walk.Events.{TreeEvent, node, leaf_events, may_be_bare, items_in_events, nodes_in, unless_damaged, walk_events}
 unfoldable use Rattle.btr_reader.specs.btr_reader_walk.Events.{node_events}
 unfoldable use Rattle.btr_reader.specs.btr_reader_walk.Map.{node_at}
 unfoldable use Rattle.btr_reader.specs.btr_reader_walk.Node.{node_damages}
-use Rattle.btr_reader.specs.btr_reader_walk.Tree.{at_address, order_damages, pointer_damages, tree_refusals}
-use Rattle.btr_reader.specs.btr_reader_walk.declared.map.MapRange.{MapRange}
-use Rattle.btr_reader.specs.btr_reader_walk.declared.tree.Form.{Form}
-use Rattle.btr_reader.specs.btr_reader_walk.declared.tree.NodePointer.{NodePointer}
-use Rattle.btr_check_rules.specs.Walk.{is_subvolume, owner_asked, owner_at, shared_damages, shared_faults, shared_walk}
 unfoldable use Rattle.btr_check_rules.specs.Walk.{shared_events}
 
 -- only the tree itself may own a node of a tree that is no subvolume

@@ -1,7 +1,4 @@
-use Rattle.std.proofs.Common.{refl, sym}
-use Rattle.std.proofs.lemmas.Bool.Decides.{not_from_Decides}
-use Rattle.std.proofs.lemmas.List.Elements.{All-more, Contains-get_or}
-use Rattle.btr_check_rules.specs.Groups.{IsChunkOn}
+use Rattle.btr_check.proofs.Imports.{refl, sym, not_from_Decides, All-more, Contains-get_or, IsChunkOn}
 use Rattle.btr_check.proofs.Deciding.{decides_chunk}
 use Rattle.btr_check.proofs.chunks.invalid_chunk.Goals as goal
 

@@ -1,5 +1,4 @@
-use Rattle.std.specs.Prelude.{take, All}
-use Rattle.btr_check_rules.specs.Groups.{IsChunkOn}
+use Rattle.btr_check.proofs.Imports.{take, All, IsChunkOn}
 use Rattle.btr_check.proofs.chunks.invalid_chunk.Given as goal
 
 abbrev pub invariant-loop-c : goal.invariant-loop-c

@@ -1,4 +1,4 @@
-use Rattle.std.proofs.Common.{◌∙◌}
+use Rattle.btr_check.proofs.Imports.{◌∙◌}
 use Rattle.btr_check.proofs.ChunkRules.{both_answer}
 use Rattle.btr_check.proofs.chunks.overlapping.Goals as goal
 

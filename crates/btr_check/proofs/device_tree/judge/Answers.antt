@@ -1,4 +1,4 @@
-use Rattle.btr_check.specs.Noted.{extents_in}
+use Rattle.btr_check.proofs.Imports.{extents_in}
 use Rattle.btr_check.proofs.NotedRules.{judged_right, judged_wrong}
 use Rattle.btr_check.proofs.device_tree.judge.Goals as goal
 

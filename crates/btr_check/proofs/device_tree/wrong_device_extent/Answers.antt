@@ -1,4 +1,4 @@
-use Rattle.std.proofs.Common.{sym, subst}
+use Rattle.btr_check.proofs.Imports.{sym, subst}
 use Rattle.std.proofs.lemmas.Result.{err_from_is_err_and}
 use Rattle.btr_reader_walk.specs.Walks.{IsAmong, found, wrong}
 use Rattle.btr_check.proofs.device_tree.wrong_device_extent.Goals as goal

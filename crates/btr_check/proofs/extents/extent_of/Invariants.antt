@@ -1,6 +1,5 @@
-use Rattle.std.specs.Prelude.{◌≡◌, drop}
-use Rattle.std.specs.List.{list_any}
-use Rattle.btr_check.specs.Read.{is_of_chunk}
+use Rattle.btr_check.proofs.Imports.{drop, list_any, is_of_chunk}
+use Rattle.std.specs.Prelude.{◌≡◌}
 use Rattle.btr_check.proofs.extents.extent_of.Given as goal
 
 abbrev pub invariant-loop-c : goal.invariant-loop-c

@@ -1,6 +1,5 @@
-use Rattle.std.specs.Prelude.{◌≡◌, drop}
-use Rattle.std.specs.List.{list_any}
-use Rattle.btr_check.specs.Read.{is_extent_of}
+use Rattle.btr_check.proofs.Imports.{drop, list_any, is_extent_of}
+use Rattle.std.specs.Prelude.{◌≡◌}
 use Rattle.btr_check.proofs.extents.has_extent.Given as goal
 
 abbrev pub invariant-loop-e : goal.invariant-loop-e

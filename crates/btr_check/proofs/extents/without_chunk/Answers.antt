@@ -1,6 +1,4 @@
-use Rattle.std.proofs.Common.{refl, sym, true, ◌≡◌}
-use Rattle.std.proofs.lemmas.List.Elements.{All-more, Contains-get_or}
-use Rattle.btr_check.specs.Read.{extent_of}
+use Rattle.btr_check.proofs.Imports.{refl, sym, true, ◌≡◌, All-more, Contains-get_or, extent_of}
 use Rattle.btr_check.proofs.extents.without_chunk.Goals as goal
 
 pub loop-e-preserved : goal.loop-e-preserved

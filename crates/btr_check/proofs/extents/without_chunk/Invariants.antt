@@ -1,5 +1,5 @@
-use Rattle.std.specs.Prelude.{◌≡◌, take, true, All}
-use Rattle.btr_check.specs.Read.{extent_of}
+use Rattle.btr_check.proofs.Imports.{take, All, extent_of}
+use Rattle.std.specs.Prelude.{◌≡◌, true}
 use Rattle.btr_check.proofs.extents.without_chunk.Given as goal
 
 abbrev pub invariant-loop-e : goal.invariant-loop-e

@@ -1,5 +1,5 @@
-use Rattle.std.specs.Prelude.{◌≡◌, take, true, All}
-use Rattle.btr_check.specs.Read.{has_extents}
+use Rattle.btr_check.proofs.Imports.{take, All, has_extents}
+use Rattle.std.specs.Prelude.{◌≡◌, true}
 use Rattle.btr_check.proofs.extents.without_extents.Given as goal
 
 abbrev pub invariant-loop-c : goal.invariant-loop-c

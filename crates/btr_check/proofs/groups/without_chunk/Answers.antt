@@ -1,6 +1,4 @@
-use Rattle.std.proofs.Common.{refl, sym, true, ◌≡◌}
-use Rattle.std.proofs.lemmas.List.Elements.{All-more, Contains-get_or}
-use Rattle.btr_check.specs.Read.{group_of}
+use Rattle.btr_check.proofs.Imports.{refl, sym, true, ◌≡◌, All-more, Contains-get_or, group_of}
 use Rattle.btr_check.proofs.groups.without_chunk.Goals as goal
 
 pub loop-g-preserved : goal.loop-g-preserved

@@ -1,5 +1,5 @@
-use Rattle.std.specs.Prelude.{◌≡◌, take, true, All}
-use Rattle.btr_check.specs.Read.{group_of}
+use Rattle.btr_check.proofs.Imports.{take, All, group_of}
+use Rattle.std.specs.Prelude.{◌≡◌, true}
 use Rattle.btr_check.proofs.groups.without_chunk.Given as goal
 
 abbrev pub invariant-loop-g : goal.invariant-loop-g

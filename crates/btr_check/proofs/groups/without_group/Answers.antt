@@ -1,6 +1,4 @@
-use Rattle.std.proofs.Common.{refl, sym, true, ◌≡◌}
-use Rattle.std.proofs.lemmas.List.Elements.{All-more, Contains-get_or}
-use Rattle.btr_check.specs.Read.{has_group}
+use Rattle.btr_check.proofs.Imports.{refl, sym, true, ◌≡◌, All-more, Contains-get_or, has_group}
 use Rattle.btr_check.proofs.groups.without_group.Goals as goal
 
 pub loop-u-preserved : goal.loop-u-preserved

@@ -1,5 +1,5 @@
-use Rattle.std.specs.Prelude.{◌≡◌, take, true, All}
-use Rattle.btr_check.specs.Read.{has_group}
+use Rattle.btr_check.proofs.Imports.{take, All, has_group}
+use Rattle.std.specs.Prelude.{◌≡◌, true}
 use Rattle.btr_check.proofs.groups.without_group.Given as goal
 
 abbrev pub invariant-loop-u : goal.invariant-loop-u

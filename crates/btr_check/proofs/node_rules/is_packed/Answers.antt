@@ -1,8 +1,6 @@
-use Rattle.std.proofs.Common.{refl, sym}
-use Rattle.btrfs_format.specs.declared.size.TheConstants.{ITEM_SIZE}
-unfoldable use Rattle.btr_node.specs.Leaf.{item_layout}
+use Rattle.btr_check.proofs.Imports.{refl, sym, ITEM_SIZE, is_packed}
 use Rattle.btr_node.proofs.Rows.{next_row, passed, failed, finished}
-use Rattle.btr_check_rules.specs.Trees.{is_packed}
+unfoldable use Rattle.btr_node.specs.Leaf.{item_layout}
 use Rattle.btr_check.proofs.node_rules.is_packed.Goals as goal
 
 pub returns-then-not-ends_at : goal.returns-then-not-ends_at

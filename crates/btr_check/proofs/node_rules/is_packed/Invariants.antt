@@ -1,8 +1,7 @@
-use Rattle.std.specs.Prelude.{◌≡◌, length, drop}
-use Rattle.btrfs_format.specs.declared.size.TheConstants.{ITEM_SIZE}
+use Rattle.btr_check.proofs.Imports.{drop, ITEM_SIZE, is_packed}
+use Rattle.std.specs.Prelude.{◌≡◌, length}
 use Rattle.btr_node.specs.Leaf.{item_layout}
 use Rattle.btr_node.specs.Records.{records_in}
-use Rattle.btr_check_rules.specs.Trees.{is_packed}
 use Rattle.btr_check.proofs.node_rules.is_packed.Given as goal
 
 abbrev pub invariant-loop-i : goal.invariant-loop-i

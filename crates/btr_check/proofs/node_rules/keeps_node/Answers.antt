@@ -1,6 +1,4 @@
-use Rattle.std.proofs.Common.{◌∙◌, ap}
-use Rattle.std.proofs.lemmas.Bool.Decides.{Decides-at}
-use Rattle.btr_check.specs.Nodes.{is_empty_right, is_written}
+use Rattle.btr_check.proofs.Imports.{◌∙◌, ap, Decides-at, is_empty_right, is_written}
 use Rattle.btr_check.proofs.NodeRules.{decides_node}
 use Rattle.btr_check.proofs.node_rules.keeps_node.Goals as goal
 

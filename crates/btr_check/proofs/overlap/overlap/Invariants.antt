@@ -1,6 +1,5 @@
-use Rattle.std.specs.Prelude.{◌<◌, ℕ, length, slice_index_or}
-use Rattle.btr_check_rules.specs.Groups.{Apart}
-use Rattle.btr_check_rules.specs.declared.span.Span.{Span}
+use Rattle.btr_check.proofs.Imports.{slice_index_or, Apart, Span}
+use Rattle.std.specs.Prelude.{◌<◌, ℕ, length}
 use Rattle.btr_check.proofs.overlap.overlap.Given as goal
 
 abbrev pub invariant-loop-i : goal.invariant-loop-i

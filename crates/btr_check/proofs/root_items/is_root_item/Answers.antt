@@ -1,6 +1,4 @@
-use Rattle.std.proofs.Common.{sym, ◌∙◌, ap}
-use Rattle.std.proofs.lemmas.Bool.Decides.{Decides-at}
-use Rattle.btr_check.specs.Roots.{keeps_some_root}
+use Rattle.btr_check.proofs.Imports.{sym, ◌∙◌, ap, Decides-at, keeps_some_root}
 use Rattle.btr_check.proofs.RootRules.{decides_root}
 use Rattle.btr_check.proofs.root_items.is_root_item.Goals as goal
 

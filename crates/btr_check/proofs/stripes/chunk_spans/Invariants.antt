@@ -1,5 +1,5 @@
-use Rattle.std.specs.Prelude.{◌≡◌, map, take}
-use Rattle.btr_check_rules.specs.Groups.{chunk_span}
+use Rattle.btr_check.proofs.Imports.{take, chunk_span}
+use Rattle.std.specs.Prelude.{◌≡◌, map}
 use Rattle.btr_check.proofs.stripes.chunk_spans.Given as goal
 
 abbrev pub invariant-loop-c : goal.invariant-loop-c

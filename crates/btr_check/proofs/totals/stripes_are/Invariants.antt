@@ -1,5 +1,5 @@
-use Rattle.std.specs.Prelude.{◌≡◌, ◌+◌, take}
-use Rattle.btr_check_rules.specs.Groups.{stripe_bytes}
+use Rattle.btr_check.proofs.Imports.{take, stripe_bytes}
+use Rattle.std.specs.Prelude.{◌≡◌, ◌+◌}
 use Rattle.btr_check.proofs.totals.stripes_are.Given as goal
 
 abbrev pub invariant-loop-c : goal.invariant-loop-c

@@ -1,4 +1,4 @@
-use Rattle.std.proofs.lemmas.Bool.Decides.{Decides-at}
+use Rattle.btr_check.proofs.Imports.{Decides-at}
 use Rattle.btr_check.proofs.TotalRules.{decides_totals}
 use Rattle.btr_check.proofs.totals.totals_hold.Goals as goal
 

@@ -1,6 +1,5 @@
-use Rattle.std.specs.Prelude.{◌≡◌, ◌+◌, take}
-use Rattle.std.specs.List.{sum_by}
-use Rattle.btr_check.specs.declared.found.GroupAt.{GroupAt}
+use Rattle.btr_check.proofs.Imports.{take, sum_by, GroupAt}
+use Rattle.std.specs.Prelude.{◌≡◌, ◌+◌}
 use Rattle.btr_check.proofs.totals.used_is.Given as goal
 
 abbrev pub invariant-loop-g : goal.invariant-loop-g

@@ -1,6 +1,4 @@
-use Rattle.std.proofs.Common.{◌≡◌, ◌==◌, true, false, arith}
-use Rattle.std.proofs.lemmas.Bool.Decides.{nat_tests}
-use Rattle.btrfs_format.specs.declared.key.TheConstants.{DEV_EXTENT}
+use Rattle.btr_check.proofs.Imports.{◌≡◌, ◌==◌, true, false, arith, nat_tests, DEV_EXTENT}
 use Rattle.btr_check.proofs.NotedRules.{extent_passed, extent_refused, extent_taken}
 use Rattle.btr_check.proofs.device_tree.ExtentsFoundNotes.note.Goals as goal
 

@@ -1,6 +1,4 @@
-use Rattle.std.proofs.Common.{◌≡◌, ◌==◌, true, false, arith}
-use Rattle.std.proofs.lemmas.Bool.Decides.{nat_tests}
-use Rattle.btrfs_format.specs.declared.key.TheConstants.{BLOCK_GROUP_ITEM}
+use Rattle.btr_check.proofs.Imports.{◌≡◌, ◌==◌, true, false, arith, nat_tests, BLOCK_GROUP_ITEM}
 use Rattle.btr_check.proofs.NotedRules.{group_passed, group_refused, group_taken}
 use Rattle.btr_check.proofs.group_items.GroupsFoundNotes.note.Goals as goal
 
