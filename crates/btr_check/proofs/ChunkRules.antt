@@ -3,10 +3,10 @@ use Rattle.btr_check.proofs.Imports.{◌≡◌, ℕ, inl, inr, List, map, Option
 use Rattle.std.specs.List.{All}
 
 pub fails_at : {A : Type 0} (at : A → ℕ) (P : A → Type 0) (xs : List A) (a : ℕ) → FailsOf at P xs a → ¬ EachAt at a P xs
-fails_at at P xs a (x, h, is, no) each = no (All-contains (λ y. at y ≡ a → P y) xs x each h is)
+fails_at at P xs a (x, h, is, not_so) each = not_so (All-contains (λ y. at y ≡ a → P y) xs x each h is)
 
 pub two_fail_at : {A : Type 0} (at : A → ℕ) (P : A → A → Type 0) (xs : List A) (a : ℕ) → FailsOfTwo at P xs a → ¬ PairsAt at a P xs
-two_fail_at at P xs a (i, j, d, less, low, here, no) pairs = no (pairs i j d less low here)
+two_fail_at at P xs a (i, j, d, less, low, here, not_so) pairs = not_so (pairs i j d less low here)
 
 pub all_apart : (s : Super) (chunks : List ChunkAt) → All (IsChunkOn s) chunks → AllPairs Apart (map chunk_span chunks) → AllPairs Apart (flat_map stripe_spans chunks) → (a : ℕ) → AreChunksApart s chunks a
 all_apart s chunks valid logical physical = λ a. record {

@@ -28,9 +28,9 @@ read_body i e (Some extent) kind own is =
 pub is_read : (i : Item) (e : ExtentAt) → extent_at i ≡ Some e → IsRead i e
 is_read i e is =
     ⊎_elim
-    (λ (yes : (i.0.kind == DEV_EXTENT) ≡ true).
-    read_body i e (dev_extent_of i.1) (eqb-true i.0.kind DEV_EXTENT yes) refl (sym (ap (λ (b : Bool). if b then extent_by i (dev_extent_of i.1) else None) yes) ∙ is))
-    (λ (no : (i.0.kind == DEV_EXTENT) ≡ false). absurd (not_none e (sym (ap (λ (b : Bool). if b then extent_by i (dev_extent_of i.1) else None) no) ∙ is)))
+    (λ (is_so : (i.0.kind == DEV_EXTENT) ≡ true).
+    read_body i e (dev_extent_of i.1) (eqb-true i.0.kind DEV_EXTENT is_so) refl (sym (ap (λ (b : Bool). if b then extent_by i (dev_extent_of i.1) else None) is_so) ∙ is))
+    (λ (not_so : (i.0.kind == DEV_EXTENT) ≡ false). absurd (not_none e (sym (ap (λ (b : Bool). if b then extent_by i (dev_extent_of i.1) else None) not_so) ∙ is)))
     (cases_Bool (i.0.kind == DEV_EXTENT))
 
 abbrev Parts : ChunkAt → Stripe → ExtentAt → Type 0
@@ -95,7 +95,7 @@ module _ (chunks : List ChunkAt) (items : List Item) (extents : List ExtentAt) (
       each : (e : ExtentAt) → Contains extents e → Decides (is_extent_of c s e) (OfItem c s e)
       each e in_ =
           let (i, there, is) = of_item extent_at items extents read e in_ in
-          ((λ yes. (i, there, is, (decides_extent c s i e (is_read i e is)).0 yes)), (λ some. let (j, at, was, own) = some in (decides_extent c s j e (is_read j e was)).1 own))
+          ((λ is_so. (i, there, is, (decides_extent c s i e (is_read i e is)).0 is_so)), (λ some. let (j, at, was, own) = some in (decides_extent c s j e (is_read j e was)).1 own))
 
       to : ((e : ExtentAt) × Contains extents e × OfItem c s e) → HasOne c s
       to (e, in_, (i, there, is, own)) = (i, there, own)
@@ -117,7 +117,7 @@ module _ (chunks : List ChunkAt) (items : List Item) (extents : List ExtentAt) (
   OfStripe c i = (s : Stripe) × Contains (stripes_of c) s × IsExtentOf c s i
 
   of_second : (c : ChunkAt) (s : Option Stripe) (i : Item) (e : ExtentAt) → IsRead i e → Decides (is_of_second c s e) ((x : Stripe) × Contains (second_of s) x × IsExtentOf c x i)
-  of_second c None i e read = ((λ no. absurd (false≢true no)), (λ some. let (x, (k, low, at), own) = some in absurd (omega (arith, low))))
+  of_second c None i e read = ((λ not_so. absurd (false≢true not_so)), (λ some. let (x, (k, low, at), own) = some in absurd (omega (arith, low))))
   of_second c (Some s) i e read =
       Decides-like {P = IsExtentOf c s i} {Q = (x : Stripe) × Contains (s ∷ []) x × IsExtentOf c x i} (is_extent_of c s e) (λ own. (s, at_head s [], own))
       (λ some. let (x, h, own) = some in ⊎_elim (λ (here : s ≡ x). subst (λ (y : Stripe). IsExtentOf c y i) (sym here) own) (λ (there : Contains [] x). let (k, low, at) = there in absurd (omega (arith, low))) (head_or_tail s [] x h))
@@ -152,13 +152,13 @@ module _ (chunks : List ChunkAt) (items : List Item) (extents : List ExtentAt) (
   }
 
   pub chunk_wrong : (a : ℕ) → FailsTest (λ (c : ChunkAt). c.logical) (has_extents extents) chunks a → ¬ AreExtentsOf chunks items a
-  chunk_wrong a (c, h, at, no) are =
-      not_from_Decides (has_extents extents c) (decides_extents c) no (All-contains (λ d. d.logical ≡ a → HasExtents items d) chunks c are.whole h at)
+  chunk_wrong a (c, h, at, not_so) are =
+      not_from_Decides (has_extents extents c) (decides_extents c) not_so (All-contains (λ d. d.logical ≡ a → HasExtents items d) chunks c are.whole h at)
 
   pub extent_wrong : (a : ℕ) → FailsTest (λ (e : ExtentAt). e.offset) (extent_of chunks) extents a → ¬ AreExtentsOf chunks items a
-  extent_wrong a (e, h, at, no) are =
+  extent_wrong a (e, h, at, not_so) are =
       let (i, there, is) = of_item extent_at items extents read e h in
-      not_from_Decides (extent_of chunks e) (decides_of i e is) no (All-contains (λ (j : Item). j.0.offset ≡ a → IsOfChunk chunks j) items i are.each there ((is_read i e is).offset ∙ at))
+      not_from_Decides (extent_of chunks e) (decides_of i e is) not_so (All-contains (λ (j : Item). j.0.offset ≡ a → IsOfChunk chunks j) items i are.each there ((is_read i e is).offset ∙ at))
 
   -- what is answered where each stripe has its device extent
   pub answers_extents : (found : Option ℕ) → All (λ c. has_extents extents c ≡ true) chunks → Answers (All (λ e. extent_of chunks e ≡ true) extents) (FailsTest (λ (e : ExtentAt). e.offset) (extent_of chunks) extents) found

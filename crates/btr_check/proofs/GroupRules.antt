@@ -29,11 +29,11 @@ read_body i g (Some group) kind own is =
 pub is_read : (i : Item) (g : GroupAt) → group_at i ≡ Some g → IsRead i g
 is_read i g is =
     ⊎_elim
-    (λ (yes : (i.0.kind == BLOCK_GROUP_ITEM) ≡ true).
-    read_body i g (block_group_of i.1) (eqb-true i.0.kind BLOCK_GROUP_ITEM yes) refl
-    (sym (ap (λ (b : Bool). if b then group_by i (block_group_of i.1) else None) yes) ∙ is))
-    (λ (no : (i.0.kind == BLOCK_GROUP_ITEM) ≡ false).
-    absurd (not_none g (sym (ap (λ (b : Bool). if b then group_by i (block_group_of i.1) else None) no) ∙ is)))
+    (λ (is_so : (i.0.kind == BLOCK_GROUP_ITEM) ≡ true).
+    read_body i g (block_group_of i.1) (eqb-true i.0.kind BLOCK_GROUP_ITEM is_so) refl
+    (sym (ap (λ (b : Bool). if b then group_by i (block_group_of i.1) else None) is_so) ∙ is))
+    (λ (not_so : (i.0.kind == BLOCK_GROUP_ITEM) ≡ false).
+    absurd (not_none g (sym (ap (λ (b : Bool). if b then group_by i (block_group_of i.1) else None) not_so) ∙ is)))
     (cases_Bool (i.0.kind == BLOCK_GROUP_ITEM))
 
 abbrev Parts : ChunkUse → GroupAt → Type 0
@@ -115,7 +115,7 @@ module _ (used : ChunkAt → ℕ) (chunks : List ChunkUse) (items : List Item) (
   decides_item : (u : ChunkUse) → Contains chunks u → (g : GroupAt) → Contains groups g → Decides (is_group_of u g) (OfItem u g)
   decides_item u h g in_ =
       let (i, there, is) = of_item group_at items groups read g in_ in
-      ((λ yes. (i, there, is, (decides_use u i g h is).0 yes)), (λ some. let (j, at, was, own) = some in (decides_use u j g h was).1 own))
+      ((λ is_so. (i, there, is, (decides_use u i g h is).0 is_so)), (λ some. let (j, at, was, own) = some in (decides_use u j g h was).1 own))
 
   pub decides_has : (u : ChunkUse) → Contains chunks u → Decides (has_group groups u) (HasGroup u.chunk)
   decides_has u h = Decides-like (has_group groups u) to from (decides_some (is_group_of u) (OfItem u) groups (decides_item u h))
@@ -147,13 +147,13 @@ module _ (used : ChunkAt → ℕ) (chunks : List ChunkUse) (items : List Item) (
   }
 
   pub chunk_wrong : (a : ℕ) → FailsTest (λ (u : ChunkUse). u.chunk.logical) (has_group groups) chunks a → ¬ AreGroupsOf used (map chunk_of chunks) items a
-  chunk_wrong a (u, h, at, no) are =
-      not_from_Decides (has_group groups u) (decides_has u h) no (All-contains (λ c. c.logical ≡ a → HasGroup c) (map chunk_of chunks) u.chunk are.whole (in_map chunks u h) at)
+  chunk_wrong a (u, h, at, not_so) are =
+      not_from_Decides (has_group groups u) (decides_has u h) not_so (All-contains (λ c. c.logical ≡ a → HasGroup c) (map chunk_of chunks) u.chunk are.whole (in_map chunks u h) at)
 
   pub group_wrong : (a : ℕ) → FailsTest (λ (g : GroupAt). g.start) (group_of chunks) groups a → ¬ AreGroupsOf used (map chunk_of chunks) items a
-  group_wrong a (g, h, at, no) are =
+  group_wrong a (g, h, at, not_so) are =
       let (i, there, is) = of_item group_at items groups read g h in
-      not_from_Decides (group_of chunks g) (decides_of i g is) no (All-contains (λ j. object_of j ≡ a → HasChunk j) items i are.each there ((is_read i g is).start ∙ at))
+      not_from_Decides (group_of chunks g) (decides_of i g is) not_so (All-contains (λ j. object_of j ≡ a → HasChunk j) items i are.each there ((is_read i g is).start ∙ at))
 
   -- what is answered where each chunk has its block group
   pub answers_groups : (found : Option ℕ) → All (λ u. has_group groups u ≡ true) chunks → Answers (All (λ g. group_of chunks g ≡ true) groups) (FailsTest (λ (g : GroupAt). g.start) (group_of chunks) groups) found

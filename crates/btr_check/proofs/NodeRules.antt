@@ -17,11 +17,11 @@ decides_if : {P Q : Type 0} (x y : Bool) → Decides x P → Decides y Q → Dec
 decides_if {P} {Q} x y dx dy = Decides-like (not x || y) to from (Decides-or _ _ (Decides-not x dx) dy)
   where
     to : (¬ P) ⊎ Q → P → Q
-    to (inl no) p = absurd (no p)
+    to (inl not_so) p = absurd (not_so p)
     to (inr q) p = q
 
     from : (P → Q) → (¬ P) ⊎ Q
-    from f = ⊎_elim (λ (yes : x ≡ true). inr (f (dx.0 yes))) (λ (no : x ≡ false). inl (λ p. both_ways x no (dx.1 p))) (cases_Bool x)
+    from f = ⊎_elim (λ (is_so : x ≡ true). inr (f (dx.0 is_so))) (λ (not_so : x ≡ false). inl (λ p. both_ways x not_so (dx.1 p))) (cases_Bool x)
 
 decides_packed : (s : Super) (level : ℕ) (bytes : List ℕ) → length bytes ≡ s.nodesize → Decides (is_packed_leaf level bytes) (level ≡ 0 → is_packed (s.nodesize - HEADER_SIZE) (heads_in bytes) ≡ true)
 decides_packed s level bytes size =
@@ -30,8 +30,8 @@ decides_packed s level bytes size =
 
 -- a test decides that it is false
 decides_no : (b : Bool) → Decides (not b) (b ≡ false)
-decides_no true = ((λ no. sym no), (λ no. sym no))
-decides_no false = ((λ yes. refl), (λ yes. refl))
+decides_no true = ((λ not_so. sym not_so), (λ not_so. sym not_so))
+decides_no false = ((λ is_so. refl), (λ is_so. refl))
 
 decides_empty : (h : Head) → Decides (is_empty_right h) (h.count ≡ 0 → list_any (λ number. number == h.owner) never_empty ≡ false)
 decides_empty h =

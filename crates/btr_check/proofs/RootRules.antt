@@ -33,12 +33,12 @@ abbrev FilesParts : ℕ → RootItem → Type 0
 FilesParts number root = (¬ (holds_files number ≡ true)) ⊎ ((root.refs ≡ 1) × (root.root_dirid ≡ FIRST_FREE_OBJECTID))
 
 files_to : (number : ℕ) (root : RootItem) → FilesParts number root → IsFilesRoot number root
-files_to number root (inl no) = λ holds. absurd (no holds)
+files_to number root (inl not_so) = λ holds. absurd (not_so holds)
 files_to number root (inr is) = λ holds. is
 
 files_from : (number : ℕ) (root : RootItem) → IsFilesRoot number root → FilesParts number root
 files_from number root is =
-    ⊎_elim (λ (yes : holds_files number ≡ true). inr (is yes)) (λ (no : holds_files number ≡ false). inl (λ holds. both_ways (holds_files number) no holds)) (cases_Bool (holds_files number))
+    ⊎_elim (λ (is_so : holds_files number ≡ true). inr (is is_so)) (λ (not_so : holds_files number ≡ false). inl (λ holds. both_ways (holds_files number) not_so holds)) (cases_Bool (holds_files number))
 
 decides_files : (number : ℕ) (root : RootItem) → Decides (has_files_root number root) (IsFilesRoot number root)
 decides_files number root =
@@ -86,9 +86,9 @@ root_parts s k body is =
     (is.generations.0, (is.generations.1, (is.generations.2, (is.address, (is.level, (is.flags, (is.whole, (is.settled, (is.place, is.files)))))))))
 
 by_root : (s : Super) (k : Key) (body : List ℕ) (o : Option RootItem) → root_item_of body ≡ o → Decides (keeps_some_root s k o) (IsRootItem s (k, body))
-by_root s k body None none = ((λ no. absurd (false≢true no)), (λ is. absurd (not_none is.root (sym none ∙ is.root_is))))
+by_root s k body None none = ((λ not_so. absurd (false≢true not_so)), (λ is. absurd (not_none is.root (sym none ∙ is.root_is))))
 by_root s k body (Some root) some = (
-  (λ yes. root_from s k body root some ((decides_parts s k root).0 yes)),
+  (λ is_so. root_from s k body root some ((decides_parts s k root).0 is_so)),
   (λ is. (decides_parts s k root).1 (subst (Parts s k) (some_same is.root root (sym is.root_is ∙ some)) (root_parts s k body is))),
 )
 

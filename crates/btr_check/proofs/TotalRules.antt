@@ -96,7 +96,7 @@ decides_device a b =
     (Decides-and _ _ (Decides-eqb a.bandwidth b.bandwidth) (Decides-and _ _ (decides_uuid a.uuid b.uuid) (decides_uuid a.fsid b.fsid))))))))))))))
 
 decides_body : (s : Super) (o : Option Device) → Decides (is_device_body s o) (o ≡ Some s.dev_item)
-decides_body s None = ((λ no. absurd (false≢true no)), (λ none. absurd (not_none s.dev_item none)))
+decides_body s None = ((λ not_so. absurd (false≢true not_so)), (λ none. absurd (not_none s.dev_item none)))
 decides_body s (Some d) = Decides-like {P = d ≡ s.dev_item} {Q = Some d ≡ Some s.dev_item} (same_device d s.dev_item) (λ same. ap Some same) (λ same. some_same d s.dev_item same) (decides_device d s.dev_item)
 
 abbrev device_key : Super → Key
@@ -120,13 +120,13 @@ long_not_one : (s : Super) (i j : Item) (items : List Item) → ¬ IsOnlyDevice 
 long_not_one s i j items (k, are, is) = omega (arith, ap length are)
 
 other_not_one : (s : Super) (i : Item) (more : List Item) → ¬ IsDeviceItem s i → ¬ IsOnlyDevice s (i ∷ more)
-other_not_one s i more no (k, are, is) = no (subst (IsDeviceItem s) (sym (ap (first_or i) are)) is)
+other_not_one s i more not_so (k, are, is) = not_so (subst (IsDeviceItem s) (sym (ap (first_or i) are)) is)
 
 pub first_found : (s : Super) (i : Item) (items : List Item) → items ≡ [] → IsDeviceItem s i → FindsDevices s (items ++ i ∷ []) found.One
 first_found s i items none is = subst (λ (l : List Item). IsOnlyDevice s (l ++ i ∷ [])) (sym none) (i, refl, is)
 
 pub first_wrong : (s : Super) (i : Item) (items : List Item) → items ≡ [] → ¬ IsDeviceItem s i → FindsDevices s (items ++ i ∷ []) found.Wrong
-first_wrong s i items none no = λ more one. other_not_one s i more no (subst (λ (l : List Item). IsOnlyDevice s ((l ++ i ∷ []) ++ more)) none one)
+first_wrong s i items none not_so = λ more one. other_not_one s i more not_so (subst (λ (l : List Item). IsOnlyDevice s ((l ++ i ∷ []) ++ more)) none one)
 
 pub second_wrong : (s : Super) (i : Item) (items : List Item) → FindsDevices s items found.One → FindsDevices s (items ++ i ∷ []) found.Wrong
 second_wrong s i items (j, are, is) = λ more one. long_not_one s j i more (subst (λ (l : List Item). IsOnlyDevice s ((l ++ i ∷ []) ++ more)) are one)
@@ -159,13 +159,13 @@ wrong_met s items k body was wrong finds = still_wrong s (k, body) items (subst 
 
 -- a test of what was met
 pub alone_none : (s : Super) (items : List Item) (was : DevicesFound) → was ≡ found.None → FindsDevices s items was → Decides false (IsOnlyDevice s items)
-alone_none s items was none finds = ((λ no. absurd (false≢true no)), (λ one. absurd (none_alone s items (subst (FindsDevices s items) none finds) one)))
+alone_none s items was none finds = ((λ not_so. absurd (false≢true not_so)), (λ one. absurd (none_alone s items (subst (FindsDevices s items) none finds) one)))
 
 pub alone_one : (s : Super) (items : List Item) (was : DevicesFound) → was ≡ found.One → FindsDevices s items was → Decides true (IsOnlyDevice s items)
-alone_one s items was one finds = ((λ yes. subst (FindsDevices s items) one finds), (λ is. refl))
+alone_one s items was one finds = ((λ is_so. subst (FindsDevices s items) one finds), (λ is. refl))
 
 pub alone_wrong : (s : Super) (items : List Item) (was : DevicesFound) → was ≡ found.Wrong → FindsDevices s items was → Decides false (IsOnlyDevice s items)
-alone_wrong s items was wrong finds = ((λ no. absurd (false≢true no)), (λ one. absurd (wrong_alone s items (subst (FindsDevices s items) wrong finds) one)))
+alone_wrong s items was wrong finds = ((λ not_so. absurd (false≢true not_so)), (λ one. absurd (wrong_alone s items (subst (FindsDevices s items) wrong finds) one)))
 
 -- ---- together
 

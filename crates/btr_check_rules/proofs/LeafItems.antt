@@ -27,8 +27,12 @@ abbrev to : ℕ → ℕ → ℕ → NodePointer
 to address level generation = record { address = address; level = level; generation = generation }
 
 -- the items of the node that a pointer names, where that is a leaf
+abbrev pub own_by : ℕ → List Item → List Item
+own_by zero items = items
+own_by (suc level) items = []
+
 abbrev pub own_items : Image → List MapRange → Form → NodePointer → List Item
-own_items image ranges form p = if p.level == 0 then items_in (node_at image ranges form.nodesize p.address) else []
+own_items image ranges form p = own_by p.level (items_in (node_at image ranges form.nodesize p.address))
 
 abbrev bare_items : List TreeEvent → List Item
 bare_items events = map bare_item (items_in_events events)

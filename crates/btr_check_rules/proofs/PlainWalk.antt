@@ -9,7 +9,7 @@ unfoldable use Rattle.btr_check_rules.specs.Walk.{shared_events}
 
 -- only the tree itself may own a node of a tree that is no subvolume
 pub own_alone : (number told : ℕ) → is_subvolume number ≡ false → owner_asked number told ≡ number
-own_alone number told no = ap (λ (b : Bool). if b && is_subvolume told then told else number) no
+own_alone number told not_so = ap (λ (b : Bool). if b && is_subvolume told then told else number) not_so
 
 -- the pointer with these three
 abbrev to : ℕ → ℕ → ℕ → NodePointer
@@ -43,10 +43,10 @@ module _ (image : Image) (ranges : List MapRange) (form : Form) (number : ℕ) (
 
 -- the walk of a tree that is no subvolume, and what is wrong with it
 pub plain_walk : (image : Image) (ranges : List MapRange) (form : Form) (number : ℕ) (root : NodePointer) → is_subvolume number ≡ false → shared_walk image ranges form number root ≡ walk_events image ranges form root number
-plain_walk image ranges form number root no = same_events image ranges form number (may_be_bare root) (λ told. own_alone number told no) root.level root.address root.generation
+plain_walk image ranges form number root not_so = same_events image ranges form number (may_be_bare root) (λ told. own_alone number told not_so) root.level root.address root.generation
 
 pub plain_faults : (image : Image) (ranges : List MapRange) (form : Form) (number : ℕ) (root : NodePointer) → is_subvolume number ≡ false → shared_faults image ranges form number root ≡ tree_refusals image ranges form root number
-plain_faults image ranges form number root no =
-    ap (λ (e : List TreeEvent). flat_map (λ p. at_address p.address (shared_damages image ranges form number (may_be_bare root) p)) (nodes_in e) ++ order_damages None (items_in_events e)) (plain_walk image ranges form number root no)
+plain_faults image ranges form number root not_so =
+    ap (λ (e : List TreeEvent). flat_map (λ p. at_address p.address (shared_damages image ranges form number (may_be_bare root) p)) (nodes_in e) ++ order_damages None (items_in_events e)) (plain_walk image ranges form number root not_so)
     ∙ ap (λ (z : List BtrRefusal). z ++ order_damages None (items_in_events (walk_events image ranges form root number)))
-    (same_faults image ranges form number (may_be_bare root) (λ told. own_alone number told no) (nodes_in (walk_events image ranges form root number)))
+    (same_faults image ranges form number (may_be_bare root) (λ told. own_alone number told not_so) (nodes_in (walk_events image ranges form root number)))
