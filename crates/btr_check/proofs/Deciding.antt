@@ -1,7 +1,7 @@
 -- The tests of chunks tell what is asked of them.
 use Rattle.btr_check.proofs.Imports.{◌≡◌, ℕ, ◌+◌, ◌-◌, ◌%◌, ◌^◌, ◌≤◌, ◌<◌, ◌==◌, ◌&&◌, ◌||◌, Bool, true, false, not, nat_eq, nat_le, List, [], ◌∷◌, Option, Some, None, refl, arith, leb, Decides, pointwise, Decides-and, Decides-eqb, Decides-like, Decides-not, Decides-or, nat_tests, Stripe, Super, ChunkAt, Apart, IsChunkOn, IsStripe, second_of, stripes_of, Span}
 use Rattle.std.specs.List.{All}
-use Rattle.std.proofs.lemmas.List.{All-cons, All-head, All-nil, All-tail}
+use Rattle.std.proofs.lemmas.List.Elements.{All-cons, All-head, All-nil, All-tail}
 use Rattle.std.proofs.lemmas.Slice.Eq.{slice_eq-Decides}
 use Rattle.btr_check.specs.Tests.{are_apart, is_chunk, is_second, is_stripe}
 

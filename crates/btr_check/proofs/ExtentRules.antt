@@ -52,7 +52,7 @@ abbrev key_at : ℕ → ℕ → Key
 key_at devid offset = record { objectid = devid; kind = DEV_EXTENT; offset = offset }
 
 same_key : (k : Key) (a n : ℕ) → k.objectid ≡ a → k.kind ≡ DEV_EXTENT → k.offset ≡ n → k ≡ key_at a n
-same_key k a n x y z = cc
+same_key k a n x y z = let same : record { objectid = k.objectid; kind = k.kind; offset = k.offset } ≡ key_at a n = cc in same
 
 pub decides_extent : (c : ChunkAt) (s : Stripe) (i : Item) (e : ExtentAt) → IsRead i e → Decides (is_extent_of c s e) (IsExtentOf c s i)
 decides_extent c s i e read = Decides-like (is_extent_of c s e) to from (decides_parts c s e)

@@ -55,10 +55,10 @@ abbrev group_with : ℕ → ℕ → ℕ → BlockGroup
 group_with used objectid flags = record { used = used; chunk_objectid = objectid; flags = flags }
 
 same_key : (k : Key) (a n : ℕ) → k.objectid ≡ a → k.kind ≡ BLOCK_GROUP_ITEM → k.offset ≡ n → k ≡ key_at a n
-same_key k a n x y z = cc
+same_key k a n x y z = let same : record { objectid = k.objectid; kind = k.kind; offset = k.offset } ≡ key_at a n = cc in same
 
 same_group : (g : BlockGroup) (a b c : ℕ) → g.used ≡ a → g.chunk_objectid ≡ b → g.flags ≡ c → g ≡ group_with a b c
-same_group g a b c x y z = cc
+same_group g a b c x y z = let same : record { used = g.used; chunk_objectid = g.chunk_objectid; flags = g.flags } ≡ group_with a b c = cc in same
 
 pub decides_group : (u : ChunkUse) (i : Item) (g : GroupAt) → IsRead i g → Decides (is_group_of u g) (IsGroupOf u.used u.chunk i)
 decides_group u i g read = Decides-like (is_group_of u g) to from (decides_parts u g)

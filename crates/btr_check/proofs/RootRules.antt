@@ -10,7 +10,7 @@ abbrev zero_key : Key
 zero_key = record { objectid = 0; kind = 0; offset = 0 }
 
 same_key : (k : Key) → k.objectid ≡ 0 → k.kind ≡ 0 → k.offset ≡ 0 → k ≡ zero_key
-same_key k a b c = cc
+same_key k a b c = let same : record { objectid = k.objectid; kind = k.kind; offset = k.offset } ≡ zero_key = cc in same
 
 abbrev IsWhole : RootItem → Type 0
 IsWhole root = (root.drop_progress ≡ zero_key) × (root.drop_level ≡ 0)

@@ -44,7 +44,7 @@ DeviceParts a b =
     × ((a.seek_speed ≡ b.seek_speed) × ((a.bandwidth ≡ b.bandwidth) × ((a.uuid ≡ b.uuid) × (a.fsid ≡ b.fsid)))))))))))))
 
 one_device : (a b : Device) → DeviceParts a b → a ≡ b
-one_device a b (p1, (p2, (p3, (p4, (p5, (p6, (p7, (p8, (p9, (p10, (p11, (p12, (p13, p14))))))))))))) = cc
+one_device a b (p1, (p2, (p3, (p4, (p5, (p6, (p7, (p8, (p9, (p10, (p11, (p12, (p13, p14))))))))))))) = let same : record { devid = a.devid; total_bytes = a.total_bytes; bytes_used = a.bytes_used; io_align = a.io_align; io_width = a.io_width; sector_size = a.sector_size; kind = a.kind; generation = a.generation; start_offset = a.start_offset; dev_group = a.dev_group; seek_speed = a.seek_speed; bandwidth = a.bandwidth; uuid = a.uuid; fsid = a.fsid } ≡ record { devid = b.devid; total_bytes = b.total_bytes; bytes_used = b.bytes_used; io_align = b.io_align; io_width = b.io_width; sector_size = b.sector_size; kind = b.kind; generation = b.generation; start_offset = b.start_offset; dev_group = b.dev_group; seek_speed = b.seek_speed; bandwidth = b.bandwidth; uuid = b.uuid; fsid = b.fsid } = cc in same
 
 device_parts : (a b : Device) → a ≡ b → DeviceParts a b
 device_parts a b same = (
@@ -103,7 +103,7 @@ abbrev device_key : Super → Key
 device_key s = record { objectid = DEV_ITEMS_OBJECTID; kind = DEV_ITEM; offset = s.dev_item.devid }
 
 same_key : (s : Super) (k : Key) → k.objectid ≡ DEV_ITEMS_OBJECTID → k.kind ≡ DEV_ITEM → k.offset ≡ s.dev_item.devid → k ≡ device_key s
-same_key s k a b c = cc
+same_key s k a b c = let same : record { objectid = k.objectid; kind = k.kind; offset = k.offset } ≡ device_key s = cc in same
 
 decides_key : (s : Super) (k : Key) → Decides (is_device_key s k) (k ≡ device_key s)
 decides_key s k =
