@@ -54,19 +54,12 @@ cd / && umount /mnt
 said 'everyday: unmounted' $?
 quiet 'everyday: the kernel complains of nothing'
 
-# goes_back NAME: btrfs check finds nothing, and the volume goes back to the byte
-goes_back() {
-    checked "everyday: btrfs check $1 finds nothing"
-    run rollback /dev/vda
-    same "everyday: rollback $1 ends with status 0" '0||rolled back to reiserfs' "$status|$err|$(head -n 1 /tmp/out)"
-    perl /job/saved /dev/vdb /dev/vda
-    said "everyday: each used block is as it was $1" $?
-    run list /dev/vda
-    same_file "everyday: list prints the first tree $1" /tmp/before /tmp/out
-    reiserfsck --check -y /dev/vda >/tmp/out 2>&1
-    same "everyday: reiserfsck finds nothing $1" '0 1' "$? $(grep -c 'No corruptions found' /tmp/out)"
+# sound_and_back WHEN: btrfs check finds nothing, and the volume goes back
+sound_and_back() {
+    checked "everyday, $1: btrfs check finds nothing"
+    goes_back "everyday, $1"
 }
-goes_back 'behind everyday use'
+sound_and_back 'behind all of it'
 
 # again NAME OPTIONS: the old volume is converted once more, and mounted
 again() {
@@ -81,10 +74,10 @@ btrfs balance start -f -mconvert=dup /mnt >/tmp/out 2>&1
 said 'everyday: metadata is kept twice' $?
 perl -e 'for (1 .. 20000) { print "the line $_ of many that are alike\n" }' >/mnt/pressed && head -c 2000000 /dev/urandom >/mnt/random && umount /mnt
 said 'everyday: compressed files beside it' $?
-goes_back 'behind metadata in two copies'
+sound_and_back 'behind metadata in two copies'
 
 again 'for another UUID' compress=lzo
 umount /mnt && btrfstune -f -m /dev/vda >/tmp/out 2>&1 && mount -t btrfs -o noatime,compress=lzo /dev/vda /mnt && cp /job/said.sh /mnt/said && umount /mnt
 said 'everyday: another UUID' $?
-goes_back 'behind another UUID'
+sound_and_back 'behind another UUID'
 exit 0

@@ -70,14 +70,7 @@ judged() {
 judged 'behind the writes'
 cp --sparse=always /dev/vda /dev/vdc
 
-run rollback /dev/vda
-same 'foreign: rollback ends with status 0' '0||rolled back to reiserfs' "$status|$err|$(head -n 1 /tmp/out)"
-perl /job/saved /dev/vdb /dev/vda
-said 'foreign: each used block is as it was' $?
-run list /dev/vda
-same_file 'foreign: list prints the first tree' /tmp/before /tmp/out
-reiserfsck --check -y /dev/vda >/tmp/out 2>&1
-same 'foreign: reiserfsck finds nothing' '0 1' "$? $(grep -c 'No corruptions found' /tmp/out)"
+goes_back 'foreign'
 mount -t reiserfs -o noatime,attrs /dev/vda /mnt && perl /job/rows /mnt reiserfs >/tmp/after && echo more >/mnt/more && umount /mnt
 said 'foreign: mounts as ReiserFS for writing' $?
 same_file 'foreign: Linux sees the first tree' /tmp/before /tmp/after
@@ -97,12 +90,7 @@ umount /mnt
 checked 'foreign: btrfs check behind compression finds nothing'
 run list /dev/vda
 same 'foreign: list does not read compressed files' '1|refused 3 unsupported 17 3' "$status|$err"
-run rollback /dev/vda
-same 'foreign: rollback behind compression ends with status 0' '0||rolled back to reiserfs' "$status|$err|$(head -n 1 /tmp/out)"
-perl /job/saved /dev/vdb /dev/vda
-said 'foreign: each used block is as it was behind compression' $?
-run list /dev/vda
-same_file 'foreign: list prints the first tree behind compression' /tmp/before /tmp/out
+goes_back 'foreign, behind compression'
 quiet 'foreign: the kernel complains of nothing behind compression'
 
 # A balance of data moves blocks of the image too.

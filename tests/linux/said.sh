@@ -57,6 +57,18 @@ scrubbed() {
     same "$1" '0 1' "$? $(grep -c 'no errors found' /tmp/out)"
 }
 
+# goes_back NAME: /dev/vda goes back: each block that was in use is as on /dev/vdb, and the tree is that of /tmp/before
+goes_back() {
+    run rollback /dev/vda
+    same "$1: rollback ends with status 0" '0||rolled back to reiserfs' "$status|$err|$(head -n 1 /tmp/out)"
+    perl /job/saved /dev/vdb /dev/vda
+    said "$1: each used block is as it was" $?
+    run list /dev/vda
+    same_file "$1: list prints the first tree" /tmp/before /tmp/out
+    reiserfsck --check -y /dev/vda >/tmp/out 2>&1
+    same "$1: reiserfsck finds nothing" '0 1' "$? $(grep -c 'No corruptions found' /tmp/out)"
+}
+
 # quiet NAME: the kernel has complained of nothing since the last time, but that it will drop ReiserFS
 dmesg -c >/dev/null
 quiet() {
