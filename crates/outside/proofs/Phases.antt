@@ -1,6 +1,7 @@
 -- Phases of a function that writes: what each leaves, and how they follow one another.
-use Rattle.outside.proofs.Imports.{◌≡◌, ◌≢◌, ◌⊎◌, ⊎_elim, ℕ, ◌<◌, List, [], length, set, Result, Ok, Err, OnOk, get_or-set_same, ap, subst, sym, ◌∙◌, Image, History, block_at, reads, clock, IsSettled, IsBlock, LeftSince, WritesBlock, Syncs, WritesOnly}
+use Rattle.outside.proofs.Imports.{◌≡◌, ◌≢◌, ◌⊎◌, ⊎_elim, ℕ, ◌<◌, List, [], length, set, Result, Ok, Err, OnOk, get_or-set_same, ap, subst, sym, ◌∙◌, Image, History, block_at, reads, clock, IsSettled, IsBlock, LeftSince, WritesBlock, Syncs, WritesOnly, IsTorn}
 use Rattle.outside.proofs.Crash.{left_each, left_goes_on, writes_later, reads_only, settled_left}
+use Rattle.outside.proofs.Sectors.{torn_none, torn_weaker}
 
 -- ---- the clauses of one call
 pub on_ok : {T E : Type 0} (result : Result T E) (P : Type 0) → P → OnOk result P
@@ -36,11 +37,18 @@ module _ (Among : ℕ → Type 0) (old new : History) (only : WritesOnly (λ b _
   pub left_outside : IsSettled old → (image : Image) → LeftSince (clock old) new image → (length image ≡ length (reads old)) × ((b : ℕ) → ¬ Among b → block_at image b ≡ block_at (reads old) b)
   left_outside settled image left =
       let each = left_each (λ b _. Among b) old new settled only image left in
-      (each.0, λ b outside. ⊎_elim (λ same. same) (λ among. absurd (outside among)) (each.1 b))
+      (each.0, λ b outside. torn_none (λ _. Among b) (block_at (reads old) b) (block_at image b) (λ _ among. outside among) (each.1 b))
 
--- where each block is as before, or block n with its bytes, all others are as before
-pub only_not : (n : ℕ) (bytes : List ℕ) (image mid : Image) → ((b : ℕ) → (block_at image b ≡ block_at mid b) ⊎ IsBlock n bytes b (block_at image b)) → (b : ℕ) → b ≢ n → block_at image b ≡ block_at mid b
-only_not n bytes image mid each b other = ⊎_elim (λ same. same) (λ is. absurd (other is.0)) (each b)
+-- A phase that writes block n alone leaves all others as they were read, and of this one each sector as it was read or as in the bytes
+-- written.
+pub left_one : (n : ℕ) (bytes : List ℕ) (old new : History) → WritesOnly (IsBlock n bytes) old new → IsSettled old → (image : Image) → LeftSince (clock old) new image
+    → (length image ≡ length (reads old)) × ((b : ℕ) → b ≢ n → block_at image b ≡ block_at (reads old) b) × IsTorn (λ value. value ≡ bytes) (block_at (reads old) n) (block_at image n)
+left_one n bytes old new only settled image left =
+    let each = left_each (IsBlock n bytes) old new settled only image left in (
+      each.0,
+      (λ b other. torn_none (IsBlock n bytes b) (block_at (reads old) b) (block_at image b) (λ value is. other is.0) (each.1 b)),
+      torn_weaker (IsBlock n bytes n) (λ value. value ≡ bytes) (block_at (reads old) n) (block_at image n) (λ value is. is.1) (each.1 n),
+    )
 
 -- a crash of a phase that wrote nothing leaves what reads gave before it
 pub left_unwritten : (old new : History) → IsSettled old → new ≡ old → (image : Image) → LeftSince (clock old) new image → image ≡ reads old

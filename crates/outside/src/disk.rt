@@ -18,8 +18,9 @@ pub enum Access {
 
 /// A device whose writes wait until a sync.
 ///
-/// A crash leaves each block, by itself and whole, with its value at the last sync that succeeded or with any value
-/// written to it since. A write that failed counts as written or as not made, and a failed sync settles nothing.
+/// A crash leaves each sector of 512 bytes, by itself and whole, as at the last sync that succeeded or as any value has
+/// it that was written to its block since. A write that failed counts as written or as not made, and a failed sync
+/// settles nothing.
 /// `len`, `open` and `read` change neither the blocks nor what a crash may leave.
 pub trait Disk: BlockSource {
     /// What was done to the device, for a type that tells it.

@@ -17,7 +17,10 @@ mod source;
 pub use cached::{Cached, Room};
 pub use disk::{Access, Disk};
 pub use fault::{Fault, Memory};
-pub use laws::{crash_leaves_old_or_written, crash_leaves_settled, crash_splits_at_a_moment};
+pub use laws::{
+    crash_leaves_old_or_written, crash_leaves_settled, crash_may_leave_whole,
+    crash_splits_at_a_moment,
+};
 pub use list::CopyList;
 pub use sink::Sink;
 pub use source::BlockSource;

@@ -1,7 +1,5 @@
 -- The image that a choice gives, and the choice that gives an image.
-use Rattle.outside_mem.proofs.Imports.{◌≡◌, ◌⊎◌, inl, inr, ⊎_elim, ℕ, zero, suc, ◌%◌, ◌<◌, ◌≤◌, ◌^◌, Bool, true, false, List, [], ◌∷◌, length, map, get_or, refl, sym, ◌∙◌, ap, subst, arith, cases_lt, cases_Bool, get_or-map, get_or_past, length-map, ext_get_or, length-map-range_with_len, get_or-map-range_with_len, Image, Call, wrote, synced, History, block_at, synced_from, Waits, MayLeave, length-reads_from, written, values, is_waiting, waiting_blocks, by_number, number_for, crash_image}
-use Rattle.std.proofs.Math.Nat.{mod-one, mod-lt, mod-eq_of_lt}
-use Rattle.std.specs.Prelude.{All}
+use Rattle.outside_mem.proofs.Imports.{◌≡◌, ◌⊎◌, inl, inr, ⊎_elim, ℕ, zero, suc, ◌%◌, ◌<◌, ◌≤◌, ◌^◌, Bool, true, false, List, [], ◌∷◌, length, map, get_or, refl, sym, ◌∙◌, ap, subst, arith, cases_lt, cases_Bool, get_or-map, get_or_past, length-map, ext_get_or, length-map-range_with_len, get_or-map-range_with_len, Image, Call, wrote, synced, History, block_at, synced_from, Waits, MayLeave, length-reads_from, whole_may, written, values, is_waiting, waiting_blocks, by_number, choice_for, number_for, crash_image, IsLeftWhole, mod-one, mod-lt, mod-eq_of_lt, All}
 use Rattle.outside_mem.proofs.Keys.{count_before, passing_ordered, passing_below, passing_place}
 use Rattle.outside_mem.proofs.Waiting.{nothing_written, waits_from_place, place_of}
 
@@ -33,17 +31,18 @@ module _ (h : History) where
   block_at-crash_image choice b below =
       get_or-map-range_with_len (λ (b : ℕ). by_number (values h b) (number_for (waiting_blocks h) choice b)) 0 n b b [] below (omega arith)
 
-  -- the i-th block that waits has the i-th number
-  pub number_for-place : (choice : List ℕ) (i b : ℕ) → i < length (waiting_blocks h) → b ≡ get_or (waiting_blocks h) i 0 → number_for (waiting_blocks h) choice b ≡ get_or choice i 0
-  number_for-place choice i b below is =
-      ap (λ (c : ℕ). number_for (waiting_blocks h) choice c) is
-      ∙ ap (λ (j : ℕ). get_or choice j 0) (count_before (waiting_blocks h) i (passing_ordered waits n) below)
+  -- the i-th block that waits has the i-th of the choice
+  pub choice_for-place : {A : Type 0} (none : A) (choice : List A) (i b : ℕ) → i < length (waiting_blocks h) → b ≡ get_or (waiting_blocks h) i 0
+      → choice_for none (waiting_blocks h) choice b ≡ get_or choice i none
+  choice_for-place none choice i b below is =
+      ap (λ (c : ℕ). choice_for none (waiting_blocks h) choice c) is
+      ∙ ap (λ (j : ℕ). get_or choice j none) (count_before (waiting_blocks h) i (passing_ordered waits n) below)
 
   pub chosen_waiting : (choice : List ℕ) (i b : ℕ) → i < length (waiting_blocks h) → b ≡ get_or (waiting_blocks h) i 0
       → block_at (crash_image h choice) b ≡ by_number (values h b) (get_or choice i 0)
   chosen_waiting choice i b below is =
       block_at-crash_image choice b (subst (λ (c : ℕ). c < n) (sym is) (passing_below waits n i 0 below))
-      ∙ ap (λ (number : ℕ). by_number (values h b) number) (number_for-place choice i b below is)
+      ∙ ap (λ (number : ℕ). by_number (values h b) number) (choice_for-place 0 choice i b below is)
 
   pub chosen_other : (choice : List ℕ) (b : ℕ) → b < n → waits b ≡ false → block_at (crash_image h choice) b ≡ block_at (synced_from h.start h.calls) b
   chosen_other choice b below not_waiting =
@@ -51,7 +50,7 @@ module _ (h : History) where
       ∙ by_number-one (block_at (synced_from h.start h.calls) b) (written h.calls b) (number_for (waiting_blocks h) choice b) (nothing_written h.calls b not_waiting)
 
   -- the value of any number is the one at the last sync, or waits
-  by_number_may : (b number : ℕ) → (by_number (values h b) number ≡ block_at (synced_from h.start h.calls) b) ⊎ Waits h.calls b (by_number (values h b) number)
+  pub by_number_may : (b number : ℕ) → (by_number (values h b) number ≡ block_at (synced_from h.start h.calls) b) ⊎ Waits h.calls b (by_number (values h b) number)
   by_number_may b number = at (number % length (values h b)) (mod-lt number (omega arith))
     where
       at : (j : ℕ) → j < length (values h b) → (get_or (values h b) j [] ≡ block_at (synced_from h.start h.calls) b) ⊎ Waits h.calls b (get_or (values h b) j [])
@@ -59,10 +58,7 @@ module _ (h : History) where
       at (suc j) below = inr (waits_from_place h.calls b j (omega (arith, below)))
 
   pub choice_may : (choice : List ℕ) → MayLeave h.start h.calls (crash_image h choice)
-  choice_may choice = record {
-    size = length-crash_image choice;
-    each = λ b. ⊎_elim (inside b) (outside b) (cases_lt b n);
-  }
+  choice_may choice = whole_may h.start h.calls (crash_image h choice) (length-crash_image choice) (λ b. ⊎_elim (inside b) (outside b) (cases_lt b n))
     where
       inside : (b : ℕ) → b < n → (block_at (crash_image h choice) b ≡ block_at (synced_from h.start h.calls) b) ⊎ Waits h.calls b (block_at (crash_image h choice) b)
       inside b below =
@@ -74,7 +70,7 @@ module _ (h : History) where
       outside b past = inl (get_or_past (crash_image h choice) b [] (omega (arith, past, length-crash_image choice))
           ∙ sym (get_or_past (synced_from h.start h.calls) b [] (omega (arith, past, length-synced_from h.start h.calls))))
 
-  module _ (image : Image) (may : MayLeave h.start h.calls image) where
+  module _ (image : Image) (may : IsLeftWhole h image) where
     -- the number of the value that the image has
     number_in : (b : ℕ) → (j : ℕ) × (j < length (values h b)) × (get_or (values h b) j [] ≡ block_at image b)
     number_in b = ⊎_elim

@@ -1,7 +1,8 @@
 -- Images made of maps, and the record of what was done to them.
-use Rattle.outside_mem.proofs.Imports.{◌≡◌, ◌≢◌, ⊎_elim, ℕ, zero, suc, ◌+◌, ◌<◌, Bool, true, false, if◌then◌else◌, not, nat_eq, filter, is_some, Option, Some, None, List, [], ◌∷◌, ◌++◌, length, set, get_or, map, replicate, refl, sym, ◌∙◌, ap, arith, get_or-set_same, get_or-set_other, cases_eq, both_ways, eqb_tells, length-set, set-set, set_comm, length-map-range_with_len, get_or-map-range_with_len, fill_by_all, range_with_len, zeros, Block, Image, Call, wrote, synced, History, block_at, reads_from, synced_from, after, length-reads_from, Done, Wrote, Synced, is_waiting, image_of, IsConsistent, call_of, newest_first, calls_of, is_not_write, drop_writes, with_block}
+use Rattle.outside_mem.proofs.Imports.{◌≡◌, ◌≢◌, ⊎_elim, ℕ, zero, suc, ◌+◌, ◌<◌, Bool, true, false, if◌then◌else◌, not, nat_eq, filter, is_some, Option, Some, None, List, [], ◌∷◌, ◌++◌, length, set, get_or, map, replicate, refl, sym, ◌∙◌, ap, subst, arith, get_or-set_same, get_or-set_other, cases_eq, both_ways, eqb_tells, length-set, set-set, set_comm, length-map-range_with_len, get_or-map-range_with_len, fill_by_all, range_with_len, zeros, Block, Image, Call, wrote, synced, History, block_at, reads_from, synced_from, after, length-reads_from, Done, Wrote, Synced, is_waiting, HasWholeBlocks, image_of, IsConsistent, call_of, newest_first, calls_of, is_not_write, drop_writes, with_block}
 use Rattle.outside.specs.declared.disk.Access.{Access}
 use Rattle.outside_mem.proofs.Waiting.{kept_more, in_range_more, kept_less, in_range_less}
+use Rattle.outside_mem.proofs.Whole.{AreWhole, IsWholeImage, drop_whole, reads_whole, whole_put}
 
 pub length-image_of : (n : ℕ) (f : ℕ → List ℕ) → length (image_of n f) ≡ n
 length-image_of n f = length-map-range_with_len f 0 n
@@ -56,9 +57,16 @@ module _ (n : ℕ) (start start' : ℕ → List ℕ) (same : (q : ℕ) → start
     moved : (read : Image → List Call → Image) (calls : List Call) → calls_of dones' ≡ calls → read (image_of n start) calls ≡ read (image_of n start') (calls_of dones')
     moved read calls is = λ i. read (sym (image_same n start' start same) i) (sym is i)
 
-    pub write_holds : (k : ℕ) (block : Block) → dones' ≡ dones ++ Wrote k block ∷ [] → present' k ≡ block.bytes → ((q : ℕ) → q ≢ k → present' q ≡ present q)
+    -- with its blocks whole
+    whole_moved : (calls : List Call) → calls_of dones' ≡ calls → AreWhole calls → HasWholeBlocks (record { start = image_of n start'; calls = calls_of dones' })
+    whole_moved calls is each = record {
+      start = subst IsWholeImage (sym (image_same n start' start same)) holds.whole.start;
+      written = subst AreWhole (sym is) each;
+    }
+
+    pub write_holds : (k : ℕ) (block : Block) → length block.bytes ≡ 4096 → dones' ≡ dones ++ Wrote k block ∷ [] → present' k ≡ block.bytes → ((q : ℕ) → q ≢ k → present' q ≡ present q)
         → ((q : ℕ) → unsynced' q ≡ unsynced q) → k < n → kept' k ≡ true → ((q : ℕ) → q ≢ k → kept' q ≡ kept q) → IsConsistent n present' start' unsynced' kept' (calls_of dones')
-    write_holds k block more here others stays fits kept_here kept_others =
+    write_holds k block long more here others stays fits kept_here kept_others =
         let calls_are : calls_of dones' ≡ wrote k block.bytes true ∷ calls_of dones = ap calls_of more ∙ newest-push dones (Wrote k block) [] in
         record {
           reads_are = image_put n k present present' block.bytes here others
@@ -67,6 +75,7 @@ module _ (n : ℕ) (start start' : ℕ → List ℕ) (same : (q : ℕ) → start
           synced_are = image_same n unsynced' unsynced stays ∙ holds.synced_are ∙ moved synced_from (wrote k block.bytes true ∷ calls_of dones) calls_are;
           kept_are = λ q. kept_more (calls_of dones) k block.bytes true kept kept' holds.kept_are kept_here kept_others q ∙ ap (λ (calls : List Call). is_waiting calls q) (sym calls_are);
           in_range = λ q waits. in_range_more (calls_of dones) k block.bytes true n fits holds.in_range q (ap (λ (calls : List Call). is_waiting calls q) (sym calls_are) ∙ waits);
+          whole = whole_moved (wrote k block.bytes true ∷ calls_of dones) calls_are (long, holds.whole.written);
         }
 
     pub sync_holds : dones' ≡ dones ++ Synced ∷ [] → ((q : ℕ) → present' q ≡ present q) → ((q : ℕ) → unsynced' q ≡ present q) → ((q : ℕ) → kept' q ≡ false) → IsConsistent n present' start' unsynced' kept' (calls_of dones')
@@ -77,6 +86,7 @@ module _ (n : ℕ) (start start' : ℕ → List ℕ) (same : (q : ℕ) → start
           synced_are = image_same n unsynced' present now_synced ∙ holds.reads_are ∙ moved synced_from (synced ∷ calls_of dones) calls_are;
           kept_are = λ q. none_kept q ∙ ap (λ (calls : List Call). is_waiting calls q) (sym calls_are);
           in_range = λ q waits. absurd (both_ways false refl (ap (λ (calls : List Call). is_waiting calls q) (sym calls_are) ∙ waits));
+          whole = whole_moved (synced ∷ calls_of dones) calls_are holds.whole.written;
         }
 
     pub nothing_holds : dones' ≡ dones → ((q : ℕ) → present' q ≡ present q) → ((q : ℕ) → unsynced' q ≡ unsynced q) → ((q : ℕ) → kept' q ≡ kept q) → IsConsistent n present' start' unsynced' kept' (calls_of dones')
@@ -85,17 +95,39 @@ module _ (n : ℕ) (start start' : ℕ → List ℕ) (same : (q : ℕ) → start
       synced_are = image_same n unsynced' unsynced synced_stays ∙ holds.synced_are ∙ moved synced_from (calls_of dones) (ap calls_of same_dones);
       kept_are = λ q. kept_stays q ∙ holds.kept_are q ∙ ap (λ (ds : List Done). is_waiting (calls_of ds) q) (sym same_dones);
       in_range = λ q waits. holds.in_range q (ap (λ (ds : List Done). is_waiting (calls_of ds) q) (sym same_dones) ∙ waits);
+      whole = whole_moved (calls_of dones) (ap calls_of same_dones) holds.whole.written;
     }
+
+whole_image : (n : ℕ) (f : ℕ → List ℕ) → ((q : ℕ) → q < n → length (f q) ≡ 4096) → IsWholeImage (image_of n f)
+whole_image n f long q below =
+    let within : q < n = omega (arith, below, length-image_of n f) in
+    ap (λ (bytes : List ℕ). length bytes) (block_at-image_of n f q within) ∙ long q within
+
+pub whole_from : (n : ℕ) (f : ℕ → List ℕ) (image : Image) → image_of n f ≡ image → IsWholeImage image → (q : ℕ) → q < n → length (f q) ≡ 4096
+whole_from n f image is whole q below =
+    let within : q < length (image_of n f) = omega (arith, below, length-image_of n f) in
+    ap (λ (bytes : List ℕ). length bytes) (sym (block_at-image_of n f q below)) ∙ subst IsWholeImage (sym is) whole q within
 
 -- a disk to which nothing was done
 pub blank_holds : (n : ℕ) (present started unsynced : ℕ → List ℕ) (kept : ℕ → Bool) (dones : List Done) → ((q : ℕ) → started q ≡ present q) → ((q : ℕ) → unsynced q ≡ present q)
-    → ((q : ℕ) → kept q ≡ false) → dones ≡ [] → IsConsistent n present started unsynced kept (calls_of dones)
-blank_holds n present started unsynced kept dones start_is synced_is none_kept none = record {
+    → ((q : ℕ) → kept q ≡ false) → dones ≡ [] → ((q : ℕ) → q < n → length (present q) ≡ 4096) → IsConsistent n present started unsynced kept (calls_of dones)
+blank_holds n present started unsynced kept dones start_is synced_is none_kept none long = record {
   reads_are = image_same n present started (λ q. sym (start_is q)) ∙ ap (λ (ds : List Done). reads_from (image_of n started) (calls_of ds)) (sym none);
   synced_are = image_same n unsynced started (λ q. synced_is q ∙ sym (start_is q)) ∙ ap (λ (ds : List Done). synced_from (image_of n started) (calls_of ds)) (sym none);
   kept_are = λ q. none_kept q ∙ ap (λ (ds : List Done). is_waiting (calls_of ds) q) (sym none);
   in_range = λ q waits. absurd (both_ways false refl (ap (λ (ds : List Done). is_waiting (calls_of ds) q) (sym none) ∙ waits));
+  whole = record {
+    start = subst IsWholeImage (image_same n present started (λ q. sym (start_is q))) (whole_image n present long);
+    written = subst (λ (ds : List Done). AreWhole (calls_of ds)) (sym none) tt;
+  };
 }
+
+-- what reads give of such a disk has 4096 bytes a block
+pub present_whole : (n : ℕ) (present started unsynced : ℕ → List ℕ) (kept : ℕ → Bool) (calls : List Call) → IsConsistent n present started unsynced kept calls
+    → (q : ℕ) → q < n → length (present q) ≡ 4096
+present_whole n present started unsynced kept calls holds q below =
+    ap (λ (bytes : List ℕ). length bytes) (sym (block_at-image_of n present q below) ∙ ap (λ (image : Image). block_at image q) holds.reads_are)
+    ∙ reads_whole (image_of n started) holds.whole.start calls holds.whole.written q (omega (arith, below, length-image_of n started))
 
 -- what reads give where it is open
 pub length_open : (n : ℕ) (start : ℕ → List ℕ) (calls : List Call) (o : Option Access) → is_some o ≡ true → n ≡ length (if is_some o then reads_from (image_of n start) calls else [])
@@ -172,9 +204,9 @@ module _ (count n : ℕ) (start start' : ℕ → List ℕ) (bytes : List ℕ) (h
       ∙ ap (λ (old : History). with_block old n bytes) is
 
   pub reset_holds : (present present' unsynced unsynced' : ℕ → List ℕ) (kept kept' : ℕ → Bool) → IsConsistent count present start unsynced kept (calls_of dones)
-      → present' n ≡ bytes → ((q : ℕ) → q ≢ n → present' q ≡ present q) → unsynced' n ≡ bytes → ((q : ℕ) → q ≢ n → unsynced' q ≡ unsynced q)
+      → length bytes ≡ 4096 → present' n ≡ bytes → ((q : ℕ) → q ≢ n → present' q ≡ present q) → unsynced' n ≡ bytes → ((q : ℕ) → q ≢ n → unsynced' q ≡ unsynced q)
       → kept' n ≡ false → ((q : ℕ) → q ≢ n → kept' q ≡ kept q) → IsConsistent count present' start' unsynced' kept' (calls_of dones')
-  reset_holds present present' unsynced unsynced' kept kept' holds here' others' synced_here synced_others kept_here kept_others =
+  reset_holds present present' unsynced unsynced' kept kept' holds long here' others' synced_here synced_others kept_here kept_others =
       let start_is : image_of count start' ≡ set (image_of count start) n bytes = image_put count n start start' bytes here others in
       let calls_are : calls_of dones' ≡ drop_writes n (calls_of dones) = ap calls_of dropped ∙ calls_of-filter n dones in
       record {
@@ -188,4 +220,10 @@ module _ (count n : ℕ) (start start' : ℕ → List ℕ) (bytes : List ℕ) (h
             ∙ (λ i. synced_from (sym start_is i) (sym calls_are i));
         kept_are = λ q. kept_less n (calls_of dones) kept kept' holds.kept_are kept_here kept_others q ∙ ap (λ (calls : List Call). is_waiting calls q) (sym calls_are);
         in_range = λ q waits. in_range_less n (calls_of dones) count holds.in_range q (ap (λ (calls : List Call). is_waiting calls q) (sym calls_are) ∙ waits);
+        whole = record {
+          start = subst IsWholeImage (sym start_is) (λ q below.
+              let within : q < length (image_of count start) = omega (arith, below, length-set (image_of count start) n bytes) in
+              whole_put (image_of count start) n bytes q within (holds.whole.start q within) long);
+          written = subst AreWhole (sym calls_are) (drop_whole n (calls_of dones) holds.whole.written);
+        };
       }

@@ -1,5 +1,6 @@
 -- Ascending keys: how many of them are below one, and which a look-up finds.
-use Rattle.outside_mem.proofs.Imports.{◌≡◌, ◌≢◌, inl, inr, ⊎_elim, ℕ, zero, suc, ◌+◌, ◌<◌, ◌≤◌, Bool, true, false, cond, ◌||◌, nat_lt, filter, is_some, Some, None, List, [], ◌∷◌, length, get_or, refl, sym, ◌∙◌, ap, subst, arith, cases_eq, cases_lt, cases_order, lt-ltb, le-ltb, both_ways, or_from, or_left, length-range_with_len, get_or-range_with_len, All-filter, filter_passes, nat_tests, sorted_head, sorted_tail, below_from_sorted, sorted_from_strictly_increasing, nat_cmp, is_eq, is_at, lookup, keys_of, AllByRecursion, All, count_by, range_with_len, list_any, IsStrictlySortedBy}
+use Rattle.outside_mem.proofs.Imports.{◌≡◌, ◌≢◌, inl, inr, ⊎_elim, ℕ, zero, suc, ◌+◌, ◌<◌, ◌≤◌, Bool, true, false, cond, ◌||◌, nat_lt, filter, is_some, Some, None, List, [], ◌∷◌, length, get_or, refl, sym, ◌∙◌, ap, subst, arith, cases_eq, cases_lt, cases_order, lt-ltb, le-ltb, both_ways, or_from, or_left, length-range_with_len, get_or-range_with_len, All-filter, filter_passes, nat_tests, sorted_head, sorted_tail, below_from_sorted, sorted_from_strictly_increasing, nat_cmp, is_eq, is_at, lookup, keys_of, AllByRecursion, count_by, range_with_len, list_any, IsStrictlySortedBy}
+use Rattle.std.specs.List.{All}
 use Rattle.std.proofs.lemmas.List.Sums.{sum_by-cons}
 use Rattle.std.proofs.lemmas.List.Kept.{IsStrictlySortedBy-filter}
 use Rattle.std.proofs.lemmas.Map.Made.{is_some-lookup}

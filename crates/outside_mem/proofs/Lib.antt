@@ -3,7 +3,11 @@ pub mod Crashed
 pub mod Images
 pub mod Imports
 pub mod Keys
+pub mod Left
 pub mod Newest
 pub mod States
+pub mod Tearing
+pub mod TornChoices
 pub mod Undo
 pub mod Waiting
+pub mod Whole

@@ -1,8 +1,8 @@
-ghost use Rattle.std.specs.Prelude.{◌≡◌, ◌<◌, [], List, Some, None, true, false, is_err, length, replicate, IsTrue, IfOk, OnOk, OnErr};
+ghost use Rattle.std.specs.Prelude.{◌≡◌, ◌<◌, ℕ, [], List, Some, None, true, false, is_err, length, replicate, IsTrue, IfOk, OnOk, OnErr};
 ghost use Rattle.outside.specs.Fault.{HasCause};
 ghost use Rattle.outside.specs.History.{block_at, reads, WritesBlock, Syncs, MayLeave};
 ghost use Rattle.vol_block.specs.Volume.{zeros};
-ghost use Rattle.outside_mem.specs.Choice.{crash_image};
+ghost use Rattle.outside_mem.specs.Choice.{HasWholeBlocks, crash_image, torn_image};
 ghost use Rattle.outside_mem.specs.Disk.{State, Kept, Fails, fresh, after_call, after_read, after_failure, after_write, after_sync};
 ghost use Rattle.outside_mem.specs.Done.{calls_of, with_block};
 ghost use Rattle.outside_mem.specs.Failures.{fails_next, with_failing, stopping_at};
@@ -10,7 +10,7 @@ ghost use Rattle.outside_mem.specs.Laws.{readable, readable_len, kept_refl, kept
 ghost use Rattle.outside_mem.specs.Store.{bytes_at, undone_at, has_key, image_of, IsConsistent};
 ghost use Rattle.std.proofs.Common.{refl, ap};
 
-use crate::crash::choose;
+use crate::crash::{SectorNumbers, choose, choose_torn};
 use crate::schedule::Schedule;
 use crate::store::{Done, block_of, put_recorded, reset};
 use outside::{Access, BlockSource, Disk, Fault, Memory};
@@ -62,20 +62,7 @@ impl MemDisk {
         ensures new { IfOk result (λ d. d ≡ fresh (replicate blocks zeros)) }
         ensures size { IfOk result (λ d. length d.history.start ≡ blocks) }
     {
-        Ok(MemDisk {
-            alloc,
-            count: blocks,
-            present: BTreeMap::new(alloc),
-            first: BTreeMap::new(alloc),
-            unsynced: BTreeMap::new(alloc),
-            calls: Vec::new(alloc),
-            opened: None,
-            schedule: Schedule::new(alloc),
-            faults: 0,
-            refused: 0,
-            writes: 0,
-            reads_made: 0,
-        })
+        Ok(Self::holding(alloc, blocks, BTreeMap::new(alloc)))
     }
 
     /// Gives a block these bytes as if it had had them from the start, and drops the values written to it.
@@ -166,20 +153,44 @@ impl MemDisk {
     {
         let mut blocks = self.present.clone()?;
         choose(&mut blocks, &self.unsynced, &self.calls, choice)?;
-        Ok(MemDisk {
-            alloc: self.alloc,
-            count: self.count,
-            present: blocks,
-            first: BTreeMap::new(self.alloc),
-            unsynced: BTreeMap::new(self.alloc),
-            calls: Vec::new(self.alloc),
+        Ok(Self::holding(self.alloc, self.count, blocks))
+    }
+
+    /// The disk that a crash now leaves where it tears blocks apart: settled, not open, and failing nowhere.
+    ///
+    /// Of the blocks written since the last sync, in ascending order, the i-th has in its sector s what its value of
+    /// number `choice[i][s]` has there, modulo the number of its values, which are counted as in
+    /// [`MemDisk::after_crash`]. Missing numbers are 0.
+    pub fn after_torn_crash(&self, choice: &[SectorNumbers]) -> Result<MemDisk, Memory>
+        ensures chosen { IfOk result (λ d. d ≡ fresh (torn_image self.now.history choice.now)) }
+        ensures left { IfOk result (λ d. MayLeave self.now.history.start self.now.history.calls (reads d.history)) }
+        ensures size { IfOk result (λ d. length d.history.start ≡ length self.now.history.start) }
+        ensures whole { HasWholeBlocks self.now.history }
+    {
+        let mut blocks = self.present.clone()?;
+        choose_torn(&mut blocks, &self.unsynced, &self.calls, choice)?;
+        Ok(Self::holding(self.alloc, self.count, blocks))
+    }
+
+    /// A settled disk of that many blocks, which has these and zeros where there is none.
+    fn holding(alloc: Global, blocks: u64, present: BTreeMap<u64, Block>) -> MemDisk
+        requires { (q : ℕ) → q < blocks → length (bytes_at present q) ≡ 4096 }
+        ensures { result ≡ fresh (image_of blocks (bytes_at present)) }
+    {
+        MemDisk {
+            alloc,
+            count: blocks,
+            present,
+            first: BTreeMap::new(alloc),
+            unsynced: BTreeMap::new(alloc),
+            calls: Vec::new(alloc),
             opened: None,
-            schedule: Schedule::new(self.alloc),
+            schedule: Schedule::new(alloc),
             faults: 0,
             refused: 0,
             writes: 0,
             reads_made: 0,
-        })
+        }
     }
 
     /// Copies a block as reads give it.

@@ -1,5 +1,5 @@
 // Blocks in maps: those that reads give, and of the blocks written since the start what they were then.
-ghost use Rattle.std.specs.Prelude.{◌≡◌, ◌≢◌, ℕ, ◌++◌, [], ◌∷◌, true, false, filter, OnOk, OnErr};
+ghost use Rattle.std.specs.Prelude.{◌≡◌, ◌≢◌, ℕ, ◌++◌, [], ◌∷◌, true, false, filter, length, OnOk, OnErr};
 ghost use Rattle.outside_mem.specs.Done.{is_not_write};
 ghost use Rattle.outside_mem.specs.Store.{bytes_at, undone_at, has_key};
 
@@ -102,6 +102,7 @@ pub fn put_recorded(
     block: &Block,
 ) -> Result<(), Memory>
     ensures recorded { OnOk result (calls.new.items ≡ calls.old.items ++ Done.Wrote n block.now ∷ []) }
+    ensures whole { length block.now.bytes ≡ 4096 }
     ensures started { (q : ℕ) → undone_at first.new present.new q ≡ undone_at first.old present.old q }
     ensures synced { (q : ℕ) → undone_at unsynced.new present.new q ≡ undone_at unsynced.old present.old q }
     ensures kept { OnOk result (has_key unsynced.new n ≡ true) }
@@ -112,7 +113,8 @@ pub fn put_recorded(
     ensures err { OnErr result ((q : ℕ) → bytes_at present.new q ≡ bytes_at present.old q) }
     ensures not_recorded { OnErr result (calls.new.items ≡ calls.old.items) }
 {
-    if calls.push(Done::Wrote(n, *block)).is_err() {
+    let bytes = block.bytes;
+    if calls.push(Done::Wrote(n, Block { bytes })).is_err() {
         return Err(Memory);
     }
     match put(first, unsynced, present, n, block) {
@@ -150,6 +152,7 @@ pub fn reset(
     block: &Block,
 ) -> Result<(), Memory>
     ensures dropped { OnOk result (calls.new.items ≡ filter (is_not_write n) calls.old.items) }
+    ensures whole { length block.now.bytes ≡ 4096 }
     ensures started { OnOk result (undone_at first.new present.new n ≡ block.now.bytes) }
     ensures started_others { OnOk result ((q : ℕ) → q ≢ n → undone_at first.new present.new q ≡ undone_at first.old present.old q) }
     ensures synced { OnOk result (undone_at unsynced.new present.new n ≡ block.now.bytes) }
@@ -164,7 +167,8 @@ pub fn reset(
     ensures synced_err { OnErr result ((q : ℕ) → undone_at unsynced.new present.new q ≡ undone_at unsynced.old present.old q) }
     ensures not_dropped { OnErr result (calls.new.items ≡ calls.old.items) }
 {
-    if present.insert(n, *block).is_err() {
+    let bytes = block.bytes;
+    if present.insert(n, Block { bytes }).is_err() {
         return Err(Memory);
     }
     first.remove(&n);

@@ -1,22 +1,15 @@
-use Rattle.outside_mem.proofs.Imports.{◌≡◌, ℕ, List, replicate, None, ◌∙◌, ap, nat_cmp, is_at, lookup, Block, zeros, bytes_or, bytes_at, undone_at, image_of, calls_of}
+use Rattle.outside_mem.proofs.Imports.{ℕ, List, length, ◌∙◌, ap, length-replicate, nat_cmp, is_at, lookup, Block, zeros, State, fresh, bytes_or, bytes_at}
 use Rattle.outside_mem.proofs.Images.{image_zeros, length-image_of}
 use Rattle.outside_mem.proofs.disk.MemDisk.new.Goals as goal
 
+pub holding-requires : goal.holding-requires
+holding-requires c = λ q below.
+    ap (λ (es : List (ℕ × Block)). length (bytes_or zeros (lookup (is_at (nat_cmp q)) es))) c.new.ensures.empty ∙ length-replicate {A = ℕ} 4096 0
+
 pub returns-clause-new : goal.returns-clause-new
 returns-clause-new c =
-    let at_zero : (q : ℕ) → undone_at c.new-2.result c.new.result q ≡ zeros = λ q.
-    ap (λ (es : List (ℕ × Block)). bytes_or (bytes_at c.new.result q) (lookup (is_at (nat_cmp q)) es)) c.new-2.ensures.empty
-    ∙ ap (λ (es : List (ℕ × Block)). bytes_or zeros (lookup (is_at (nat_cmp q)) es)) c.new.ensures.empty in
-    let start_is : image_of c.args.blocks (undone_at c.new-2.result c.new.result) ≡ replicate c.args.blocks zeros = image_zeros c.args.blocks (undone_at c.new-2.result c.new.result) at_zero in
-    λ i. record {
-      history = record { start = start_is i; calls = calls_of (c.new-4.ensures.items i) };
-      opened = None;
-      failures = c.new-5.ensures i;
-      faults = 0;
-      refused = 0;
-      writes = 0;
-      reads_made = 0;
-    }
+    c.holding.ensures
+    ∙ ap fresh (image_zeros c.args.blocks (bytes_at c.new.result) (λ q. ap (λ (es : List (ℕ × Block)). bytes_or zeros (lookup (is_at (nat_cmp q)) es)) c.new.ensures.empty))
 
 pub returns-clause-size : goal.returns-clause-size
-returns-clause-size c = length-image_of c.args.blocks (undone_at c.new-2.result c.new.result)
+returns-clause-size c = ap (λ (s : State). length s.history.start) c.holding.ensures ∙ length-image_of c.args.blocks (bytes_at c.new.result)

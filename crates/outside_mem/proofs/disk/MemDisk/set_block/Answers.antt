@@ -17,7 +17,7 @@ invariant_of-self-2 c =
     c.in_ok-reset.ensures.started c.in_ok-reset.ensures.started_others c.self.inside.calls.items c.reset.new.calls.items c.in_ok-reset.ensures.dropped
     (bytes_at c.self.inside.present) (bytes_at c.reset.new.present)
     (undone_at c.self.inside.unsynced c.self.inside.present) (undone_at c.reset.new.unsynced c.reset.new.present)
-    (has_key c.self.inside.unsynced) (has_key c.reset.new.unsynced) c.self.invariant
+    (has_key c.self.inside.unsynced) (has_key c.reset.new.unsynced) c.self.invariant c.in_ok-reset.ensures.whole
     c.in_ok-reset.ensures.here c.in_ok-reset.ensures.others c.in_ok-reset.ensures.synced c.in_ok-reset.ensures.synced_others c.in_ok-reset.ensures.not_kept c.in_ok-reset.ensures.kept_others
 
 pub returns-clause-ok : goal.returns-clause-ok

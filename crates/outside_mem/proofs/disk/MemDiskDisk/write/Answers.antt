@@ -9,7 +9,7 @@ invariant_of-self-in-Ok c =
     c.self.inside.calls.items c.put_recorded.new.calls.items (bytes_at c.self.inside.present) (bytes_at c.put_recorded.new.present)
     (undone_at c.self.inside.unsynced c.self.inside.present) (undone_at c.put_recorded.new.unsynced c.put_recorded.new.present)
     (has_key c.self.inside.unsynced) (has_key c.put_recorded.new.unsynced) c.self.invariant
-    c.args.n c.args.from.now c.in-Ok.ensures.recorded c.in-Ok.ensures.here c.in-Ok.ensures.others c.put_recorded.ensures.synced
+    c.args.n c.args.from.now c.put_recorded.ensures.whole c.in-Ok.ensures.recorded c.in-Ok.ensures.here c.in-Ok.ensures.others c.put_recorded.ensures.synced
     (count_open c.self.inside.count (undone_at c.self.inside.first c.self.inside.present) (calls_of c.self.inside.calls.items) c.self.inside.opened c.args.n
     (subst (λ (s : State). c.args.n < readable_len s) (sym c.self.view_is) c.requires.in_range))
     c.in-Ok.ensures.kept c.in-Ok.ensures.kept_others
