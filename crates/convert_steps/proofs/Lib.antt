@@ -10,6 +10,7 @@ pub use Rattle.reiser_volume.proofs.reiser_volume_names as reiser_volume_names
 pub use Rattle.reiser_volume.proofs.reiser_volume_objects as reiser_volume_objects
 pub use Rattle.reiser_volume.proofs.reiser_walk as reiser_walk
 pub use Rattle.space_items.proofs as space_items
+pub use Rattle.super_turn.proofs as super_turn
 pub use Rattle.unit_plan.proofs as unit_plan
 pub mod Booting
 pub mod Holding

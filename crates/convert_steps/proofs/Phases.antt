@@ -1,5 +1,6 @@
 -- What a crash leaves in each phase of the switch.
-use Rattle.convert_steps.proofs.Imports.{◌≡◌, ◌≢◌, ◌⊎◌, inl, inr, ⊎_elim, ℕ, ◌+◌, ◌<◌, List, [], length, set, Result, Ok, Err, OnOk, refl, sym, ◌∙◌, ap, subst, arith, get_or-set_same, get_or-set_other, length-set, ext_get_or, FIRST_MIRROR, SECOND_MIRROR, SUPER_BLOCK, Image, History, block_at, reads, clock, IsSettled, IsBlock, LeftSince, WritesBlock, WritesOnly, left_each, reads_only, write_only, writes_length, writes_then, writes_weaker, only_not, set_stands, write_reads, mirror_bytes, IsMirror, IsMirrorOf, IsCopy, IsCopyAt, IsSwitchPart, IsSwitched, HasCopies}
+use Rattle.convert_steps.proofs.Imports.{◌≡◌, ◌≢◌, ◌⊎◌, inl, inr, ⊎_elim, ℕ, ◌+◌, ◌<◌, List, [], length, Result, Ok, Err, OnOk, refl, sym, ◌∙◌, ap, subst, arith, ext_get_or, FIRST_MIRROR, SECOND_MIRROR, SUPER_BLOCK, Image, History, block_at, reads, clock, IsSettled, LeftSince, WritesBlock, WritesOnly, reads_only, write_only, writes_length, writes_then, writes_weaker, reads_outside, set_stands, write_reads, left_outside, mirror_bytes, IsMirror, IsMirrorOf, IsCopy, IsCopyAt, IsSwitchPart, IsSwitched, HasCopies, IsHalfSwitched, IsLeftBySwitch, cases_eq}
+use Rattle.super_turn.specs.Turned.{IsTurning, StandsWith}
 
 not_mirror : ¬ IsMirror 16
 not_mirror mirror = ⊎_elim (λ eq. omega (arith, eq)) (λ eq. omega (arith, eq)) mirror
@@ -13,56 +14,52 @@ switched superblock blocks old image size is others = record {
   others = λ b not_superblock _. others b not_superblock;
 }
 
--- while the superblock waits
-pub superblock_crash : (superblock : List ℕ) (blocks : ℕ) (h₀ h₁ : History) → IsSettled h₀ → WritesOnly (IsBlock 16 superblock) h₀ h₁ → (image : Image) → LeftSince (clock h₀) h₁ image
-    → (image ≡ reads h₀) ⊎ IsSwitched superblock blocks (reads h₀) image
-superblock_crash superblock blocks h₀ h₁ settled only image left =
-    let each = left_each (IsBlock 16 superblock) h₀ h₁ settled only image left in
-    let others : (b : ℕ) → b ≢ 16 → block_at image b ≡ block_at (reads h₀) b = only_not 16 superblock image (reads h₀) each.1 in
+-- while block 16 is turned
+pub superblock_crash : (superblock : List ℕ) (place blocks : ℕ) (old image : Image) → (image ≡ old) ⊎ IsTurning (block_at old SUPER_BLOCK) place superblock old image → IsLeftBySwitch place superblock blocks old image
+superblock_crash superblock place blocks old image (inl same) = inl same
+superblock_crash superblock place blocks old image (inr is) =
     ⊎_elim
-    (λ same. inl (ext_get_or [] image (reads h₀) each.0 (λ b below.
-    ⊎_elim (λ kept. kept) (λ is. subst (λ (n : ℕ). block_at image n ≡ block_at (reads h₀) n) (sym is.0) same) (each.1 b))))
-    (λ is. inr (switched superblock blocks (reads h₀) image each.0 is.1 others))
-    (each.1 16)
+    (λ same. inl (ext_get_or [] image old is.size (λ b below.
+    ⊎_elim (λ here. subst (λ (n : ℕ). block_at image n ≡ block_at old n) (sym here) same) (λ other. is.others b other) (cases_eq b 16))))
+    (λ turned. ⊎_elim (λ half. inr (inl (record { size = is.size; others = is.others; whole = is.whole; small = is.small; half = half }))) (λ new. inr (inr (switched superblock blocks old image is.size new is.others))) turned)
+    is.superblock
 
 -- the superblock stands
-pub superblock_stands : (superblock : List ℕ) (blocks : ℕ) (h₀ h₁ : History) → 16 < length (reads h₀) → reads h₁ ≡ set (reads h₀) 16 superblock → IsSwitched superblock blocks (reads h₀) (reads h₁)
-superblock_stands superblock blocks h₀ h₁ long is =
-    switched superblock blocks (reads h₀) (reads h₁)
-    (ap (λ (image : Image). length image) is ∙ length-set (reads h₀) 16 superblock)
-    (ap (λ (image : Image). block_at image SUPER_BLOCK) is ∙ get_or-set_same (reads h₀) 16 superblock [] long)
-    (λ b not. ap (λ (image : Image). block_at image b) is ∙ get_or-set_other (reads h₀) 16 b superblock [] not)
+pub superblock_stands : (superblock : List ℕ) (blocks : ℕ) (old image : Image) → StandsWith superblock old image → IsSwitched superblock blocks old image
+superblock_stands superblock blocks old image is = switched superblock blocks old image is.size is.superblock is.others
 
 -- what differs in the copies' blocks alone is switched too
 module _ (superblock : List ℕ) (blocks : ℕ) (old : Image) where
   stays : (image mid : Image) → IsSwitched superblock blocks old mid → length image ≡ length mid
-      → ((b : ℕ) → (block_at image b ≡ block_at mid b) ⊎ IsCopy superblock blocks b (block_at image b)) → IsSwitched superblock blocks old image
-  stays image mid is size each = record {
+      → ((b : ℕ) → ¬ IsMirrorOf blocks b → block_at image b ≡ block_at mid b) → IsSwitched superblock blocks old image
+  stays image mid is size same = record {
     size = size ∙ is.size;
     superblock_is = same 16 (λ mirror. not_mirror mirror.0) ∙ is.superblock_is;
     others = λ b not_superblock outside. same b outside ∙ is.others b not_superblock outside;
   }
-    where
-      same : (b : ℕ) → ¬ IsMirrorOf blocks b → block_at image b ≡ block_at mid b
-      same b outside = ⊎_elim (λ kept. kept) (λ copy. absurd (outside (copy.mirror, copy.within))) (each b)
+
+  -- a copy goes to its place
+  placed : (b : ℕ) (bytes : List ℕ) → IsCopy superblock blocks b bytes → IsMirrorOf blocks b
+  placed b bytes copy = (copy.mirror, copy.within)
 
   -- once the superblock is on the disk, and copies may wait
   pub copies_crash : (h₁ h₂ : History) → IsSettled h₁ → IsSwitched superblock blocks old (reads h₁) → WritesOnly (IsCopy superblock blocks) h₁ h₂
       → (image : Image) → LeftSince (clock h₁) h₂ image → IsSwitched superblock blocks old image
   copies_crash h₁ h₂ settled is only image since =
-      let each = left_each (IsCopy superblock blocks) h₁ h₂ settled only image since in
-      stays image (reads h₁) is each.0 each.1
+      let outside = left_outside (IsMirrorOf blocks) h₁ h₂ (writes_weaker (IsCopy superblock blocks) (λ b _. IsMirrorOf blocks b) placed h₁ h₂ only) settled image since in
+      stays image (reads h₁) is outside.0 outside.1
 
   pub copies_stand : (h₁ h₂ : History) → IsSwitched superblock blocks old (reads h₁) → WritesOnly (IsCopy superblock blocks) h₁ h₂ → IsSwitched superblock blocks old (reads h₂)
   copies_stand h₁ h₂ is only =
-      stays (reads h₂) (reads h₁) is (writes_length (IsCopy superblock blocks) h₁ h₂ only) (reads_only (IsCopy superblock blocks) h₁ h₂ only)
+      stays (reads h₂) (reads h₁) is (writes_length (IsCopy superblock blocks) h₁ h₂ only)
+      (reads_outside (IsMirrorOf blocks) h₁ h₂ (writes_weaker (IsCopy superblock blocks) (λ b _. IsMirrorOf blocks b) placed h₁ h₂ only))
 
 -- what each phase writes is part of what the switch writes
 module _ (superblock : List ℕ) (blocks : ℕ) where
-  pub superblock_part : (h₀ h₁ : History) → WritesOnly (IsBlock 16 superblock) h₀ h₁ → WritesOnly (IsSwitchPart superblock blocks) h₀ h₁
-  superblock_part h₀ h₁ = writes_weaker (IsBlock 16 superblock) (IsSwitchPart superblock blocks) (λ b bytes is. inl is) h₀ h₁
+  pub superblock_part : (h₀ h₁ : History) → WritesOnly (λ b _. b ≡ 16) h₀ h₁ → WritesOnly (IsSwitchPart superblock blocks) h₀ h₁
+  superblock_part h₀ h₁ = writes_weaker (λ b _. b ≡ 16) (IsSwitchPart superblock blocks) (λ b bytes is. inl is) h₀ h₁
 
-  pub copies_part : (h₀ h₁ h₂ : History) → WritesOnly (IsBlock 16 superblock) h₀ h₁ → WritesOnly (IsCopy superblock blocks) h₁ h₂ → WritesOnly (IsSwitchPart superblock blocks) h₀ h₂
+  pub copies_part : (h₀ h₁ h₂ : History) → WritesOnly (λ b _. b ≡ 16) h₀ h₁ → WritesOnly (IsCopy superblock blocks) h₁ h₂ → WritesOnly (IsSwitchPart superblock blocks) h₀ h₂
   copies_part h₀ h₁ h₂ first then =
       writes_then (IsSwitchPart superblock blocks) h₀ h₁ h₂ (superblock_part h₀ h₁ first)
       (writes_weaker (IsCopy superblock blocks) (IsSwitchPart superblock blocks) (λ b bytes is. inr is) h₁ h₂ then)

@@ -17,6 +17,7 @@ pub use Rattle.reiser_volume.specs.reiser_volume_names as reiser_volume_names
 pub use Rattle.reiser_volume.specs.reiser_volume_objects as reiser_volume_objects
 pub use Rattle.reiser_volume.specs.reiser_walk as reiser_walk
 pub use Rattle.space_items.specs as space_items
+pub use Rattle.super_turn.specs as super_turn
 pub use Rattle.unit_plan.specs as unit_plan
 pub mod Found
 pub mod Making

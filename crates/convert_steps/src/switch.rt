@@ -1,13 +1,14 @@
 // The switch to the new format.
-ghost use Rattle.std.specs.Prelude.{◌≡◌, ◌≤◌, ◌<◌, ◌+◌, ◌^◌, ◌⊎◌, slice_set, Some, IsTrue, OnOk};
+ghost use Rattle.std.specs.Prelude.{◌≡◌, ◌≤◌, ◌<◌, ◌+◌, ◌^◌, Some, IsTrue, OnOk};
 ghost use Rattle.command_answers.specs.outside.Fault.{HasCause};
-ghost use Rattle.command_answers.specs.outside.History.{block_at, reads, IsSettled, IsBlock, EachCrash, WritesOnly};
+ghost use Rattle.command_answers.specs.outside.History.{block_at, reads, IsSettled, EachCrash, WritesOnly};
 ghost use Rattle.btr_super.specs.Super.{mirror_bytes};
-ghost use Rattle.convert_steps.specs.Switch.{IsMirror, IsSwitchPart, IsCopy, IsCopyAt, IsSwitched, HasCopies, mirror_places, on_volume};
+ghost use Rattle.convert_steps.specs.Switch.{IsMirror, IsSwitchPart, IsCopy, IsCopyAt, IsLeftBySwitch, IsSwitched, HasCopies, mirror_places, on_volume};
 
 use btr_super::mirror;
-use btrfs_format::block::{FIRST_MIRROR, SECOND_MIRROR, SUPER_BLOCK};
+use btrfs_format::block::{FIRST_MIRROR, SECOND_MIRROR};
 use command_answers::{Access, Block, BlockNo, Disk, Fault};
+use super_turn::to_btrfs;
 
 /// The blocks of the copies of a Btrfs superblock, each where a volume of so many blocks has it. A copy never ends with the
 /// volume: Linux writes none there.
@@ -32,16 +33,20 @@ fn on_volume(block: BlockNo, blocks: u64) -> Option<BlockNo>
     }
 }
 
-/// Writes a Btrfs superblock to block 16, and then its copies, on a volume of so many blocks. Each of the two steps is on
-/// the disk before the next begins.
+/// Turns block 16 to a Btrfs superblock, and then writes its copies, on a volume of so many blocks. A copy of the old block 16 lies in block
+/// `place`. Each step is on the disk before the next begins.
 ///
-/// A crash at any moment leaves the disk as it was, or with this superblock and some of its copies.
-pub fn switch_to<D: Disk>(disk: &mut D, superblock: &Block, blocks: u64) -> Result<(), Fault>
+/// A crash at any moment leaves the disk as it was, half turned, so that block 16 can be put back, or with this superblock and some of its copies.
+pub fn switch_to<D: Disk>(
+    disk: &mut D,
+    superblock: &Block,
+    place: BlockNo,
+    blocks: u64,
+) -> Result<(), Fault>
     requires open { D.opened disk.old ≡ Some Access.Write }
     requires room { 16 < blocks }
     requires in_range { blocks ≤ D.size disk.old }
-    ensures crash { EachCrash D.tells (D.history disk.old) (D.history disk.new) (λ image.
-        (image ≡ reads (D.history disk.old)) ⊎ IsSwitched superblock.now.bytes blocks (reads (D.history disk.old)) image) }
+    ensures crash { EachCrash D.tells (D.history disk.old) (D.history disk.new) (IsLeftBySwitch place superblock.now.bytes blocks (reads (D.history disk.old))) }
     ensures open { D.opened disk.new ≡ D.opened disk.old }
     ensures size { D.size disk.new ≡ D.size disk.old }
     ensures borrow { D.borrow disk.new ≡ D.borrow disk.old }
@@ -51,24 +56,8 @@ pub fn switch_to<D: Disk>(disk: &mut D, superblock: &Block, blocks: u64) -> Resu
     ensures settled { IsTrue D.tells → OnOk result (IsSettled (D.history disk.new)) }
     ensures cause { HasCause (D.faults disk.old) (D.faults disk.new) result }
 {
-    write_superblock(disk, superblock)?;
+    to_btrfs(disk, place, superblock)?;
     write_copies(disk, superblock, blocks)
-}
-
-/// Writes a superblock to block 16, and syncs.
-fn write_superblock<D: Disk>(disk: &mut D, superblock: &Block) -> Result<(), Fault>
-    requires open { D.opened disk.old ≡ Some Access.Write }
-    requires in_range { 16 < D.size disk.old }
-    ensures open { D.opened disk.new ≡ D.opened disk.old }
-    ensures size { D.size disk.new ≡ D.size disk.old }
-    ensures borrow { D.borrow disk.new ≡ D.borrow disk.old }
-    ensures only { IsTrue D.tells → WritesOnly (IsBlock 16 superblock.now.bytes) (D.history disk.old) (D.history disk.new) }
-    ensures written { IsTrue D.tells → OnOk result (reads (D.history disk.new) ≡ slice_set (reads (D.history disk.old)) 16 superblock.now.bytes) }
-    ensures settled { IsTrue D.tells → OnOk result (IsSettled (D.history disk.new)) }
-    ensures cause { HasCause (D.faults disk.old) (D.faults disk.new) result }
-{
-    disk.write(SUPER_BLOCK, superblock)?;
-    disk.sync()
 }
 
 /// Writes the copies of a superblock to their blocks, where the volume has them, and syncs.

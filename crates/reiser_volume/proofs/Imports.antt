@@ -1,8 +1,8 @@
 -- What the proofs of reiser_volume import of std, of lower crates and of its specs.
-pub use Rattle.std.proofs.Common.{All, AllPairs, Bool, Contains, IsTrue, List, None, Option, Some, [], ap, arith, cond, count_by, drop, eqb, false, filter, flat_map, get_or, if◌then◌else◌, inl, inr, length, map, nat_eq, nat_lt, not, refl, replicate, subst, suc, sum_by, sym, take, true, true≢false, unwrap_or, zero, ℕ, ⊎_elim, ◌%◌, ◌&&◌, ◌*◌, ◌++◌, ◌+◌, ◌-◌, ◌/◌, ◌<◌, ◌==◌, ◌^◌, ◌||◌, ◌↔◌, ◌∙◌, ◌∷◌, ◌≡◌, ◌≢◌, ◌≤◌}
+pub use Rattle.std.proofs.Common.{All, AllPairs, Bool, Contains, IsTrue, List, None, Option, Some, [], ap, arith, cond, count_by, drop, eqb, false, filter, flat_map, get_or, get_or-set_other, get_or-set_same, if◌then◌else◌, inl, inr, length, map, nat_eq, nat_lt, not, refl, replicate, set, subst, suc, sum_by, sym, take, true, true≢false, unwrap_or, zero, ℕ, ⊎_elim, ◌%◌, ◌&&◌, ◌*◌, ◌++◌, ◌+◌, ◌-◌, ◌/◌, ◌<◌, ◌==◌, ◌^◌, ◌||◌, ◌↔◌, ◌∙◌, ◌∷◌, ◌≡◌, ◌≢◌, ◌≤◌}
 pub use Rattle.std.proofs.lemmas.Bool.{and_from, and_parts, cases_lt, eq-eqb, eqb-false, eqb-true, false_from_ne_true, lt-ltb, ltb-true, ne_eqb}
 pub use Rattle.std.proofs.lemmas.Bool.Decides.{nat_tests}
-pub use Rattle.std.proofs.lemmas.List.{append-nil, get_or-map, get_or-take, get_or_default, length-append, length-map, length-take, map-append, take_all, take_more}
+pub use Rattle.std.proofs.lemmas.List.{append-nil, get_or-map, get_or-take, get_or_default, get_or_past, length-append, length-map, length-set, length-take, map-append, take_all, take_more}
 pub use Rattle.std.proofs.lemmas.List.Elements.{All-cons, All-contains, All-contains_itself}
 pub use Rattle.std.proofs.lemmas.List.Sums.{AllPass-from_list_all, get_or-le-sum_by, sum_by-append, sum_by-cons, sum_by-le, sum_by-le-sum_by}
 pub use Rattle.std.proofs.lemmas.Map.Keys.{IsDistinct-from_apart, Less-from_sorted}
@@ -13,7 +13,7 @@ pub use Rattle.std.specs.List.{AllByRecursion, list_all, list_any, range_with_le
 unfoldable pub use Rattle.std.specs.List.{IsDistinct}
 pub use Rattle.std.specs.Option.{MatchOption, option_map, option_or}
 pub use Rattle.std.specs.Ordering.{is_eq, is_le, is_lt, ordering_reverse}
-pub use Rattle.std.specs.Prelude.{Err, IfErr, Ok, Result, slice_get}
+pub use Rattle.std.specs.Prelude.{Err, IfErr, Ok, Result, codes, slice_get}
 pub use Rattle.fs_paths.proofs.Counts.{count_append, count_cons, count_filter, count_map, count_once, count_same, count_twice, sum_split, sum_zero}
 pub use Rattle.fs_paths.proofs.FirstPlaces.{both_ways, first_before, first_in, first_leads, is_least, names_counted, neither_above}
 pub use Rattle.fs_paths.proofs.Lists.{at_head, from_filter, from_flat_map, from_map, in_filter, in_map, in_tail}
@@ -33,13 +33,14 @@ pub use Rattle.reiser_bitmap.specs.System.{NamesFreeBlock, is_system, system_blo
 pub use Rattle.reiser_bitmap.specs.outside.History.{Image, block_at}
 pub use Rattle.reiser_bitmap.specs.refusals.declared.answer.VolAnswer.{VolAnswer}
 pub use Rattle.reiser_bitmap.specs.refusals.declared.answer.VolAnswer.TheVariants.{Fault, Memory, Refused}
+pub use Rattle.reiser_bitmap.specs.vol_block.Format.{has_bytes_at, has_reiser_magic}
 pub use Rattle.reiser_super.specs.Journal.{IsClean, pending_transactions}
-pub use Rattle.reiser_super.specs.Rules.{IsCleanSuper, first_refusal, superblock_refusal, superblock_rules}
+pub use Rattle.reiser_super.specs.Rules.{IsCleanSuper, IsInBounds, first_refusal, superblock_refusal, superblock_rules}
 pub use Rattle.reiser_super.specs.Superblock.{attrs_cleared_bit, superblock_fields}
 pub use Rattle.reiser_super.specs.declared.superblock.Super.{Super}
 pub use Rattle.reiser_volume.specs.Answers.{IsBitmapOf, IsSuperOf, IsVerdict, IsVolumeAnswer, IsVolumeRule, RefusesVolume}
 pub use Rattle.reiser_volume.specs.Front.{IsFrontAnswer, IsFrontOf, IsFrontRule, NamesFrontRule, RefusesFront}
-pub use Rattle.reiser_volume.specs.Laws.{IsSameVolume, ItemsDecideRows, RowsAreOne, SameFileBlocks, UsedBlocksDecide, unplaced}
+pub use Rattle.reiser_volume.specs.Laws.{FrontOfSuperDecides, IsSameVolume, ItemsDecideRows, PutBackIsSame, RowsAreOne, SameButSuper, SameFileBlocks, UsedBlocksDecide, unplaced}
 pub use Rattle.reiser_volume.specs.Made.{IsKnownAt, IsOfVolume, bytes_at, kind_by, no_stat, row_by, stat_at}
 unfoldable pub use Rattle.reiser_volume.specs.Made.{whole_row}
 pub use Rattle.reiser_volume.specs.Opened.{IsFoundSound, IsOpened, links_in}
@@ -89,7 +90,7 @@ pub use Rattle.reiser_volume_objects.specs.reiser_walk.Bodies.{is_save_link}
 pub use Rattle.reiser_volume_objects.specs.reiser_walk.Items.{Event, ReiserItem, blocks_named, events_of, held_by, is_indirect, is_no_hole, item_at, item_of, leaf_events, node, pointer}
 pub use Rattle.reiser_volume_objects.specs.reiser_walk.Laws.{FitsHead, IsNode, KeepsRules}
 pub use Rattle.reiser_volume_objects.specs.reiser_walk.Rules.{is_system_of, tree_damages}
-pub use Rattle.reiser_volume_objects.specs.reiser_walk.Tree.{Visit, at_children, items_of_events, items_of_tree, reached_in, tree_events, visits_in}
+pub use Rattle.reiser_volume_objects.specs.reiser_walk.Tree.{Visit, at_children, items_of_events, items_of_tree, reached, reached_in, tree_events, visits, visits_in}
 unfoldable pub use Rattle.reiser_volume_objects.specs.reiser_walk.Tree.{node_events}
 pub use Rattle.reiser_volume_objects.specs.reiser_walk.declared.block_pointer.BlockPointer.{BlockPointer}
 pub use Rattle.reiser_volume_objects.specs.reiser_walk.declared.reiser_tree.ReiserTree.{ReiserTree}

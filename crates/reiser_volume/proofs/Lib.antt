@@ -14,6 +14,7 @@ pub use Rattle.reiser_bitmap.proofs.vol_block as vol_block
 pub mod Answering
 pub mod Bounds
 pub mod Filing
+pub mod Fronted
 pub mod Holding
 pub mod Imports
 pub mod Leading

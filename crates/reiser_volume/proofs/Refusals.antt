@@ -1,11 +1,10 @@
 -- What is refused of a volume, group by group, and that an accepted one is not refused.
-use Rattle.reiser_volume.proofs.Imports.{◌≡◌, ℕ, ◌≤◌, ◌&&◌, Bool, true, false, cond, List, [], ◌∷◌, length, Option, Some, None, Contains, All, refl, sym, ap, subst, ◌∙◌, true≢false, arith, Result, Err, IfErr, nat_tests, All-cons, All-contains, SUPER_BLOCK, Image, block_at, VolAnswer, Refused, Fault, Memory, has, bitmap_of, system_blocks, NamesFreeBlock, Super, superblock_fields, IsCleanSuper, superblock_refusal, superblock_rules, first_refusal, IsClean, pending_transactions, tree_damages, items_of_tree, HasNoted, AreObjects, IsObjectsRefusal, IsVolumeRule, IsVolumeAnswer, IsVerdict, RefusesVolume, IsSuperOf, IsBitmapOf, IsFoundSound, IsFrontOf, IsFrontRule, NamesFrontRule, IsFrontAnswer, RefusesFront, IsAccepted, IsRefusal, IsFrontAccepted, IsFrontRefusal, superblock, used_of, reiser_tree_of, volume_items, superblock_rule, journal_rule, bitmap_rule, front_rule, tree_rule, objects_rule, names_rule}
+use Rattle.reiser_volume.proofs.Imports.{◌≡◌, ℕ, ◌≤◌, ◌&&◌, Bool, true, false, cond, List, [], ◌∷◌, length, Option, Some, None, Contains, All, refl, sym, ap, subst, ◌∙◌, true≢false, arith, Result, Err, IfErr, nat_tests, All-cons, All-contains, SUPER_BLOCK, Image, block_at, VolAnswer, Refused, Fault, Memory, has, bitmap_of, system_blocks, NamesFreeBlock, Super, superblock_fields, IsCleanSuper, superblock_refusal, superblock_rules, first_refusal, IsClean, pending_transactions, tree_damages, items_of_tree, HasNoted, AreObjects, IsObjectsRefusal, IsVolumeRule, IsVolumeAnswer, IsVerdict, RefusesVolume, IsSuperOf, IsBitmapOf, IsFoundSound, IsFrontOf, IsFrontRule, NamesFrontRule, IsFrontAnswer, RefusesFront, IsAccepted, IsRefusal, IsFrontAccepted, IsFrontRefusal, superblock, used_of, reiser_tree_of, volume_items, superblock_rule, journal_rule, bitmap_rule, front_rule, tree_rule, objects_rule, names_rule, has_reiser_magic}
 use Rattle.std.specs.Prelude.{nat_lt}
 use Rattle.reiser_bitmap.specs.refusals.declared.refusal.VolumeRefusal.{VolumeRefusal}
 use Rattle.reiser_bitmap.specs.refusals.declared.refusal.VolumeRefusal.TheVariants.{NotVolume, Unclean, Unsupported, Short, JournalPending, Damaged, HasAttributes, PendingLinks, NameTaken, NameTooLong, HashCrowd}
 use Rattle.reiser_bitmap.specs.refusals.declared.rule.Rule.{Rule}
 use Rattle.reiser_bitmap.specs.refusals.declared.rule.Rule.TheVariants.{SuperField, SystemFree, NodeHead, Layout, KeyOrder, BlockFree, BlockRange, BlockTwice, Body, EntryForm, ObjectForm, Overlap, NameTwice, DirTwice, SizeRange, Reread}
-use Rattle.reiser_bitmap.specs.vol_block.Format.{has_reiser_magic}
 use Rattle.reiser_super.specs.State.{IsPendingIn, IsJournalAnswer}
 use Rattle.reiser_super.proofs.Clean.{none_from_clean}
 use Rattle.reiser_bitmap.specs.Answers.{IsNoRefusal}

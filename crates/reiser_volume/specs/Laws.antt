@@ -1,8 +1,11 @@
 -- Laws of the definitions.
-use Rattle.std.specs.Prelude.{◌≡◌, ◌≢◌, ◌≤◌, ◌<◌, ◌↔◌, ℕ, ◌*◌, true, List, length, map, Some}
+use Rattle.std.specs.Prelude.{◌≡◌, ◌≢◌, ◌≤◌, ◌<◌, ◌↔◌, ℕ, ◌*◌, true, List, length, map, take, Some}
 use Rattle.std.specs.Int.{bit_at}
 use Rattle.reiser_bitmap.specs.outside.History.{Image, block_at}
 use Rattle.reiser_bitmap.specs.refusals.declared.refusal.VolumeRefusal.{VolumeRefusal}
+use Rattle.reiserfs_format.specs.declared.block.TheConstants.{SUPER_BLOCK}
+use Rattle.reiser_bitmap.specs.Bits.{has}
+use Rattle.super_turn.specs.PutBack.{put_back}
 use Rattle.fs_rows.specs.Rows.{WholeRow}
 use Rattle.fs_rows.specs.declared.row.Kind.{Kind}
 use Rattle.reiser_volume_contents.specs.Laws.{SameUsed}
@@ -39,6 +42,20 @@ pub record IsSameVolume (image other : Image) : Type 0 where
 -- The used blocks decide an accepted volume, where the other image has room for it.
 abbrev pub UsedBlocksDecide : Type 0
 UsedBlocksDecide = (image other : Image) → IsAccepted image → SameUsed (used_of image) image other → (superblock image).blocks ≤ length other → IsSameVolume image other
+
+-- All used blocks but block 16 are the same in both, and the first 128 bytes of that one, where all lies that is read of a superblock.
+pub record SameButSuper (image other : Image) : Type 0 where
+  pub front : take 128 (block_at other SUPER_BLOCK) ≡ take 128 (block_at image SUPER_BLOCK)
+  pub used : (b : ℕ) → b ≢ 16 → has (used_of image) b ≡ true → block_at other b ≡ block_at image b
+
+-- They decide it too.
+abbrev pub FrontOfSuperDecides : Type 0
+FrontOfSuperDecides = (image other : Image) → IsAccepted image → SameButSuper image other → (superblock image).blocks ≤ length other → IsSameVolume image other
+
+-- So a volume of which block 16 is half turned is the one that it is when it is put back.
+pub record PutBackIsSame : Type 0 where
+  pub before : (image : Image) → IsAccepted (put_back image) → IsSameVolume (put_back image) image
+  pub after : (image : Image) → IsAccepted image → IsSameVolume image (put_back image)
 
 -- the rows of an accepted volume are one list
 abbrev pub RowsAreOne : Type 0

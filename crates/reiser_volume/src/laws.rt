@@ -1,6 +1,6 @@
 // Laws of the definitions, each the contract of a function that does nothing.
 ghost use Rattle.reiser_volume.specs.Bounds.{AcceptedIsSmall};
-ghost use Rattle.reiser_volume.specs.Laws.{RefusalsBreakRules, FrontsAreJudged, UsedBlocksDecide, RowsAreOne, ItemsDecideRows};
+ghost use Rattle.reiser_volume.specs.Laws.{FrontOfSuperDecides, FrontsAreJudged, ItemsDecideRows, PutBackIsSame, RefusalsBreakRules, RowsAreOne, UsedBlocksDecide};
 ghost use Rattle.reiser_volume.specs.Owners.{OwnersAreOne, MapsTellOwned};
 
 /// Where something is refused of a volume, it is not accepted: so an accepted volume is not refused.
@@ -17,6 +17,16 @@ pub fn fronts_are_judged()
 /// the same volume.
 pub fn used_blocks_decide()
     ensures { UsedBlocksDecide }
+{}
+
+/// Of block 16 the first 128 bytes are enough for that.
+pub fn front_of_super_decides()
+    ensures { FrontOfSuperDecides }
+{}
+
+/// A volume of which block 16 is half turned is the one that it is when it is put back.
+pub fn put_back_is_same()
+    ensures { PutBackIsSame }
 {}
 
 /// The rows of an accepted volume are one list.

@@ -20,8 +20,9 @@ mod ways;
 pub use front::Front;
 pub use inode_numbers::InodeNumbers;
 pub use laws::{
-    accepted_is_small, fronts_are_judged, items_decide_rows, maps_tell_owned, owners_are_one,
-    refusals_break_rules, rows_are_one, used_blocks_decide,
+    accepted_is_small, front_of_super_decides, fronts_are_judged, items_decide_rows,
+    maps_tell_owned, owners_are_one, put_back_is_same, refusals_break_rules, rows_are_one,
+    used_blocks_decide,
 };
 pub use links::Link;
 pub use reiser_bitmap::{
