@@ -1,5 +1,5 @@
 -- What is prepared stands on the disk as the old volume.
-use Rattle.rollback_core.proofs.Imports.{◌≡◌, ◌≢◌, ◌⊎◌, inl, inr, ⊎_elim, ℕ, zero, suc, ◌<◌, ◌≤◌, eqb, Bool, true, false, not, ◌&&◌, List, [], ◌∷◌, length, map, get_or, Contains, filter, Option, refl, sym, ◌∙◌, ap, subst, arith, true≢false, and_parts, cases_lt, nat_tests, from_filter, from_map, in_filter, in_map, used_had, has, used_blocks, Image, block_at, is_reserved, IsMirror, IsOld, block_or_hole, image_blocks, image_block, superblock_in, used_length, superblock, CanGoBack, old_used, IsWayBack, IsBack, IsRestored, IsRolledBack, StillStands, is_wiped, restored_blocks, AreWritesApart, AreWiped, IsSavedPlace, IsTurned, IsUnturned, IsWiped, Saved, WayBack}
+use Rattle.rollback_core.proofs.Imports.{◌≡◌, ◌≢◌, ◌⊎◌, inl, inr, ⊎_elim, ℕ, zero, suc, ◌<◌, eqb, Bool, true, false, not, ◌&&◌, List, [], ◌∷◌, length, map, get_or, Contains, filter, Option, refl, sym, ◌∙◌, ap, subst, arith, true≢false, and_parts, cases_eq, nat_tests, from_filter, from_map, in_filter, in_map, used_had, has, used_blocks, Image, block_at, is_reserved, IsMirror, IsOld, block_or_hole, image_blocks, image_block, superblock_in, used_length, superblock, CanGoBack, old_used, IsWayBack, IsBack, IsRestored, IsRolledBack, StillStands, is_wiped, restored_blocks, AreWritesApart, AreWiped, IsSavedPlace, IsTurned, IsUnturned, IsWiped, Saved, WayBack}
 
 abbrev other_than : ℕ → Bool
 other_than b = not (eqb b 16)
@@ -9,11 +9,6 @@ other_true b other = grind (arith, nat_tests, other)
 
 not_other : other_than 16 ≡ true → ⊥
 not_other h = true≢false (sym h)
-
-pub equal_or : (b : ℕ) → (b ≡ 16) ⊎ (b ≢ 16)
-equal_or b =
-    ⊎_elim (λ (less : b < 16). inr (λ same. omega (arith, less, same)))
-    (λ (least : 16 ≤ b). ⊎_elim (λ (more : 16 < b). inr (λ same. omega (arith, more, same))) (λ (most : b ≤ 16). inl (let e : b ≡ 16 = omega (arith, least, most) in e)) (cases_lt 16 b)) (cases_lt b 16)
 
 has_within : (set : List Bool) (b : ℕ) → has set b ≡ true → b < length set
 has_within [] b h = absurd (true≢false (sym h))
@@ -28,7 +23,11 @@ used_below disk can b marked =
     let fits = can.accepted.clean.superblock.fits in
     omega (arith, within, long, fits)
 
--- and where it is not reserved it is that of the disk
+-- block 16 is one of them
+pub superblock_used : (disk : Image) → CanGoBack disk → has (old_used disk) 16 ≡ true
+superblock_used disk can = let s = superblock (image_blocks disk) in can.accepted.system 16 (superblock_in s.blocks s.journal_first s.journal_size)
+
+-- and where a used block is not reserved it is that of the disk
 image_in_place : (disk : Image) → CanGoBack disk → (b : ℕ) → IsOld (old_used disk) b → block_at (image_blocks disk) b ≡ block_at disk b
 image_in_place disk can b old =
     image_block disk b (used_below disk can b old.marked) ∙ ap (λ (o : Option ℕ). block_or_hole disk o) (can.in_place b old)
@@ -95,7 +94,7 @@ module _ (disk : Image) (way : WayBack) (p : IsWayBack disk way) where
 
     -- so does each used block
     used_stands : (b : ℕ) → has used b ≡ true → block_at other b ≡ block_at (image_blocks disk) b
-    used_stands b marked = ⊎_elim (λ first. at_superblock first) (λ rest. by_reserved rest (reserved_here b) refl) (equal_or b)
+    used_stands b marked = ⊎_elim (λ first. at_superblock first) (λ rest. by_reserved rest (reserved_here b) refl) (cases_eq b 16)
       where
         at_superblock : b ≡ 16 → block_at other b ≡ block_at (image_blocks disk) b
         at_superblock first =
@@ -109,7 +108,7 @@ module _ (disk : Image) (way : WayBack) (p : IsWayBack disk way) where
             let old : IsOld used b = record { marked = marked; outside = free } in
             let outside : ¬ IsSavedPlace way.reserved.items b = λ at. true≢false (sym ((place_restored b at).reserved) ∙ free) in
             let same : block_at other b ≡ block_at disk b =
-            ⊎_elim (λ kept. kept) (λ wiping. absurd (true≢false (sym marked ∙ free_unused b (wiped_free b wiping.0).1))) (is.others b rest outside) in
+            ⊎_elim (λ kept. kept) (λ wiped. absurd (true≢false (sym marked ∙ free_unused b (wiped_free b wiped).1))) (is.others b rest outside) in
             same ∙ sym (image_in_place disk p.can b old)
 
     -- and the old volume is back
@@ -118,15 +117,10 @@ module _ (disk : Image) (way : WayBack) (p : IsWayBack disk way) where
       size = is.size;
       used = used_stands;
       others = λ b free.
-          let rest : b ≢ 16 = λ first. true≢false (sym superblock_used ∙ (ap (has used) (sym first) ∙ free)) in
+          let rest : b ≢ 16 = λ first. true≢false (sym (superblock_used disk p.can) ∙ (ap (has used) (sym first) ∙ free)) in
           let outside : ¬ IsSavedPlace way.reserved.items b = λ at. true≢false (sym ((place_restored b at).used) ∙ free) in
-          ⊎_elim (λ kept. inl kept) (λ wiping. let of = wiped_free b wiping.0 in inr (of.0, of.1, wiping.1)) (is.others b rest outside);
+          ⊎_elim (λ kept. inl kept) (λ wiped. inr (wiped_free b wiped)) (is.others b rest outside);
     }
-      where
-        superblock_used : has used 16 ≡ true
-        superblock_used =
-            let s = superblock (image_blocks disk) in
-            p.can.accepted.system 16 (superblock_in s.blocks s.journal_first s.journal_size)
 
     pub rolled_back : AreWiped way other → IsRolledBack disk other
     rolled_back wiped = record {

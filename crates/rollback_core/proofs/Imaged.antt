@@ -1,7 +1,6 @@
 -- The map of the saved image, and the volume in it.
-use Rattle.rollback_core.proofs.Imports.{◌≡◌, ℕ, ◌<◌, ◌≤◌, List, [], Bool, Some, None, Ok, length, min, sym, ◌∙◌, ap, subst, arith, format_in, Image, VolAnswer, image_refusals, saved_image, IsBtrfsOpened, opening_refusals, log_tree, way_refusals, ImageMap, Super, MapRange, Btrfs, IsAccepted, superblock, used_of, used_length, length_by, image_there, map_blocks, map_places, IsOld, TellsMoved, blocks_by_map, image_blocks, CanGoBack, old_used, IsReservedFree, HasImage, HasPlaces, HasVolume, LeadsToImage, RefusesRollback, IsMapOn, by_image}
+use Rattle.rollback_core.proofs.Imports.{◌≡◌, ℕ, ◌<◌, ◌≤◌, List, [], Bool, Some, None, Ok, length, min, sym, ◌∙◌, ap, subst, arith, format_in, Image, VolAnswer, image_refusals, saved_image, IsBtrfsOpened, opening_refusals, log_tree, way_refusals, ImageMap, Super, MapRange, Btrfs, IsAccepted, superblock, used_of, used_length, length_by, image_there, map_blocks, map_places, IsOld, TellsMoved, blocks_by_map, image_blocks, CanGoBack, old_used, IsReservedFree, HasImage, HasPlaces, HasVolume, LeadsToImage, RefusesRollback, IsMapOn, by_image, map_place}
 use Rattle.reiser_bitmap.specs.refusals.declared.answer.VolAnswer.TheVariants.{Refused, Fault, Memory}
-use Rattle.btr_reader.specs.Pieces.{map_place}
 use Rattle.btr_reader.specs.Reading.{ReadsImage}
 use Rattle.reiser_volume.specs.Answers.{RefusesVolume}
 use Rattle.convert_steps.specs.command_answers.declared.answer.Answer.TheVariants as answer

@@ -1,6 +1,8 @@
+pub mod Again
 pub mod Apart
 pub mod Back
 pub mod Fronts
+pub mod Halfway
 pub mod Imaged
 pub mod Imports
 pub mod Leaving
@@ -12,6 +14,7 @@ pub mod Planning
 pub mod Plans
 pub mod Reading
 pub mod Recovering
+pub mod RecoveringBack
 pub mod RecoveryFormats
 pub mod RecoveryKeeping
 pub mod Refusing

@@ -1,6 +1,7 @@
 -- What is to stand in the blocks of copies, and how many of them are to change.
-use Rattle.rollback_core.proofs.Imports.{◌≡◌, ◌≢◌, ◌∙◌, ℕ, ◌+◌, Bool, true, false, cond, not, ◌&&◌, nat_lt, List, [], ◌∷◌, length, Some, None, codes, refl, sym, ap, true≢false, bytes_eq, bytes_eq-Decides, FIRST_MIRROR, SECOND_MIRROR, SUPER_BLOCK, SUPER_MAGIC_OFFSET, Image, block_at, mirror_bytes, has, superblock_fields, superblock, used_of, has_bytes_at, zeros, Block, Format, Reiser, Btrfs, Neither, Gives, blocks_of, copied, mended_by, wiped, copy_blocks}
-use Rattle.std.specs.Prelude.{◌+◌, filter}
+use Rattle.rollback_core.proofs.Imports.{◌≡◌, ◌≢◌, ◌∙◌, ℕ, ◌+◌, Bool, true, false, cond, not, ◌&&◌, nat_lt, List, [], ◌∷◌, length, Some, None, codes, refl, sym, ap, true≢false, ◌⊎◌, inl, inr, ⊎_elim, ◌<◌, ◌≤◌, bytes_eq, bytes_eq-Decides, FIRST_MIRROR, SECOND_MIRROR, SUPER_BLOCK, SUPER_MAGIC_OFFSET, Image, block_at, mirror_bytes, has, superblock, used_of, has_bytes_at, zeros, Block, Format, Reiser, Btrfs, Neither, Gives, blocks_of, copied, mended_by, wiped, copy_blocks, IsMirror, and_parts, cases_eq}
+use Rattle.std.specs.Prelude.{filter}
+use Rattle.reiser_volume.specs.reiser_super.Superblock.{superblock_fields}
 
 -- ---- one of two lists
 same_both : (t : Bool) (z : List ℕ) → cond t z z ≡ z
@@ -20,7 +21,7 @@ taken_again false z bytes = refl
 
 -- ---- mending again
 -- the block is to become zeros
-abbrev is_stale : ℕ → List Bool → ℕ → List ℕ → Bool
+abbrev pub is_stale : ℕ → List Bool → ℕ → List ℕ → Bool
 is_stale blocks used b bytes = nat_lt (b + 1) blocks && (not (has used b) && has_bytes_at bytes SUPER_MAGIC_OFFSET (codes "_BHRfS_M"))
 
 wipe_again : (blocks : ℕ) (used : List Bool) (b : ℕ) (bytes : List ℕ) → wiped blocks used b (wiped blocks used b bytes) ≡ wiped blocks used b bytes
@@ -53,37 +54,7 @@ pub used_stays : (blocks : ℕ) (used : List Bool) (b : ℕ) (bytes : List ℕ) 
 unfolding wiped
 used_stays blocks used b bytes is = used_chosen (nat_lt (b + 1) blocks) (has used b) (has_bytes_at bytes SUPER_MAGIC_OFFSET (codes "_BHRfS_M")) zeros bytes is
 
--- so does one that the volume has not, and one without the magic
-beyond_chosen : (low had magic : Bool) (z bytes : List ℕ) → low ≡ false → cond (low && (not had && magic)) z bytes ≡ bytes
-beyond_chosen false had magic z bytes is = refl
-beyond_chosen true had magic z bytes is = absurd cc
-
-pub beyond_stays : (blocks : ℕ) (used : List Bool) (b : ℕ) (bytes : List ℕ) → nat_lt (b + 1) blocks ≡ false → wiped blocks used b bytes ≡ bytes
-unfolding wiped
-beyond_stays blocks used b bytes is = beyond_chosen (nat_lt (b + 1) blocks) (has used b) (has_bytes_at bytes SUPER_MAGIC_OFFSET (codes "_BHRfS_M")) zeros bytes is
-
-other_chosen : (low had magic : Bool) (z bytes : List ℕ) → magic ≡ false → cond (low && (not had && magic)) z bytes ≡ bytes
-other_chosen true true false z bytes is = refl
-other_chosen true false false z bytes is = refl
-other_chosen false had magic z bytes is = refl
-other_chosen true had true z bytes is = absurd cc
-
-pub other_stays : (blocks : ℕ) (used : List Bool) (b : ℕ) (bytes : List ℕ) → has_bytes_at bytes SUPER_MAGIC_OFFSET (codes "_BHRfS_M") ≡ false → wiped blocks used b bytes ≡ bytes
-unfolding wiped
-other_stays blocks used b bytes is = other_chosen (nat_lt (b + 1) blocks) (has used b) (has_bytes_at bytes SUPER_MAGIC_OFFSET (codes "_BHRfS_M")) zeros bytes is
-
--- and one that is to become zeros isn't zeros
-stale_chosen : (low had magic : Bool) (z bytes : List ℕ) → low ≡ true → had ≡ false → magic ≡ true → cond (low && (not had && magic)) z bytes ≡ z
-stale_chosen true false true z bytes below free is = refl
-stale_chosen false had magic z bytes below free is = absurd cc
-stale_chosen true true magic z bytes below free is = absurd cc
-stale_chosen true false false z bytes below free is = absurd cc
-
-pub stale_wiped : (blocks : ℕ) (used : List Bool) (b : ℕ) (bytes : List ℕ) → nat_lt (b + 1) blocks ≡ true → has used b ≡ false → has_bytes_at bytes SUPER_MAGIC_OFFSET (codes "_BHRfS_M") ≡ true → wiped blocks used b bytes ≡ zeros
-unfolding wiped
-stale_wiped blocks used b bytes low free is = stale_chosen (nat_lt (b + 1) blocks) (has used b) (has_bytes_at bytes SUPER_MAGIC_OFFSET (codes "_BHRfS_M")) zeros bytes low free is
-
-pub not_zeros : (bytes : List ℕ) → has_bytes_at bytes SUPER_MAGIC_OFFSET (codes "_BHRfS_M") ≡ true → zeros ≢ bytes
+not_zeros : (bytes : List ℕ) → has_bytes_at bytes SUPER_MAGIC_OFFSET (codes "_BHRfS_M") ≡ true → zeros ≢ bytes
 not_zeros bytes is same = true≢false (sym is ∙ ap (λ (z : List ℕ). has_bytes_at z SUPER_MAGIC_OFFSET (codes "_BHRfS_M")) (sym same))
 
 -- the copy stands where the volume has the block
@@ -144,3 +115,20 @@ gives_same bytes wanted same = record { bytes_are = sym same; needed = sym (same
 
 pub gives_other : (bytes wanted : List ℕ) (block : Block) → block.bytes ≡ wanted → wanted ≢ bytes → Gives bytes wanted (Some block)
 gives_other bytes wanted block is other = record { bytes_are = is; needed = sym (ap not (not_true (bytes_eq wanted bytes) (λ same. other ((bytes_eq-Decides wanted bytes).0 same)))) }
+
+-- zeros exactly where it is stale
+pub stale_gives : (blocks : ℕ) (used : List Bool) (b : ℕ) (bytes : List ℕ) (block : Block) → block.bytes ≡ zeros → is_stale blocks used b bytes ≡ true → Gives bytes (wiped blocks used b bytes) (Some block)
+unfolding wiped
+stale_gives blocks used b bytes block is stale =
+    let wanted : wiped blocks used b bytes ≡ zeros = low_chosen (is_stale blocks used b bytes) zeros bytes stale in
+    let magic = (and_parts _ _ (and_parts _ _ stale).1).1 in
+    gives_other bytes _ block (is ∙ sym wanted) (λ same. not_zeros bytes magic (sym wanted ∙ same))
+
+pub fresh_gives : (blocks : ℕ) (used : List Bool) (b : ℕ) (bytes : List ℕ) → is_stale blocks used b bytes ≡ false → Gives bytes (wiped blocks used b bytes) None
+unfolding wiped
+fresh_gives blocks used b bytes fresh = gives_same bytes _ (high_chosen (is_stale blocks used b bytes) zeros bytes fresh)
+
+-- ---- the blocks of copies
+pub mirror_or : (b : ℕ) → IsMirror b ⊎ (IsMirror b → ⊥)
+mirror_or b =
+    ⊎_elim (λ one. inl (inl one)) (λ not_one. ⊎_elim (λ two. inl (inr two)) (λ not_two. inr (λ mirror. ⊎_elim not_one not_two mirror)) (cases_eq b SECOND_MIRROR)) (cases_eq b FIRST_MIRROR)

@@ -1,6 +1,5 @@
 -- What is planned is what is to be written.
-use Rattle.rollback_core.proofs.Imports.{◌≡◌, ◌∙◌, ℕ, ◌/◌, Bool, List, length, sym, ap, subst, Ok, FIRST_MIRROR, SECOND_MIRROR, SUPER_BLOCK, format_in, Image, block_at, VolAnswer, super_of, Super, of_volume, IsFrontAccepted, superblock, used_of, Format, Reiser, Btrfs, IsRefusedAs, RefusesRecover, Gives, blocks_of, copied, mended, mended_by, wiped, IsPlanned, IsInOrder, Mending}
-use Rattle.reiser_volume.specs.reiser_super.declared.superblock.Super.{Super as ReiserSuper}
+use Rattle.rollback_core.proofs.Imports.{◌≡◌, ◌∙◌, ℕ, ◌/◌, Bool, List, length, sym, ap, subst, Ok, FIRST_MIRROR, SECOND_MIRROR, SUPER_BLOCK, format_in, Image, block_at, VolAnswer, super_of, Super, of_volume, IsFrontAccepted, used_of, used_length, Format, Reiser, Btrfs, IsRefusedAs, RefusesRecover, Gives, blocks_of, copied, mended, mended_by, wiped, IsPlanned, IsInOrder, Mending}
 use Rattle.reiser_volume.specs.Front.{RefusesFront}
 use Rattle.reiser_bitmap.specs.refusals.declared.answer.VolAnswer.TheVariants as vol
 use Rattle.rollback_core.proofs.Supers.{super_is}
@@ -22,15 +21,15 @@ module _ (image : Image) (m : Mending) where
       second = subst (λ (wanted : List ℕ). Gives (block_at image SECOND_MIRROR) wanted m.second) (copied_is SECOND_MIRROR) second;
     }
 
-  module _ (sup : ReiserSuper) (used : List Bool) (accepted : IsFrontAccepted image) (fields : sup ≡ superblock image) (bits : used ≡ used_of image) (format : Reiser ≡ format_in image) where
-    wiped_is : (b : ℕ) → wiped sup.blocks used b (block_at image b) ≡ mended image b
+  module _ (used : List Bool) (accepted : IsFrontAccepted image) (bits : used ≡ used_of image) (format : Reiser ≡ format_in image) where
+    wiped_is : (b : ℕ) → wiped (length used) used b (block_at image b) ≡ mended image b
     wiped_is b =
-        ap (λ (t : ReiserSuper). wiped t.blocks used b (block_at image b)) fields
-        ∙ (ap (λ (set : List Bool). wiped (superblock image).blocks set b (block_at image b)) bits ∙ ap (λ (f : Format). mended_by f image b (block_at image b)) format)
+        ap (λ (set : List Bool). wiped (length set) set b (block_at image b)) bits
+        ∙ (ap (λ (n : ℕ). wiped n (used_of image) b (block_at image b)) (used_length image) ∙ ap (λ (f : Format). mended_by f image b (block_at image b)) format)
 
     pub reiser_planned : m.format ≡ Reiser
-        → Gives (block_at image FIRST_MIRROR) (wiped sup.blocks used FIRST_MIRROR (block_at image FIRST_MIRROR)) m.first
-        → Gives (block_at image SECOND_MIRROR) (wiped sup.blocks used SECOND_MIRROR (block_at image SECOND_MIRROR)) m.second → IsPlanned image m
+        → Gives (block_at image FIRST_MIRROR) (wiped (length used) used FIRST_MIRROR (block_at image FIRST_MIRROR)) m.first
+        → Gives (block_at image SECOND_MIRROR) (wiped (length used) used SECOND_MIRROR (block_at image SECOND_MIRROR)) m.second → IsPlanned image m
     reiser_planned kind first second = record {
       can = subst (λ (f : Format). IsInOrder f image) format accepted;
       format = kind ∙ format;

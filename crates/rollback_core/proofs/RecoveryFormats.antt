@@ -36,10 +36,24 @@ chosen_btrfs false false other long is = absurd cc
 long_enough : (n : ℕ) → 16 < n → nat_le n 16 ≡ false
 long_enough n long = grind (arith, nat_tests, long)
 
+-- a ReiserFS superblock has no magic of Btrfs
+pub other_magic : (image : Image) → IsFrontAccepted image → has_bytes_at (block_at image SUPER_BLOCK) SUPER_MAGIC_OFFSET (codes "_BHRfS_M") ≡ false
+other_magic image a =
+    not_true (has_bytes_at (block_at image SUPER_BLOCK) SUPER_MAGIC_OFFSET (codes "_BHRfS_M")) (λ is. omega (arith, high (block_at image SUPER_BLOCK) is, a.clean.superblock.bounds.height_high))
+
+-- one of Btrfs has it
+magic_by : (short btrfs reiser : Bool) → cond short Neither (cond btrfs Btrfs (cond reiser Reiser Neither)) ≡ Btrfs → btrfs ≡ true
+magic_by false true reiser is = refl
+magic_by true btrfs reiser is = absurd cc
+magic_by false false true is = absurd cc
+magic_by false false false is = absurd cc
+
+pub btrfs_magic : (image : Image) → format_in image ≡ Btrfs → has_bytes_at (block_at image SUPER_BLOCK) SUPER_MAGIC_OFFSET (codes "_BHRfS_M") ≡ true
+btrfs_magic image is = magic_by (nat_le (length image) 16) (has_bytes_at (block_at image SUPER_BLOCK) SUPER_MAGIC_OFFSET (codes "_BHRfS_M")) (has_reiser_magic (block_at image SUPER_BLOCK)) is
+
 reiser_format : (image : Image) → IsFrontAccepted image → format_in image ≡ Reiser
 reiser_format image a =
-    let other : has_bytes_at (block_at image SUPER_BLOCK) SUPER_MAGIC_OFFSET (codes "_BHRfS_M") ≡ false =
-    not_true (has_bytes_at (block_at image SUPER_BLOCK) SUPER_MAGIC_OFFSET (codes "_BHRfS_M")) (λ is. omega (arith, high (block_at image SUPER_BLOCK) is, a.clean.superblock.bounds.height_high)) in
+    let other : has_bytes_at (block_at image SUPER_BLOCK) SUPER_MAGIC_OFFSET (codes "_BHRfS_M") ≡ false = other_magic image a in
     chosen_reiser (nat_le (length image) 16) (has_bytes_at (block_at image SUPER_BLOCK) SUPER_MAGIC_OFFSET (codes "_BHRfS_M")) (has_reiser_magic (block_at image SUPER_BLOCK)) (long_enough (length image) a.clean.superblock.there) other a.clean.superblock.magic
 
 btrfs_format : (image : Image) (s : Super) → super_of (block_at image SUPER_BLOCK) SUPER_BLOCK (length image) ≡ Ok s → format_in image ≡ Btrfs

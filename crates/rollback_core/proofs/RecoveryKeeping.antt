@@ -1,35 +1,41 @@
 -- What a recovery keeps.
-use Rattle.rollback_core.proofs.Imports.{◌≡◌, ◌≢◌, ◌∙◌, ◌⊎◌, inl, inr, ⊎_elim, ℕ, zero, suc, Bool, not, ◌+◌, ◌/◌, ◌<◌, ◌≤◌, true, false, true≢false, cond, nat_lt, nat_le, List, length, codes, refl, sym, ap, subst, arith, bytes_eq, cases_lt, nat_tests, bytes_eq-Decides, FIRST_MIRROR, SECOND_MIRROR, SUPER_BLOCK, SUPER_MAGIC_OFFSET, format_in, Image, block_at, BtrRefusal, super_of, mirror_bytes, Super, IsMirror, own_super, IsSameOutside, is_spare, is_spare_in, SameUsed, contains_filter, filter_contains, IsFrontAccepted, superblock, used_of, front_not_refused, same_volume, format, has_bytes_at, Format, Reiser, Btrfs, Neither, IsRefusedAs, IsSameBut, RecoversWhatIsInOrder, RecoveryCounts, RecoveryKeeps, RecoveryMends, RecoveryStays, blocks_of, is_torn, mended, mended_by, IsInOrder, IsLeftByRecover, IsPartly, IsRecoverable, IsRecovered, copy_blocks}
+use Rattle.rollback_core.proofs.Imports.{◌≡◌, ◌≢◌, ◌∙◌, ◌⊎◌, inl, inr, ⊎_elim, ℕ, zero, suc, Bool, not, ◌+◌, ◌/◌, ◌<◌, ◌≤◌, true, false, true≢false, cond, nat_lt, nat_le, List, length, codes, refl, sym, ap, subst, arith, bytes_eq, cases_lt, nat_tests, bytes_eq-Decides, FIRST_MIRROR, SECOND_MIRROR, SUPER_BLOCK, SUPER_MAGIC_OFFSET, format_in, Image, block_at, BtrRefusal, super_of, mirror_bytes, Super, IsMirror, own_super, IsSameOutside, is_spare, is_spare_in, SameUsed, contains_filter, filter_contains, IsFrontAccepted, superblock, used_of, front_not_refused, same_volume, format, has_bytes_at, Format, Reiser, Btrfs, Neither, IsRefusedAs, IsSameBut, RecoversWhatIsInOrder, RecoveryCounts, RecoveryKeeps, RecoveryMends, RecoveryStays, blocks_of, is_torn, mended, mended_by, copied, IsInOrder, IsLeftByRecover, IsPartly, IsRecoverable, IsRecovered, copy_blocks}
 use Rattle.std.specs.Prelude.{Contains, Ok, Err, Result}
 use Rattle.reiser_bitmap.specs.refusals.declared.refusal.VolumeRefusal.{VolumeRefusal}
 use Rattle.btr_reader.proofs.Decided.{reserved_blocks_are_spare}
 use Rattle.convert_steps.specs.command_answers.declared.answer.Answer.TheVariants as answer
 use Rattle.rollback_core.proofs.Fronts.{front_same, used_same}
-use Rattle.rollback_core.proofs.Mended.{copy_beyond, copy_wanted, mend_again, mend_same, same_bytes, two_of, used_stays, wiped_clean}
+use Rattle.rollback_core.proofs.Mended.{copy_beyond, copy_wanted, mend_again, mend_same, mirror_or, same_bytes, two_of, used_stays, wiped_clean}
 
 -- block 16 is that of no copy
 mirror_16 : IsMirror 16 → ⊥
 mirror_16 mirror = ⊎_elim (λ eq. omega (arith, eq)) (λ eq. omega (arith, eq)) mirror
 
-equal_or : (a b : ℕ) → (a ≡ b) ⊎ (a ≢ b)
-equal_or a b =
-    ⊎_elim (λ (less : a < b). inr (λ same. omega (arith, less, same)))
-    (λ (least : b ≤ a). ⊎_elim (λ (more : b < a). inr (λ same. omega (arith, more, same))) (λ (most : a ≤ b). inl (let e : a ≡ b = omega (arith, least, most) in e)) (cases_lt b a)) (cases_lt a b)
-
-mirror_or : (b : ℕ) → IsMirror b ⊎ (IsMirror b → ⊥)
-mirror_or b =
-    ⊎_elim (λ one. inl (inl one)) (λ not_one. ⊎_elim (λ two. inl (inr two)) (λ not_two. inr (λ mirror. ⊎_elim not_one not_two mirror)) (equal_or b SECOND_MIRROR)) (equal_or b FIRST_MIRROR)
-
 format_same : (image other : Image) → length other ≡ length image → block_at other SUPER_BLOCK ≡ block_at image SUPER_BLOCK → format_in other ≡ format_in image
 format_same image other size same =
     ap (λ (n : ℕ). cond (nat_le n 16) Neither (format (block_at other SUPER_BLOCK))) size ∙ ap (λ (bytes : List ℕ). cond (nat_le (length image) 16) Neither (format bytes)) same
+
+-- a block is not to change exactly where it holds what is to stand there
+not_torn : (image : Image) (b : ℕ) → is_torn image b ≡ false → mended image b ≡ block_at image b
+not_torn image b whole = (bytes_eq-Decides (mended image b) (block_at image b)).0 (not_not (bytes_eq (mended image b) (block_at image b)) whole)
+  where
+    not_not : (t : Bool) → not t ≡ false → t ≡ true
+    not_not true is = refl
+    not_not false is = absurd (true≢false is)
+
+pub not_both : (image : Image) (b : ℕ) → mended image b ≡ block_at image b → is_torn image b ≡ true → ⊥
+not_both image b same torn = true≢false (sym torn ∙ ap not ((bytes_eq-Decides (mended image b) (block_at image b)).1 same))
 
 -- a disk that was recovered differs in blocks of copies alone
 partly_of : (image other : Image) → IsRecovered image other → IsPartly image other
 partly_of image other is = record {
   size = is.size;
-  each = λ b. ⊎_elim (λ mirror. inr (mirror, is.copies b mirror)) (λ outside. inl (is.others b outside)) (mirror_or b);
+  each = λ b. ⊎_elim (λ mirror. by b mirror (is_torn image b) refl) (λ outside. inl (is.others b outside)) (mirror_or b);
 }
+  where
+    by : (b : ℕ) → IsMirror b → (t : Bool) → is_torn image b ≡ t → (block_at other b ≡ block_at image b) ⊎ (IsMirror b × (is_torn image b ≡ true))
+    by b mirror true torn = inr (mirror, torn)
+    by b mirror false whole = inl (is.copies b mirror ∙ not_torn image b whole)
 
 module _ (image other : Image) (can : IsRecoverable image) (is : IsPartly image other) where
   outside : (b : ℕ) → ¬ IsMirror b → block_at other b ≡ block_at image b
@@ -47,7 +53,7 @@ module _ (image other : Image) (can : IsRecoverable image) (is : IsPartly image 
   used_kept : format_in image ≡ Reiser → SameUsed (used_of image) image other
   used_kept reiser b used =
       ⊎_elim (λ same. same)
-      (λ both. both.1 ∙ (ap (λ (f : Format). mended_by f image b (block_at image b)) reiser ∙ used_stays (superblock image).blocks (used_of image) b (block_at image b) used))
+      (λ both. absurd (not_both image b (ap (λ (f : Format). mended_by f image b (block_at image b)) reiser ∙ used_stays (superblock image).blocks (used_of image) b (block_at image b) used) both.1))
       (is.each b)
 
   in_order : (f : Format) → format_in image ≡ f → IsInOrder f image → IsInOrder f other
@@ -64,12 +70,23 @@ module _ (image other : Image) (can : IsRecoverable image) (is : IsPartly image 
       ap (λ (f : Format). mended_by f other b bytes) format_kept
       ∙ mend_same (format_in image) image other super_same (λ reiser. used_same image other (front_in reiser) (used_kept reiser)) b bytes
 
-  mended_again : (b : ℕ) → mended other b ≡ mended image b
-  mended_again b =
+  -- on a Btrfs volume nothing else is to stand there
+  copies_again : format_in image ≡ Btrfs → (b : ℕ) → mended other b ≡ mended image b
+  copies_again btrfs b =
       mends_alike b (block_at other b)
-      ∙ ⊎_elim (λ same. ap (λ (bytes : List ℕ). mended_by (format_in image) image b bytes) same)
-      (λ both. ap (λ (bytes : List ℕ). mended_by (format_in image) image b bytes) both.1 ∙ mend_again (format_in image) image b (block_at image b))
-      (is.each b)
+      ∙ ⊎_elim (λ same. ap (λ (bytes : List ℕ). mended_by (format_in image) image b bytes) same) (λ both. by (nat_lt (b + 1) blocks) refl both.1) (is.each b)
+    where
+      blocks : ℕ
+      blocks = blocks_of (block_at image SUPER_BLOCK)
+
+      as_btrfs : (bytes : List ℕ) → mended_by (format_in image) image b bytes ≡ copied blocks (block_at image SUPER_BLOCK) b bytes
+      as_btrfs bytes = ap (λ (f : Format). mended_by f image b bytes) btrfs
+
+      by : (t : Bool) → nat_lt (b + 1) blocks ≡ t → is_torn image b ≡ true → mended_by (format_in image) image b (block_at other b) ≡ mended image b
+      by true low torn =
+          as_btrfs (block_at other b) ∙ copy_wanted blocks (block_at image SUPER_BLOCK) b (block_at other b) low
+          ∙ sym (as_btrfs (block_at image b) ∙ copy_wanted blocks (block_at image SUPER_BLOCK) b (block_at image b) low)
+      by false high torn = absurd (not_both image b (as_btrfs (block_at image b) ∙ copy_beyond blocks (block_at image SUPER_BLOCK) b (block_at image b) high) torn)
 
   same_but : IsSameBut image other
   same_but = record {
@@ -111,7 +128,10 @@ keeps = record {
 
 -- ---- again
 settled_copies : (image other : Image) (is : IsRecovered image other) (b : ℕ) → IsMirror b → mended other b ≡ block_at other b
-settled_copies image other is b mirror = mended_again image other is.can (partly_of image other is) b ∙ sym (is.copies b mirror)
+settled_copies image other is b mirror =
+    mends_alike image other is.can (partly_of image other is) b (block_at other b)
+    ∙ ap (λ (bytes : List ℕ). mended_by (format_in image) image b bytes) (is.copies b mirror)
+    ∙ mend_again (format_in image) image b (block_at image b) ∙ sym (is.copies b mirror)
 
 pub stays : RecoveryStays
 stays = record {
@@ -125,11 +145,11 @@ stays = record {
       let first = same_bytes (mended other FIRST_MIRROR) (block_at other FIRST_MIRROR) (settled_copies image other is FIRST_MIRROR (inl refl)) in
       let second = same_bytes (mended other SECOND_MIRROR) (block_at other SECOND_MIRROR) (settled_copies image other is SECOND_MIRROR (inr refl)) in
       two_of (is_torn other) false false first second;
-  again = λ image left other is made. ⊎_elim (λ same. subst (λ (i : Image). IsRecovered i other) same made)
+  again = λ image left other btrfs is made. ⊎_elim (λ same. subst (λ (i : Image). IsRecovered i other) same made)
       (λ both. record {
         can = both.0;
         size = made.size ∙ both.1.size;
-        copies = λ b mirror. made.copies b mirror ∙ mended_again image left both.0 both.1 b;
+        copies = λ b mirror. made.copies b mirror ∙ copies_again image left both.0 both.1 btrfs b;
         others = λ b elsewhere. made.others b elsewhere ∙ outside image left both.0 both.1 b elsewhere;
       })
       is;

@@ -1,5 +1,6 @@
 -- Block 16 is written as it stands, and what is written after it.
-use Rattle.rollback_core.proofs.Imports.{◌≡◌, ◌≢◌, ◌⊎◌, inl, inr, ⊎_elim, ℕ, zero, suc, ◌+◌, ◌<◌, true, List, [], ◌∷◌, Option, Some, None, Result, Ok, Err, OnOk, refl, sym, ◌∙◌, ap, subst, arith, IfOk, is_some, ext_get_or, FIRST_MIRROR, SECOND_MIRROR, History, IsSettled, Syncs, WritesBlock, WritesOnly, after, block_at, reads, wrote, synced, Block, reads_only, sync_only, write_only, writes_length, writes_none, writes_then, writes_weaker, GoesOn, synced_now, goes_on, HasMendingRoom, writes_of, IsMend, IsRecoverWrite, IsRewrite, RewritesFirst, rewritten, Mending, RecoverSummary}
+use Rattle.rollback_core.proofs.Imports.{◌≡◌, ◌≢◌, ◌⊎◌, inl, inr, ⊎_elim, ℕ, zero, suc, ◌+◌, ◌<◌, true, List, [], ◌∷◌, Option, Some, None, Result, Ok, Err, OnOk, refl, sym, ◌∙◌, ap, subst, arith, false, IfOk, is_some, IfErr, ext_get_or, FIRST_MIRROR, SECOND_MIRROR, History, IsSettled, Syncs, WritesBlock, WritesOnly, after, block_at, reads, wrote, synced, Block, reads_only, sync_only, write_only, writes_length, writes_none, writes_then, writes_weaker, GoesOn, synced_now, goes_on, HasMendingRoom, writes_of, IsMend, IsRecoverWrite, IsRewrite, RewritesFirst, rewritten, PutsBackFirst, Mending, RecoverSummary, Answer, IsPutBackAlone, is_half_turned, put_back}
+use Rattle.convert_steps.specs.command_answers.declared.answer.Answer.TheVariants as answer
 
 -- ---- block 16
 
@@ -72,25 +73,42 @@ super_room size m room some = by (writes_of m.first) refl
 
 -- ---- the whole of `recover`
 
-pub first_goes_on : (P : ℕ → List ℕ → Type 0) (old new : History) → RewritesFirst P old new → GoesOn old new
-first_goes_on P old new first = goes_on (λ b bytes. IsRewrite (reads old) b bytes ⊎ P b bytes) old new (first_only P old new first)
-
 -- where the first sync failed
 pub uncalled_only : (old new : History) → new ≡ old → WritesOnly (IsRecoverWrite (reads old)) old new
 uncalled_only old new same = subst (WritesOnly (IsRecoverWrite (reads old)) old) (sym same) (writes_none (IsRecoverWrite (reads old)) old)
 
--- and where it did not
-pub called_only : (old mid new : History) → mid ≡ synced_now old → RewritesFirst (IsMend (reads mid)) mid new → WritesOnly (IsRecoverWrite (reads old)) old new
-called_only old mid new is first =
-    let rest = subst (λ (h : History). RewritesFirst (IsMend (reads h)) h new) is first in
-    writes_then (IsRecoverWrite (reads old)) old (synced_now old) new (record { more = synced ∷ []; is = refl; each = tt }) (first_only (IsMend (reads old)) (synced_now old) new rest)
+-- what is put back first, and then mended
+puts_only : (old new : History) → PutsBackFirst old new → WritesOnly (IsRecoverWrite (reads old)) old new
+puts_only old new (inl only) = writes_weaker (λ b bytes. b ≡ 16) (IsRecoverWrite (reads old)) (λ b bytes is. inl is) old new only
+puts_only old new (inr rest) =
+    let mend : ℕ → List ℕ → Type 0 = IsMend (put_back (reads old)) in
+    writes_then (IsRecoverWrite (reads old)) old rest.0 new
+    (writes_weaker (λ b bytes. b ≡ 16) (IsRecoverWrite (reads old)) (λ b bytes is. inl is) old rest.0 rest.1)
+    (writes_weaker (λ b bytes. IsRewrite (reads rest.0) b bytes ⊎ mend b bytes) (IsRecoverWrite (reads old)) (λ b bytes is. ⊎_elim (λ again. inl again.0) (λ mends. inr mends) is) rest.0 new
+    (first_only mend rest.0 new rest.3))
 
--- a sync has reached the device, whether or not a copy was to be written
-settled_by : (n : ℕ) (old mid new : History) → mid ≡ synced_now old → (n ≡ 0 → new ≡ mid) → (n ≢ 0 → IsSettled new) → IsSettled new
-settled_by zero old mid new is unwritten settled = subst IsSettled (sym (unwritten refl ∙ is)) (λ b bytes waits. waits)
-settled_by (suc n) old mid new is unwritten settled = settled (λ none. absurd (omega (arith, none)))
+pub puts_goes_on : (old new : History) → PutsBackFirst old new → GoesOn old new
+puts_goes_on old new puts = goes_on (IsRecoverWrite (reads old)) old new (puts_only old new puts)
 
-pub settled_told : {E : Type 0} (result : Result RecoverSummary E) (old mid new : History) → mid ≡ synced_now old
+-- and where the first sync did not fail
+pub called_only : (old mid new : History) → mid ≡ synced_now old → PutsBackFirst mid new → WritesOnly (IsRecoverWrite (reads old)) old new
+called_only old mid new is puts =
+    let rest = subst (λ (h : History). PutsBackFirst h new) is puts in
+    writes_then (IsRecoverWrite (reads old)) old (synced_now old) new (record { more = synced ∷ []; is = refl; each = tt }) (puts_only (synced_now old) new rest)
+
+-- all has reached the device, whether or not a copy was to be written
+settled_by : (n : ℕ) (mid new : History) → IsSettled mid → (n ≡ 0 → new ≡ mid) → (n ≢ 0 → IsSettled new) → IsSettled new
+settled_by zero mid new before unwritten settled = subst IsSettled (sym (unwritten refl)) before
+settled_by (suc n) mid new before unwritten settled = settled (λ none. absurd (omega (arith, none)))
+
+pub settled_told : {E : Type 0} (result : Result RecoverSummary E) (mid new : History) → IsSettled mid
     → IfOk result (λ told. told.mirrors ≡ 0 → new ≡ mid) → IfOk result (λ told. told.mirrors ≢ 0 → IsSettled new) → OnOk result (IsSettled new)
-settled_told (Ok told) old mid new is unwritten settled = settled_by told.mirrors old mid new is unwritten settled
-settled_told (Err e) old mid new is unwritten settled = tt
+settled_told (Ok told) mid new before unwritten settled = settled_by told.mirrors mid new before unwritten settled
+settled_told (Err e) mid new before unwritten settled = tt
+
+-- a refusal changes nothing but what was put back
+pub refused_alone : {T : Type 0} (result : Result T Answer) (old mid new : History) → reads mid ≡ put_back (reads old) → (is_half_turned (reads old) ≡ false → mid ≡ old) → (IsSettled old → IsSettled mid)
+    → IfErr result (λ e. e ≢ answer.Fault → new ≡ mid) → IfErr result (λ e. e ≢ answer.Fault → IsPutBackAlone old new)
+refused_alone (Ok x) old mid new put same settled kept = tt
+refused_alone (Err e) old mid new put same settled kept = λ other.
+    record { put = ap reads (kept other) ∙ put; same = λ none. kept other ∙ same none; settled = λ before. subst IsSettled (sym (kept other)) (settled before) }

@@ -29,7 +29,7 @@ unfolding opening_refusals
 opening_refused disk r is = ap (λ (read : Result Super BtrRefusal). refusals_after disk read) is
 
 -- what lies on the way to the saved image is readable only where the superblock is
-super_readable : (disk : Image) → IsReadable disk SavedImage → IsReadable disk Superblock
+pub super_readable : (disk : Image) → IsReadable disk SavedImage → IsReadable disk Superblock
 super_readable disk way r is = way r (inl (subst (λ (rs : List BtrRefusal). Contains rs r) (sym (opening_refused disk r is)) (0, omega arith, refl)))
 
 -- a volume with a way to an image is one of Btrfs

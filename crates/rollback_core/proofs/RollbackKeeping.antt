@@ -1,8 +1,7 @@
 -- What a rollback and its crashes keep.
-use Rattle.rollback_core.proofs.Imports.{◌≡◌, ◌≢◌, inl, inr, ⊎_elim, ℕ, ◌≤◌, ◌+◌, eqb, nat_lt, Bool, true, false, not, ◌&&◌, List, length, codes, refl, sym, ◌∙◌, ap, subst, arith, true≢false, and_parts, nat_tests, SUPER_MAGIC_OFFSET, Image, block_at, image_blocks, image_short, IsSameOutside, has, superblock, used_of, used_length, same_volume, has_bytes_at, is_reserved, RollbackGoesOn, RollbackKeeps, IsBack, IsRolledBack, StillStands, is_wiped, CanGoBack, old_used}
+use Rattle.rollback_core.proofs.Imports.{◌≡◌, ◌≢◌, inl, inr, ⊎_elim, ℕ, ◌≤◌, ◌+◌, eqb, nat_lt, Bool, true, false, not, ◌&&◌, List, length, codes, refl, sym, ◌∙◌, ap, subst, arith, true≢false, and_parts, cases_eq, nat_tests, SUPER_MAGIC_OFFSET, Image, block_at, image_blocks, image_short, IsSameOutside, has, superblock, used_of, used_length, same_volume, has_bytes_at, is_reserved, RollbackGoesOn, RollbackKeeps, IsBack, IsRolledBack, StillStands, is_wiped, CanGoBack, old_used, put_back}
 use Rattle.volume_state.specs.Laws.{is_spare}
 use Rattle.volume_state.proofs.Staying.{spare_blocks_decide_nothing}
-use Rattle.rollback_core.proofs.Back.{equal_or}
 
 -- a reserved block other than 16 is a spare one
 spare_so : (t : Bool) (b : ℕ) → t ≡ true → b ≢ 16 → (t && not (eqb b 16)) ≡ true
@@ -10,7 +9,7 @@ spare_so true b is other = grind (arith, nat_tests, other)
 spare_so false b is other = absurd (true≢false (sym is))
 
 outside_spare : (disk other : Image) → StillStands disk other → IsSameOutside (is_spare disk) disk other
-outside_spare disk other is = record { size = is.size; others = λ b free. ⊎_elim (λ first. at_superblock b first) (λ rest. elsewhere b free rest) (equal_or b) }
+outside_spare disk other is = record { size = is.size; others = λ b free. ⊎_elim (λ first. at_superblock b first) (λ rest. elsewhere b free rest) (cases_eq b 16) }
   where
     at_superblock : (b : ℕ) → b ≡ 16 → block_at other b ≡ block_at disk b
     at_superblock b first = subst (λ (n : ℕ). block_at other n ≡ block_at disk n) (sym first) is.superblock
@@ -24,6 +23,8 @@ outside_spare disk other is = record { size = is.size; others = λ b free. ⊎_e
 pub rollback_keeps : RollbackKeeps
 rollback_keeps = record {
   standing = λ disk other u is. spare_blocks_decide_nothing disk other u (outside_spare disk other is);
+  half = λ disk other u is.
+      same_volume (image_blocks disk) (put_back other) u.accepted is.back.used (room disk (put_back other) u is.back);
   back = λ disk other u is.
       same_volume (image_blocks disk) other u.accepted is.used (room disk other u is);
 }
@@ -63,7 +64,7 @@ module _ (disk left other : Image) (u : CanGoBack disk) (is : StillStands disk l
       size = done.back.size ∙ is.size;
       used = λ b marked. done.back.used b (subst (λ (used : List Bool). has used b ≡ true) (sym used_same) marked) ∙ ap (λ (i : Image). block_at i b) image_same;
       others = λ b free.
-          ⊎_elim (λ same. inl (same ∙ left_same b free)) (λ wiped. inr (wiped.0, sym (wiped_same b free) ∙ wiped.1, wiped.2))
+          ⊎_elim (λ same. inl (same ∙ left_same b free)) (λ wiped. inr (wiped.0, sym (wiped_same b free) ∙ wiped.1))
           (done.back.others b (subst (λ (used : List Bool). has used b ≡ false) (sym used_same) free));
     };
     wiped = λ b mirror wiped. done.wiped b mirror (wiped_same b (unused b wiped) ∙ wiped);

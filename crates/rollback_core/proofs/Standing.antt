@@ -1,7 +1,8 @@
 -- What is written, and what a crash leaves of it.
-use Rattle.rollback_core.proofs.Imports.{◌≡◌, ◌∙◌, ◌⊎◌, inl, inr, ⊎_elim, ℕ, true, ◌+◌, ◌<◌, List, length, Option, Some, None, Result, OnOk, refl, sym, ap, subst, arith, IsSomeAnd, is_some, FIRST_MIRROR, SECOND_MIRROR, format_in, History, Image, IsSettled, LeftSince, WritesBlock, WritesOnly, block_at, clock, reads, left_each, reads_only, write_only, writes_length, writes_then, writes_weaker, set_stands, write_reads, IsMirror, Block, Format, given, is_torn, mended, IsGiven, IsGivenAt, IsGivenOrRewrite, IsPlanned, MendingStands, writes_of, IsMend, IsPartly, IsRecovered, copy_blocks, recover_summary, Mending, RecoverSummary}
+use Rattle.rollback_core.proofs.Imports.{◌≡◌, ◌∙◌, ◌⊎◌, inl, inr, ⊎_elim, ℕ, true, ◌+◌, ◌<◌, List, length, Option, Some, None, Result, OnOk, refl, sym, ap, subst, arith, Bool, false, true≢false, IsSomeAnd, is_some, FIRST_MIRROR, SECOND_MIRROR, format_in, History, Image, IsSettled, LeftSince, WritesBlock, WritesOnly, block_at, clock, reads, IsTorn, sector, left_each, reads_only, write_only, writes_length, writes_then, writes_weaker, set_stands, write_reads, IsMirror, Block, Format, given, is_torn, mended, IsGiven, IsGivenAt, IsGivenOrRewrite, IsPlanned, MendingStands, writes_of, IsMend, IsPartly, IsRecovered, copy_blocks, recover_summary, Mending, RecoverSummary}
 use Rattle.std.specs.Prelude.{filter}
-use Rattle.rollback_core.proofs.Mended.{two_of}
+use Rattle.reiser_bitmap.proofs.outside.Sectors.{sectors_same}
+use Rattle.rollback_core.proofs.Mended.{mirror_or, two_of}
 
 some_given : (found : Option Block) (bytes old wanted : List ℕ) → IsSomeAnd found (λ block. bytes ≡ block.bytes) → given found old ≡ wanted → bytes ≡ wanted
 some_given None bytes old wanted is gives = absurd is
@@ -33,6 +34,26 @@ module _ (image : Image) (m : Mending) (planned : IsPlanned image m) where
     bytes_are = (given_mended b bytes is).1;
   }
 
+  -- a block that is not to change stays, though block 16 is written as it stands
+  stays_torn : (other : Image) (b : ℕ) → ((bytes : List ℕ) → IsGiven m b bytes → ⊥) → IsTorn (IsGivenOrRewrite image m b) (block_at image b) (block_at other b) → block_at other b ≡ block_at image b
+  stays_torn other b never torn =
+      sectors_same (block_at other b) (block_at image b)
+      (λ s. ⊎_elim (λ same. same)
+      (λ value. ⊎_elim (λ again. value.2 ∙ ap (λ (bytes : List ℕ). sector bytes s) (again.1 ∙ ap (block_at image) (sym again.0))) (λ given. absurd (never value.0 given)) value.1)
+      (torn s))
+
+  -- so a block is as it was, or it is to change
+  torn_partly : (other : Image) (b : ℕ) → IsTorn (IsGivenOrRewrite image m b) (block_at image b) (block_at other b) → (block_at other b ≡ block_at image b) ⊎ (IsMirror b × (is_torn image b ≡ true))
+  torn_partly other b torn =
+      ⊎_elim
+      (λ mirror. by mirror (is_torn image b) refl)
+      (λ outside. inl (stays_torn other b (λ bytes given. outside (given_mended b bytes given).0) torn))
+      (mirror_or b)
+    where
+      by : IsMirror b → (t : Bool) → is_torn image b ≡ t → (block_at other b ≡ block_at image b) ⊎ (IsMirror b × (is_torn image b ≡ true))
+      by mirror true is = inr (mirror, is)
+      by mirror false is = inl (stays_torn other b (λ bytes given. true≢false (sym (given_mend b bytes given).torn ∙ is)) torn)
+
   -- block 16 stays where it is written as it stands
   kept_or_given : (other : Image) (b : ℕ) → (block_at other b ≡ block_at image b) ⊎ IsGivenOrRewrite image m b (block_at other b)
       → (block_at other b ≡ block_at image b) ⊎ IsGiven m b (block_at other b)
@@ -44,8 +65,7 @@ module _ (image : Image) (m : Mending) (planned : IsPlanned image m) where
         let each = left_each (IsGivenOrRewrite image m) h₀ h₁ settled only other left in
         record {
           size = each.0 ∙ ap (λ (i : Image). length i) start;
-          each = λ b. ⊎_elim (λ same. inl same) (λ is. inr (given_mended b (block_at other b) is))
-              (kept_or_given other b (⊎_elim (λ same. inl (same ∙ ap (λ (i : Image). block_at i b) start)) (λ is. inr is) (each.1 b)));
+          each = λ b. torn_partly other b (subst (λ (i : Image). IsTorn (IsGivenOrRewrite image m b) (block_at i b) (block_at other b)) start (each.1 b));
         }
 
     pub recovers : MendingStands m (reads h₀) (reads h₁) → IsRecovered image (reads h₁)

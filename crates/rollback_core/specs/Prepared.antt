@@ -1,5 +1,6 @@
 -- What was read and decided before the first write.
 use Rattle.std.specs.Prelude.{◌≡◌, ◌==◌, ℕ, not, All, List, filter, map}
+use Rattle.std.specs.Option.{unwrap_or}
 use Rattle.btrfs_format.specs.declared.block.TheConstants.{FIRST_MIRROR, SECOND_MIRROR, SUPER_BLOCK}
 use Rattle.reiser_bitmap.specs.outside.Format.{format_in}
 use Rattle.reiser_bitmap.specs.outside.History.{Image, block_at}
@@ -8,7 +9,7 @@ use Rattle.convert_steps.specs.command_answers.declared.answer.Answer.TheVariant
 use Rattle.reiser_bitmap.specs.refusals.declared.answer.VolAnswer.{VolAnswer}
 use Rattle.reiser_bitmap.specs.refusals.declared.answer.VolAnswer.TheVariants as reiser
 use Rattle.reiser_bitmap.specs.vol_block.declared.format.Format.TheVariants.{Btrfs}
-use Rattle.volume_state.specs.Saved.{image_blocks}
+use Rattle.volume_state.specs.Saved.{image_blocks, saved_place}
 use Rattle.volume_state.specs.GoingBack.{CanGoBack}
 use Rattle.rollback_core.specs.RolledBack.{is_wiped, restored_blocks, rollback_summary}
 use Rattle.rollback_core.specs.declared.way.Saved.{Saved}
@@ -26,6 +27,8 @@ pub record IsWayBack (disk : Image) (way : WayBack) : Type 0 where
   pub can : CanGoBack disk
   pub reserved : AreSaved (image_blocks disk) (filter (λ b. not (b == 16)) (restored_blocks disk)) way.reserved.items
   pub superblock : way.superblock.bytes ≡ block_at (image_blocks disk) SUPER_BLOCK
+  -- where the image has it on the disk
+  pub copy : way.copy ≡ unwrap_or (saved_place disk SUPER_BLOCK) SUPER_BLOCK
   pub first : way.first ≡ is_wiped disk FIRST_MIRROR
   pub second : way.second ≡ is_wiped disk SECOND_MIRROR
   pub summary_is : way.summary ≡ rollback_summary disk

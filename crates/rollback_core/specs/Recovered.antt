@@ -10,6 +10,7 @@ use Rattle.convert_steps.specs.Switch.{IsMirror}
 use Rattle.reiser_volume.specs.Volume.{IsFrontAccepted}
 use Rattle.reiser_bitmap.specs.vol_block.declared.format.Format.{Format}
 use Rattle.reiser_bitmap.specs.vol_block.declared.format.Format.TheVariants.{Reiser, Btrfs, Neither}
+use Rattle.super_turn.specs.PutBack.{IsPuttingBack, put_back}
 use Rattle.rollback_core.specs.Mending.{is_torn, mended}
 use Rattle.rollback_core.specs.declared.recovery.RecoverSummary.{RecoverSummary}
 
@@ -29,14 +30,18 @@ pub record IsRecovered (image other : Image) : Type 0 where
   pub copies : (b : ℕ) → IsMirror b → block_at other b ≡ mended image b
   pub others : (b : ℕ) → ¬ IsMirror b → block_at other b ≡ block_at image b
 
--- Each block is as it was, or it is the block of a copy and holds what is to stand there.
+-- Each block is as it was, or it is the block of a copy and is to change: then it may hold anything.
 pub record IsPartly (image other : Image) : Type 0 where
   pub size : length other ≡ length image
-  pub each : (b : ℕ) → (block_at other b ≡ block_at image b) ⊎ (IsMirror b × (block_at other b ≡ mended image b))
+  pub each : (b : ℕ) → (block_at other b ≡ block_at image b) ⊎ (IsMirror b × (is_torn image b ≡ true))
 
--- what a crash at any moment may leave
+-- what a crash at any moment may leave once block 16 is put back
 abbrev pub IsLeftByRecover : Image → Image → Type 0
 IsLeftByRecover image other = (other ≡ image) ⊎ (IsRecoverable image × IsPartly image other)
+
+-- what a crash at any moment may leave
+abbrev pub IsLeftByRecovery : Image → Image → Type 0
+IsLeftByRecovery image other = IsPuttingBack image other ⊎ IsLeftByRecover (put_back image) other
 
 -- a write that mends the block of a copy, which holds something else
 pub record IsMend (image : Image) (b : ℕ) (bytes : List ℕ) : Type 0 where
@@ -50,9 +55,9 @@ pub record IsMend (image : Image) (b : ℕ) (bytes : List ℕ) : Type 0 where
 abbrev pub IsRewrite : Image → ℕ → List ℕ → Type 0
 IsRewrite image b bytes = IsBlock 16 (block_at image SUPER_BLOCK) b bytes
 
--- all that is written: block 16 as it stands, and what mends the block of a copy
+-- all that is written: block 16, and what mends the block of a copy
 abbrev pub IsRecoverWrite : Image → ℕ → List ℕ → Type 0
-IsRecoverWrite image b bytes = IsRewrite image b bytes ⊎ IsMend image b bytes
+IsRecoverWrite image b bytes = (b ≡ 16) ⊎ IsMend (put_back image) b bytes
 
 -- the history behind a write of block 16 as it stands, and a sync, which both succeeded
 abbrev pub rewritten : History → History
@@ -62,9 +67,15 @@ rewritten h = synced_now (after (wrote 16 (block_at (reads h) SUPER_BLOCK) true)
 abbrev pub RewritesFirst : (ℕ → List ℕ → Type 0) → History → History → Type 0
 RewritesFirst P old new = WritesOnly (IsRewrite (reads old)) old new ⊎ WritesOnly P (rewritten old) new
 
--- So `recover`: nothing was called, or a sync first, and no copy is written before block 16 was, as it stood.
+-- Before that block 16 was put back; or putting it back is all that was begun.
+abbrev pub PutsBackFirst : History → History → Type 0
+PutsBackFirst old new =
+    WritesOnly (λ b bytes. b ≡ 16) old new
+    ⊎ ((mid : History) × WritesOnly (λ b bytes. b ≡ 16) old mid × (reads mid ≡ put_back (reads old)) × RewritesFirst (IsMend (put_back (reads old))) mid new)
+
+-- So `recover`: nothing was called, or a sync first, and no copy is written before block 16 was, as it was to stand.
 abbrev pub RewritesBeforeCopies : History → History → Type 0
-RewritesBeforeCopies old new = (new ≡ old) ⊎ RewritesFirst (IsMend (reads old)) (synced_now old) new
+RewritesBeforeCopies old new = (new ≡ old) ⊎ PutsBackFirst (synced_now old) new
 
 -- ---- what is told
 

@@ -20,14 +20,18 @@ use Rattle.reiser_bitmap.specs.vol_block.declared.format.Format.TheVariants.{Rei
 use Rattle.rollback_core.specs.RecoveryAnswers.{RefusesRecover}
 use Rattle.rollback_core.specs.Mending.{blocks_of}
 use Rattle.rollback_core.specs.Opens.{OpensAs}
-use Rattle.rollback_core.specs.Recovered.{IsLeftByRecover, IsRecoverable, IsRecovered, recover_summary, torn_blocks}
+use Rattle.rollback_core.specs.Recovered.{IsLeftByRecover, IsLeftByRecovery, IsRecoverable, IsRecovered, recover_summary, torn_blocks}
 
--- A recovered disk stays as it is when it is recovered again: no block is to be written. And after a crash of a recovery another one
--- makes of the disk what the first would have made.
+-- A recovered disk stays as it is when it is recovered again: no block is to be written. And after a crash of a recovery of a Btrfs volume
+-- another one makes of the disk what the first would have made. On a ReiserFS volume a crash may have wiped a block without use in part.
 pub record RecoveryStays : Type 0 where
   pub stays : (image other : Image) → IsRecovered image other → IsRecovered other other
   pub idle : (image other : Image) → IsRecovered image other → (recover_summary other).mirrors ≡ 0
-  pub again : (image left other : Image) → IsLeftByRecover image left → IsRecovered left other → IsRecovered image other
+  pub again : (image left other : Image) → format_in image ≡ Btrfs → IsLeftByRecover image left → IsRecovered left other → IsRecovered image other
+
+-- What a crash at any moment of a recovery leaves, also before block 16 is put back, can be recovered where the disk could.
+abbrev pub RecoveryGoesOn : Type 0
+RecoveryGoesOn = (image left : Image) → IsLeftByRecovery image left → IsRecoverable image → IsRecoverable left
 
 -- The other disk has the same format and is in order where the first is, and no block differs but those of copies.
 pub record IsSameBut (image other : Image) : Type 0 where

@@ -10,6 +10,7 @@ use Rattle.reiser_volume.specs.reiser_volume_contents.Laws.{SameUsed}
 use Rattle.reiser_bitmap.specs.Bits.{has, used_blocks}
 use Rattle.rollback_core.specs.declared.way.RollbackSummary.{RollbackSummary}
 use Rattle.volume_state.specs.GoingBack.{CanGoBack, old_used}
+use Rattle.super_turn.specs.PutBack.{is_half_turned, put_back}
 
 -- ---- which blocks change
 
@@ -32,12 +33,17 @@ pub record StillStands (disk other : Image) : Type 0 where
 
 -- ---- the old volume
 
--- It stands again: each block that it uses is that of the saved image. No other block differs, but that a copy of the Btrfs superblock may
--- be wiped.
+-- It stands again: each block that it uses is that of the saved image. No other block differs, but that one without use, with a copy of the
+-- Btrfs superblock, may be wiped in part or as a whole.
 pub record IsBack (disk other : Image) : Type 0 where
   pub size : length other ≡ length disk
   pub used : SameUsed (old_used disk) (image_blocks disk) other
-  pub others : (b : ℕ) → has (old_used disk) b ≡ false → (block_at other b ≡ block_at disk b) ⊎ (IsMirror b × (is_wiped disk b ≡ true) × (block_at other b ≡ zeros))
+  pub others : (b : ℕ) → has (old_used disk) b ≡ false → (block_at other b ≡ block_at disk b) ⊎ (IsMirror b × (is_wiped disk b ≡ true))
+
+-- It stands again, but that block 16 is half turned: it has the first sector of the old one with a mark, and is put back.
+pub record IsHalfBack (disk other : Image) : Type 0 where
+  pub half : is_half_turned other ≡ true
+  pub back : IsBack disk (put_back other)
 
 -- And no copy is left in a block without use.
 pub record IsRolledBack (disk other : Image) : Type 0 where
@@ -47,9 +53,9 @@ pub record IsRolledBack (disk other : Image) : Type 0 where
 
 -- ---- what a crash may leave
 
--- the disk as it was; or, of a volume that can be rolled back, the Btrfs volume or the old one
+-- the disk as it was; or, of a volume that can be rolled back, the Btrfs volume or the old one, of which block 16 may be half turned
 abbrev pub IsLeftByRollback : Image → Image → Type 0
-IsLeftByRollback disk other = (other ≡ disk) ⊎ (CanGoBack disk × (StillStands disk other ⊎ IsBack disk other))
+IsLeftByRollback disk other = (other ≡ disk) ⊎ (CanGoBack disk × (StillStands disk other ⊎ (IsHalfBack disk other ⊎ IsBack disk other)))
 
 -- ---- what is told
 

@@ -1,8 +1,9 @@
 -- What is written back, and what that leaves.
-use Rattle.std.specs.Prelude.{◌≡◌, ◌≢◌, ◌⊎◌, ℕ, ◌<◌, true, All, AllPairs, Any, List, length}
+use Rattle.std.specs.Prelude.{◌≡◌, ◌≢◌, ◌⊎◌, ℕ, ◌^◌, ◌<◌, true, All, AllPairs, Any, List, length}
 use Rattle.btrfs_format.specs.declared.block.TheConstants.{FIRST_MIRROR, SECOND_MIRROR, SUPER_BLOCK}
-use Rattle.reiser_bitmap.specs.outside.History.{Image, IsBlock, block_at}
+use Rattle.reiser_bitmap.specs.outside.History.{Image, block_at}
 use Rattle.reiser_bitmap.specs.vol_block.Volume.{zeros}
+use Rattle.super_turn.specs.Marked.{IsHalf}
 use Rattle.rollback_core.specs.declared.way.Saved.{Saved}
 use Rattle.rollback_core.specs.declared.way.WayBack.{WayBack}
 
@@ -22,7 +23,7 @@ IsWiping way b bytes = IsWiped way b × (bytes ≡ zeros)
 
 -- all that is written
 abbrev pub IsWayBackPart : WayBack → ℕ → List ℕ → Type 0
-IsWayBackPart way b bytes = IsSavedPlace way.reserved.items b ⊎ (IsBlock 16 way.superblock.bytes b bytes ⊎ IsWiping way b bytes)
+IsWayBackPart way b bytes = IsSavedPlace way.reserved.items b ⊎ ((b ≡ 16) ⊎ IsWiping way b bytes)
 
 -- ---- what holds of it
 
@@ -54,12 +55,21 @@ pub record IsUnturned (way : WayBack) (old other : Image) : Type 0 where
 abbrev pub AreWrittenBack : List Saved → Image → Type 0
 AreWrittenBack saved other = All (λ s. block_at other s.at ≡ s.block.bytes) saved
 
--- Block 16 and the saved blocks stand. The blocks that are to become zeros are as they were, or zeros.
+-- The saved blocks stand, and block 16 is half turned: its first sector is that of the old superblock, with a mark.
+pub record IsHalfway (way : WayBack) (old other : Image) : Type 0 where
+  pub size : length other ≡ length old
+  pub whole : length way.superblock.bytes ≡ 4096
+  pub small : way.copy < 2 ^ 64
+  pub half : IsHalf way.superblock.bytes way.copy (block_at other SUPER_BLOCK)
+  pub written : AreWrittenBack way.reserved.items other
+  pub others : (b : ℕ) → b ≢ 16 → ¬ IsSavedPlace way.reserved.items b → block_at other b ≡ block_at old b
+
+-- Block 16 and the saved blocks stand. The blocks that are to become zeros may hold anything.
 pub record IsTurned (way : WayBack) (old other : Image) : Type 0 where
   pub size : length other ≡ length old
   pub superblock : block_at other SUPER_BLOCK ≡ way.superblock.bytes
   pub written : AreWrittenBack way.reserved.items other
-  pub others : (b : ℕ) → b ≢ 16 → ¬ IsSavedPlace way.reserved.items b → (block_at other b ≡ block_at old b) ⊎ IsWiping way b (block_at other b)
+  pub others : (b : ℕ) → b ≢ 16 → ¬ IsSavedPlace way.reserved.items b → (block_at other b ≡ block_at old b) ⊎ IsWiped way b
 
 -- they are zeros
 abbrev pub AreWiped : WayBack → Image → Type 0

@@ -23,7 +23,7 @@ pub fn changed() -> Answer
     ensures { result ≡ Answer.ImageDamaged (Damaged SUPER_BLOCK Rule.Reread) }
 {
     Answer::ImageDamaged(VolumeRefusal::Damaged {
-        block: 16,
+        block: SUPER_BLOCK,
         rule: Rule::Reread,
     })
 }

@@ -31,12 +31,13 @@ mod writing;
 pub use prepared::prepare;
 pub use recovery::{RecoverSummary, recover};
 pub use recovery_laws::{
-    in_order_has_format, recovers_what_is_in_order, recovery_counts, recovery_keeps,
-    recovery_mends, recovery_opens, recovery_stays,
+    in_order_has_format, recovers_what_is_in_order, recovery_counts, recovery_goes_on,
+    recovery_keeps, recovery_mends, recovery_opens, recovery_stays,
 };
 pub use restore::write_back;
 pub use rollback_laws::{
-    refused_can_not_go_back, rollback_goes_on, rollback_keeps, writing_rolls_back,
+    recovery_rolls_back, refused_can_not_go_back, rollback_goes_on, rollback_keeps,
+    writing_rolls_back,
 };
 pub use rolling::rollback;
 pub use saved_laws::{

@@ -1,5 +1,5 @@
 // What is to be written to the places of the copies of a Btrfs superblock.
-ghost use Rattle.std.specs.Prelude.{◌≡◌, ◌≤◌, ◌<◌, ◌^◌, true, is_some, IfErr, IfOk, Ok};
+ghost use Rattle.std.specs.Prelude.{◌≡◌, ◌≤◌, ◌<◌, ◌^◌, true, is_some, IfErr, IfOk, Ok, length};
 ghost use Rattle.std.specs.Result.{MatchResult};
 ghost use Rattle.reiser_bitmap.specs.outside.Fault.{HasCause, HasCauseOf};
 ghost use Rattle.reiser_bitmap.specs.outside.Format.{format_in};
@@ -10,10 +10,11 @@ ghost use Rattle.convert_steps.specs.Found.{IsFoundOn};
 ghost use Rattle.rollback_core.specs.Mending.{Gives, copied, wiped};
 ghost use Rattle.rollback_core.specs.Planned.{HasMendingRoom, IsPlanned};
 
+use crate::wiping::is_wiped;
 use btr_super::{Super, mirror};
 use btrfs_format::block::{FIRST_MIRROR, SECOND_MIRROR, SUPER_BLOCK};
 use convert_steps::{Answer, FormatFound, find_format};
-use reiser_bitmap::{Block, BlockNo, BlockSource, Fault, Format, VolumeRefusal, has_magic};
+use reiser_bitmap::{Bitmap, Block, BlockNo, BlockSource, Fault, Format, VolumeRefusal};
 use reiser_volume::Front;
 use std::alloc::Global;
 
@@ -68,7 +69,7 @@ fn plan_reiser<S: BlockSource>(alloc: Global, src: &mut S) -> Result<Mending, An
     ensures answers { IfErr result IsRecoverAnswer }
 {
     let front = Front::open(alloc, src)?;
-    Ok(wipe_both(src, &front)?)
+    Ok(wipe_both(src, &front.bitmap)?)
 }
 
 /// What is to be written to a Btrfs volume with this superblock.
@@ -83,20 +84,20 @@ fn plan_btrfs<S: BlockSource>(src: &mut S, superblock: &Block) -> Result<Mending
     Ok(copy_both(src, superblock, sup.total_bytes / 4096)?)
 }
 
-/// What is to be written to a ReiserFS volume in order.
-fn wipe_both<S: BlockSource>(src: &mut S, front: &Front) -> Result<Mending, Fault>
-    requires device { front.now.sup.blocks ≤ S.size src.old }
+/// What is to be written to a ReiserFS volume in order, with these used blocks.
+fn wipe_both<S: BlockSource>(src: &mut S, used: &Bitmap) -> Result<Mending, Fault>
+    requires device { length used.now ≤ S.size src.old }
     ensures kept { S.kept src.old src.new }
     ensures format { IfOk result (λ m. m.format ≡ formats.Reiser) }
     ensures first { OverTold S.tells (S.blocks src.old) (λ image. IfOk result (λ m.
-        Gives (block_at image FIRST_MIRROR) (wiped front.now.sup.blocks front.now.bitmap FIRST_MIRROR (block_at image FIRST_MIRROR)) m.first)) }
+        Gives (block_at image FIRST_MIRROR) (wiped (length used.now) used.now FIRST_MIRROR (block_at image FIRST_MIRROR)) m.first)) }
     ensures second { OverTold S.tells (S.blocks src.old) (λ image. IfOk result (λ m.
-        Gives (block_at image SECOND_MIRROR) (wiped front.now.sup.blocks front.now.bitmap SECOND_MIRROR (block_at image SECOND_MIRROR)) m.second)) }
+        Gives (block_at image SECOND_MIRROR) (wiped (length used.now) used.now SECOND_MIRROR (block_at image SECOND_MIRROR)) m.second)) }
     ensures room { IfOk result (HasMendingRoom (S.size src.old)) }
     ensures cause { HasCause (S.faults src.old) (S.faults src.new) result }
 {
-    let first = wipe(src, front, FIRST_MIRROR)?;
-    let second = wipe(src, front, SECOND_MIRROR)?;
+    let first = wipe(src, used, FIRST_MIRROR)?;
+    let second = wipe(src, used, SECOND_MIRROR)?;
     Ok(Mending {
         format: Format::Reiser,
         first,
@@ -125,22 +126,17 @@ fn copy_both<S: BlockSource>(src: &mut S, superblock: &Block, blocks: u64) -> Re
     })
 }
 
-/// The zeros that are to be written to a block, where a copy has its place on the ReiserFS volume, which has it
-/// without use, and it holds a Btrfs superblock.
-fn wipe<S: BlockSource>(src: &mut S, front: &Front, place: BlockNo) -> Result<Option<Block>, Fault>
-    requires device { front.now.sup.blocks ≤ S.size src.old }
+/// The zeros that are to be written to a block, where that is to become zeros.
+fn wipe<S: BlockSource>(src: &mut S, used: &Bitmap, place: BlockNo) -> Result<Option<Block>, Fault>
+    requires device { length used.now ≤ S.size src.old }
     requires small { place < 2 ^ 52 }
     ensures kept { S.kept src.old src.new }
-    ensures gives { OverTold S.tells (S.blocks src.old) (λ image. IfOk result (Gives (block_at image place) (wiped front.now.sup.blocks front.now.bitmap place (block_at image place)))) }
+    ensures gives { OverTold S.tells (S.blocks src.old) (λ image. IfOk result (Gives (block_at image place) (wiped (length used.now) used.now place (block_at image place)))) }
     ensures room { IfOk result (λ found. is_some found ≡ true → place < S.size src.old) }
     ensures cause { HasCause (S.faults src.old) (S.faults src.new) result }
 {
-    if place + 1 >= front.sup.blocks || front.bitmap.is_used(place) {
-        return Ok(None);
-    }
-    let mut block = Block::zero();
-    src.read(place, &mut block)?;
-    if has_magic(&block, 64, b"_BHRfS_M") {
+    let wiped = is_wiped(src, used, place)?;
+    if wiped {
         Ok(Some(Block::zero()))
     } else {
         Ok(None)

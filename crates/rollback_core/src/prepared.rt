@@ -181,6 +181,7 @@ fn plan<S: BlockSource>(
     ensures answers { IfErr result (λ e. (e ≡ Answer.Fault) ⊎ (e ≡ Answer.Memory)) }
 {
     let (first, second) = wipe_both(src, used)?;
+    let copy = map.place(SUPER_BLOCK).unwrap_or(SUPER_BLOCK);
     let mut image = ImageSource::new(src, map);
     let superblock = read_block(&mut image, SUPER_BLOCK)?;
     let reserved = match read_reserved(alloc, &mut image, used) {
@@ -190,6 +191,7 @@ fn plan<S: BlockSource>(
     Ok(WayBack {
         reserved,
         superblock,
+        copy,
         first,
         second,
         summary: RollbackSummary {

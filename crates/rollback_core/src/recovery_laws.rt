@@ -1,10 +1,15 @@
 // Laws of the definitions, each the contract of a function that does nothing.
-ghost use Rattle.rollback_core.specs.RecoveryLaws.{InOrderHasFormat, RecoversWhatIsInOrder, RecoveryCounts, RecoveryKeeps, RecoveryMends, RecoveryOpens, RecoveryStays};
+ghost use Rattle.rollback_core.specs.RecoveryLaws.{InOrderHasFormat, RecoversWhatIsInOrder, RecoveryCounts, RecoveryGoesOn, RecoveryKeeps, RecoveryMends, RecoveryOpens, RecoveryStays};
 
 /// A disk that was recovered stays as it is when it is recovered again, and nothing is written. After a crash of a recovery
 /// another one ends as the first would have.
 pub fn recovery_stays()
     ensures { RecoveryStays }
+{}
+
+/// After a crash at any moment of a recovery another one can follow: what is left is in order where the disk was.
+pub fn recovery_goes_on()
+    ensures { RecoveryGoesOn }
 {}
 
 /// What a recovery makes, or a crash of it at any moment leaves, has the same format, and no block differs but those of copies. A

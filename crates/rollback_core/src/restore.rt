@@ -1,25 +1,27 @@
 // The old volume is written back.
-ghost use Rattle.std.specs.Prelude.{◌≡◌, ◌⊎◌, ◌<◌, true, slice_set, All, Some, IsTrue, OnOk};
+ghost use Rattle.std.specs.Prelude.{◌≡◌, ◌⊎◌, ◌<◌, true, All, Some, IsTrue, OnOk};
 ghost use Rattle.reiser_bitmap.specs.outside.Fault.{HasCause};
 ghost use Rattle.reiser_bitmap.specs.outside.History.{EachCrash, IsBlock, IsSettled, block_at, reads};
 ghost use Rattle.reiser_bitmap.specs.outside.Writes.{Writes};
 ghost use Rattle.reiser_bitmap.specs.vol_block.Volume.{zeros};
-ghost use Rattle.rollback_core.specs.Writing.{AreWritesApart, AreWiped, AreWrittenBack, GoApart, HasRoom, IsWayBackPart, IsSavedPlace, IsTurned, IsUnturned, IsWiping};
+ghost use Rattle.rollback_core.specs.Writing.{AreWritesApart, AreWiped, AreWrittenBack, GoApart, HasRoom, IsWayBackPart, IsHalfway, IsSavedPlace, IsTurned, IsUnturned, IsWiping};
 
 use crate::way::{Saved, WayBack};
-use btrfs_format::block::{FIRST_MIRROR, SECOND_MIRROR, SUPER_BLOCK};
+use btrfs_format::block::{FIRST_MIRROR, SECOND_MIRROR};
 use reiser_bitmap::{Access, Block, BlockNo, Disk, Fault};
+use super_turn::to_reiser;
 
 /// Writes the old volume back, in three steps, each of which is on the disk before the next begins: its reserved blocks, then block 16,
 /// and then zeros over copies of the Btrfs superblock.
 ///
-/// A crash at any moment leaves the disk as it was but for the reserved blocks; or all of them stand, and block 16 too.
+/// A crash at any moment leaves the disk as it was but for the reserved blocks; or all of them stand, and block 16 too, or half turned.
 pub fn write_back<D: Disk>(disk: &mut D, way: &WayBack) -> Result<(), Fault>
     requires open { D.opened disk.old ≡ Some Access.Write }
     requires room { HasRoom (D.size disk.old) way.now }
     requires apart { AreWritesApart way.now }
     ensures crash { EachCrash D.tells (D.history disk.old) (D.history disk.new) (λ image.
-        IsUnturned way.now (reads (D.history disk.old)) image ⊎ IsTurned way.now (reads (D.history disk.old)) image) }
+        IsUnturned way.now (reads (D.history disk.old)) image
+        ⊎ (IsHalfway way.now (reads (D.history disk.old)) image ⊎ IsTurned way.now (reads (D.history disk.old)) image)) }
     ensures writes { Writes D.Disk (IsWayBackPart way.now) disk.old disk.new }
     ensures written { IsTrue D.tells → OnOk result (IsTurned way.now (reads (D.history disk.old)) (reads (D.history disk.new))) }
     ensures wiped { IsTrue D.tells → OnOk result (AreWiped way.now (reads (D.history disk.new))) }
@@ -27,7 +29,7 @@ pub fn write_back<D: Disk>(disk: &mut D, way: &WayBack) -> Result<(), Fault>
     ensures cause { HasCause (D.faults disk.old) (D.faults disk.new) result }
 {
     write_reserved(disk, way.reserved.as_slice())?;
-    write_superblock(disk, &way.superblock)?;
+    to_reiser(disk, way.copy, &way.superblock)?;
     wipe_copies(disk, way)
 }
 
@@ -44,19 +46,6 @@ fn write_reserved<D: Disk>(disk: &mut D, saved: &[Saved]) -> Result<(), Fault>
     for block in saved {
         disk.write(block.at, &block.block)?;
     }
-    disk.sync()
-}
-
-/// Writes block 16, and syncs.
-fn write_superblock<D: Disk>(disk: &mut D, superblock: &Block) -> Result<(), Fault>
-    requires open { D.opened disk.old ≡ Some Access.Write }
-    requires in_range { 16 < D.size disk.old }
-    ensures writes { Writes D.Disk (IsBlock 16 superblock.now.bytes) disk.old disk.new }
-    ensures written { IsTrue D.tells → OnOk result (reads (D.history disk.new) ≡ slice_set (reads (D.history disk.old)) 16 superblock.now.bytes) }
-    ensures settled { IsTrue D.tells → OnOk result (IsSettled (D.history disk.new)) }
-    ensures cause { HasCause (D.faults disk.old) (D.faults disk.new) result }
-{
-    disk.write(SUPER_BLOCK, superblock)?;
     disk.sync()
 }
 

@@ -1,5 +1,5 @@
 // Laws of the definitions, each the contract of a function that does nothing.
-ghost use Rattle.rollback_core.specs.RollbackLaws.{RefusedCanNotGoBack, RollbackGoesOn, RollbackKeeps, WritingRollsBack};
+ghost use Rattle.rollback_core.specs.RollbackLaws.{RecoveryRollsBack, RefusedCanNotGoBack, RollbackGoesOn, RollbackKeeps, WritingRollsBack};
 
 /// What a crash of a rollback leaves is a Btrfs volume with the same rows and the same image, which can be rolled back; or the volume in
 /// that image, accepted and with its rows.
@@ -20,4 +20,9 @@ pub fn refused_can_not_go_back()
 /// What is prepared and written makes of a disk what is said of a rollback.
 pub fn writing_rolls_back()
     ensures { WritingRollsBack }
+{}
+
+/// After a crash of a rollback that left the old volume, half turned or not, recoveries leave that volume, whatever crashes cut them off.
+pub fn recovery_rolls_back()
+    ensures { RecoveryRollsBack }
 {}

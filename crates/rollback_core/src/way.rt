@@ -24,6 +24,8 @@ pub struct WayBack {
     pub reserved: Vec<Saved>,
     /// Its block 16.
     pub superblock: Block,
+    /// The block of the disk that holds block 16 of the image.
+    pub copy: BlockNo,
     /// Whether the block of the first copy of a Btrfs superblock, at 64 MiB, is to become zeros.
     pub first: bool,
     /// The same of the second copy, at 256 GiB.

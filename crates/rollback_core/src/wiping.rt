@@ -6,12 +6,12 @@ ghost use Rattle.reiser_bitmap.specs.vol_block.Format.{has_bytes_at};
 ghost use Rattle.reiser_bitmap.specs.Bits.{has};
 
 use crate::saved::read_block;
-use btrfs_format::block::{FIRST_MIRROR, SECOND_MIRROR, SUPER_MAGIC_OFFSET};
+use btrfs_format::block::{FIRST_MIRROR, MAGIC, SECOND_MIRROR, SUPER_MAGIC_OFFSET};
 use reiser_bitmap::{Bitmap, BlockNo, BlockSource, Fault, has_magic};
 
 /// Whether a block of a disk is to become zeros: a copy has its place there on the volume with these used blocks, which has it without
 /// use, and it holds the magic of a Btrfs superblock.
-fn is_wiped<S: BlockSource>(src: &mut S, used: &Bitmap, place: BlockNo) -> Result<bool, Fault>
+pub fn is_wiped<S: BlockSource>(src: &mut S, used: &Bitmap, place: BlockNo) -> Result<bool, Fault>
     requires inside { length used.now ≤ S.size src.old }
     requires small { place < 2 ^ 52 }
     ensures kept { S.kept src.old src.new }
@@ -24,7 +24,7 @@ fn is_wiped<S: BlockSource>(src: &mut S, used: &Bitmap, place: BlockNo) -> Resul
         return Ok(false);
     }
     let block = read_block(src, place)?;
-    Ok(has_magic(&block, 64, b"_BHRfS_M"))
+    Ok(has_magic(&block, SUPER_MAGIC_OFFSET, MAGIC))
 }
 
 /// The same of the blocks of both copies.

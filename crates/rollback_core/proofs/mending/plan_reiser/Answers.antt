@@ -13,5 +13,5 @@ pub returns-clause-planned : goal.returns-clause-planned
 returns-clause-planned g c = λ tells image is format.
     let here = g.met.S.BlockSource.kept_blocks c.args.src.now c.open.new.src tells c.open.ensures.kept ∙ is in
     let front = c.in_ok-front.ensures.found tells image is in
-    reiser_planned image c.in_ok-wipe_both.field-0 c.in_ok-front.front.sup c.in_ok-front.front.bitmap front.accepted front.sup front.bitmap format c.in_ok-wipe_both.ensures.format
+    reiser_planned image c.in_ok-wipe_both.field-0 c.in_ok-front.front.bitmap front.accepted front.bitmap format c.in_ok-wipe_both.ensures.format
     (c.in_ok-wipe_both.ensures.first tells image here) (c.in_ok-wipe_both.ensures.second tells image here)
