@@ -1,5 +1,5 @@
 -- The answers of a conversion.
-use Rattle.convert_core.proofs.Imports.{◌≡◌, ◌≢◌, ◌⊎◌, ℕ, Ok, Err, sym, subst, ⊎_elim, rules, IfErr, Result, Btrfs, format_in, Image, Answer, IsPrepareAnswer, RefusesConversion, Options, IsConvertAnswer, RefusesConvert}
+use Rattle.convert_core.proofs.Imports.{◌≡◌, ◌≢◌, ◌⊎◌, ℕ, Ok, Err, sym, subst, ⊎_elim, rules, false, ◌∙◌, ap, IfErr, Result, Btrfs, format_in, Image, History, IsSettled, reads, Answer, IsPrepareAnswer, RefusesConversion, Options, IsConvertAnswer, RefusesConvert, IsPutBackAlone, is_half_turned, put_back}
 use Rattle.std.specs.Result.{MatchResult}
 use Rattle.reiser_volume.specs.outside.Fault.{HasCauseOf}
 use Rattle.convert_steps.specs.command_answers.declared.answer.Answer.TheVariants as answer
@@ -45,3 +45,10 @@ failed_so (Err e) P Q is = λ fault memory. absurd (⊎_elim fault memory is)
 -- an answer that is no fault has the cause of a call that went well
 pub keeps_cause : {T X : Type 0} (before now : ℕ) (x : X) (e : Answer) → e ≢ answer.Fault → HasCauseOf {T = X} answer.Fault before now (Ok x) → HasCauseOf {T = T} answer.Fault before now (Err e)
 keeps_cause before now x e other is = record { later = is.later; failed = λ same. search rules; kept = λ _. is.kept (λ same. search rules) }
+
+-- a refusal changes nothing but what was put back
+pub refused_alone : {T : Type 0} (result : Result T Answer) (old mid new : History) → reads mid ≡ put_back (reads old) → (is_half_turned (reads old) ≡ false → mid ≡ old) → (IsSettled old → IsSettled mid)
+    → IfErr result (λ e. e ≢ answer.Fault → e ≢ answer.Memory → new ≡ mid) → IfErr result (λ e. e ≢ answer.Fault → e ≢ answer.Memory → IsPutBackAlone old new)
+refused_alone (Ok x) old mid new put same settled kept = tt
+refused_alone (Err e) old mid new put same settled kept = λ other some.
+    record { put = ap reads (kept other some) ∙ put; same = λ none. kept other some ∙ same none; settled = λ before. subst IsSettled (sym (kept other some)) (settled before) }

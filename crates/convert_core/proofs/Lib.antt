@@ -7,6 +7,7 @@ pub use Rattle.convert_steps.proofs.file_items as file_items
 pub use Rattle.convert_steps.proofs.space_items as space_items
 pub use Rattle.unit_plan.proofs as unit_plan
 pub mod Answering
+pub mod Copying
 pub mod Crashing
 pub mod Ending
 pub mod Imports

@@ -1,11 +1,9 @@
 -- The pieces of a volume with a plan: where they lie, and that they can be written.
-use Rattle.convert_core.proofs.Imports.{◌≡◌, ◌≢◌, ◌⊎◌, ◌≤◌, ◌<◌, ℕ, ◌+◌, ◌-◌, ◌/◌, ◌^◌, inl, inr, ◌||◌, Bool, true, false, List, [], ◌∷◌, ◌++◌, length, map, filter, take, drop, Option, Some, None, refl, sym, ap, subst, ◌∙◌, ⊎_elim, arith, All, Contains, MatchOption, both_ways, cases_eq, or_cases, or_left, or_right, All-append, All-cons, All-contains, All-drop, All-head, All-nil, All-tail, All-take, All-weaker, Contains-permutation, IsPermutation-sym, keys, from_flat_map, from_map, Image, has, IsFreeUnit, all_from_contains, ObjectKey, used_of, volume_items, Volume, used_length, is_among, is_chosen, AreUnitsApart, IsSoundPlan, need, Options, Piece, Plan, plans_sound, FileAt, file_blocks, file_tails, has_tail, is_file_inline, owner, tails, files_of, CoverUsed, HoldsUsed, IsKeptPiece, LieWell, LiesInUnit, Owners, copied_pieces, kept_pieces, tail_piece, WerePlaced, at_place, at_places, blocks_of_units, all_at, all_map, kept_are_maximal, at_second, at_third, HasPieces, CanMove, HasOwner, IsMovedTo, IsMovedPlace, IsMirror, IsFree, IsTaken}
+use Rattle.convert_core.proofs.Imports.{◌≡◌, ◌≢◌, ◌⊎◌, ◌≤◌, ◌<◌, ℕ, ◌+◌, ◌-◌, ◌/◌, ◌^◌, inl, inr, ◌||◌, Bool, true, false, List, [], ◌∷◌, ◌++◌, length, map, filter, take, drop, Option, Some, None, refl, sym, ap, subst, ◌∙◌, ⊎_elim, arith, All, Contains, MatchOption, both_ways, cases_eq, or_cases, or_left, or_right, All-append, All-cons, All-contains, All-drop, All-head, All-nil, All-tail, All-take, All-weaker, Contains-permutation, IsPermutation-sym, keys, from_flat_map, from_map, Image, has, IsFreeUnit, all_from_contains, ObjectKey, used_of, volume_items, Volume, used_length, is_among, is_chosen, AreUnitsApart, IsSoundPlan, need, Options, Piece, Plan, plans_sound, FileAt, file_blocks, file_tails, has_tail, is_file_inline, owner, tails, files_of, CoverUsed, HoldsUsed, IsKeptPiece, LieWell, LiesInUnit, Owners, copied_pieces, kept_pieces, tail_piece, WerePlaced, at_place, at_places, blocks_of_units, all_at, all_map, kept_are_maximal, at_second, at_third, HasPieces, CanMove, HasOwner, IsMovedTo, IsMovedPlace, IsMirror, IsFree, IsTaken, places_are_apart, IsCopied, is_copied_piece, pieces_cover_used}
 use Rattle.std.proofs.Common.{if◌then◌else◌}
 use Rattle.reiser_volume.specs.reiser_volume_names.Names.{ino_of_key}
 use Rattle.unit_plan.proofs.Starts.{among_contains, contains_among}
 use Rattle.extent_pieces.specs.declared.tail.Tail.{Tail}
-use Rattle.extent_pieces.proofs.Apart.{places_are_apart}
-use Rattle.extent_pieces.proofs.Covering.{IsCopied, is_copied_piece, pieces_cover_used}
 use Rattle.extent_pieces.proofs.Once.{IsFileOf, file_of}
 use Rattle.convert_core.proofs.One.{ascending_one}
 

@@ -1,9 +1,10 @@
 -- All of a new volume is written but its superblock.
-use Rattle.convert_core.proofs.Imports.{◌≡◌, ◌∙◌, ◌⊎◌, ℕ, ◌+◌, ◌≤◌, ◌<◌, List, length, refl, sym, ap, subst, ⊎_elim, true≢false, Contains, keys, Ids, Image, History, WritesOnly, block_at, reads, writes_length, writes_weaker, reads_outside, IsNodeSize, IsInSlots, IsMaking, Making, label_by, label_field, new_ids, HasPieces, AllFit, HasTrees, IsFor, SameVolume, used_bytes, VolumeTrees, HoldMoved, IsMovedPlace, IsPrepared, new_super, Prepared, all_at, has, links_in, used_of, Volume, TreeNode, AreChunks, node_places, PlannedChunk, Options, Piece, Plan, KeepsOldVolume, IsConvertible, IsFree, IsPutDown, IsTaken, StandsConverted, IsSummary, summary_by, Written}
+use Rattle.convert_core.proofs.Imports.{◌≡◌, ◌∙◌, ◌⊎◌, ℕ, ◌+◌, ◌≤◌, ◌<◌, List, length, refl, sym, ap, subst, arith, ⊎_elim, true≢false, Contains, keys, Ids, Image, History, WritesOnly, block_at, reads, writes_length, writes_weaker, reads_outside, IsNodeSize, IsInSlots, IsMaking, Making, label_by, label_field, new_ids, HasPieces, AllFit, HasTrees, IsFor, SameVolume, used_bytes, VolumeTrees, HoldMoved, IsMovedPlace, IsPrepared, new_super, Prepared, all_at, has, links_in, used_of, Volume, TreeNode, AreChunks, node_places, PlannedChunk, Options, Piece, Plan, KeepsOldVolume, IsConvertible, IsFree, IsPutDown, IsTaken, StandsConverted, IsSummary, summary_by, Written, copy_in}
 use Rattle.std.specs.Prelude.{true}
 use Rattle.convert_steps.specs.btr_super.Super.{super_bytes}
 use Rattle.convert_steps.specs.space_items.Laws.{AreIds}
 use Rattle.convert_trees_laws.specs.Bounds.{PlansSuffice}
+use Rattle.convert_core.proofs.Copying.{copy_elsewhere, copy_holds, copy_inside}
 use Rattle.convert_core.proofs.Moving.{metadata_free, metadata_taken, piece_not_metadata, piece_not_system, place_free, place_taken, system_free, system_taken, well}
 use Rattle.convert_core.proofs.Slots.{slot_unit}
 use Rattle.convert_core.proofs.Standing.{InPieces, other_sums, pieces_stay, sums_stay}
@@ -158,9 +159,9 @@ module _ (image : Image) (o : Options) (ids : Ids) (p : Prepared) (is : IsPrepar
           ∙ ap (λ (i : Image). block_at i b) told))
 
       pub put_down : (w : Written) (r : VolumeTrees) → HoldMoved p.volume image (reads h₁) p.pieces.items.items → TreesStandFor image (reads h₁) (reads h₂) m r
-          → w.superblock.bytes ≡ bytes_by r p.ids p.label r.used → w.blocks ≡ p.volume.sup.blocks → w.summary ≡ summary_by p.pieces.counts p.need
+          → w.superblock.bytes ≡ bytes_by r p.ids p.label r.used → w.blocks ≡ p.volume.sup.blocks → w.copy ≡ copy_in p.pieces.items.items → w.summary ≡ summary_by p.pieces.counts p.need
           → IsPutDown o ids now image (reads h₃) w
-      put_down w r hold stand bytes blocks summary = record {
+      put_down w r hold stand bytes blocks copy summary = record {
         m = m;
         r = r;
         nodes = stand.0;
@@ -171,5 +172,8 @@ module _ (image : Image) (o : Options) (ids : Ids) (p : Prepared) (is : IsPrepar
             bytes ∙ (ap (λ (i : Ids). bytes_by r i p.label r.used) is.ids_are
             ∙ (ap (λ (l : List ℕ). bytes_by r (new_ids m) l r.used) is.label_is ∙ ap (bytes_by r (new_ids m) (label_field (label_by p.volume.sup o.label))) stand.2));
         blocks = blocks;
+        copy = ap (block_at (reads h₃)) copy ∙ copy_holds p.volume image o p.plan p.pieces.items.items of (reads h₃) (stand_there r stand hold).pieces;
+        inside = let within = copy_inside p.volume image o p.plan p.pieces.items.items of in let long = (stand_there r stand hold).size in omega (arith, within, long, copy);
+        elsewhere = λ is. copy_elsewhere p.volume image o p.plan p.pieces.items.items of (sym copy ∙ is);
         summary = subst (IsSummary o image) (sym summary) summed;
       }

@@ -1,6 +1,5 @@
 -- What stands on a disk goes on standing while none of its blocks is written.
-use Rattle.convert_core.proofs.Imports.{◌≡◌, ◌∙◌, ◌⊎◌, inl, inr, ℕ, ◌+◌, ◌-◌, ◌^◌, ◌<◌, ◌≤◌, List, [], ◌++◌, length, take, drop, sym, ap, subst, arith, length-drop, Contains, if◌then◌else◌, CHUNK_TREE, CONV_IMAGE_SUBVOL, CSUM_TREE, DATA_RELOC_TREE, DEV_TREE, EXTENT_TREE, FS_TREE, ROOT_TREE, Image, block_at, Item, IsInSlots, Making, new_ids, chunk_slots, slots, HasTrees, device_from, extents_from, file_tree_items, form, image_from, image_tree_items, nodes_from, relocation_from, root_from, root_tree_items, sum_tree_items, sums_from, VolumeTrees, HoldMoved, chunk_items, device_items, TreeNode, Piece, StandsConverted}
-use Rattle.std.proofs.lemmas.List.{get_or-drop}
+use Rattle.convert_core.proofs.Imports.{◌≡◌, ◌∙◌, ◌⊎◌, inl, inr, ℕ, ◌+◌, ◌-◌, ◌^◌, ◌<◌, ◌≤◌, List, [], ◌++◌, length, take, drop, sym, ap, subst, arith, length-drop, Contains, if◌then◌else◌, CHUNK_TREE, CONV_IMAGE_SUBVOL, CSUM_TREE, DATA_RELOC_TREE, DEV_TREE, EXTENT_TREE, FS_TREE, ROOT_TREE, Image, block_at, Item, IsInSlots, Making, new_ids, chunk_slots, slots, HasTrees, device_from, extents_from, file_tree_items, form, image_from, image_tree_items, nodes_from, relocation_from, root_from, root_tree_items, sum_tree_items, sums_from, VolumeTrees, HoldMoved, chunk_items, device_items, TreeNode, Piece, StandsConverted, get_or-drop}
 use Rattle.unit_plan.specs.btr_tree.Roots.{lengths_of}
 use Rattle.unit_plan.specs.btr_tree.declared.climb.Root.{Root}
 use Rattle.convert_steps.specs.file_items.Small.{relocation_items}

@@ -1,5 +1,5 @@
 -- The disk before, while and after a volume is converted.
-use Rattle.std.specs.Prelude.{◌≡◌, ◌≢◌, ◌≤◌, ◌⊎◌, ℕ, ◌/◌, true, List, length}
+use Rattle.std.specs.Prelude.{◌≡◌, ◌≢◌, ◌≤◌, ◌<◌, ◌⊎◌, ℕ, ◌/◌, true, List, length}
 use Rattle.btrfs_format.specs.declared.block.TheConstants.{SUPER_BLOCK}
 use Rattle.reiser_volume.specs.outside.Format.{format_in}
 use Rattle.reiser_volume.specs.outside.History.{Image, block_at}
@@ -20,12 +20,13 @@ use Rattle.reiser_volume.specs.reiser_bitmap.Units.{IsFreeUnit}
 use Rattle.reiser_volume.specs.reiser_volume_names.Links.{AreLinks}
 use Rattle.reiser_volume.specs.reiser_volume_objects.declared.key.ObjectKey.{ObjectKey}
 use Rattle.reiser_volume.specs.reiser_volume_objects.declared.naming.Naming.{Naming}
-use Rattle.reiser_volume.specs.Volume.{used_of, volume_items}
+use Rattle.reiser_volume.specs.Volume.{superblock, used_of, volume_items}
 use Rattle.convert_steps.specs.space_items.declared.node.TreeNode.{TreeNode}
 use Rattle.unit_plan.specs.Choice.{HasEnoughSpace, is_chosen}
 use Rattle.unit_plan.specs.Needed.{need}
 use Rattle.convert_options.specs.declared.options.Options.{Options}
 use Rattle.unit_plan.specs.declared.plan.Plan.{Plan}
+use Rattle.super_turn.specs.PutBack.{IsPuttingBack, is_half_turned, put_back}
 use Rattle.convert_core.specs.Surveyed.{IsSummary}
 use Rattle.convert_core.specs.declared.volume.Written.{Written}
 
@@ -52,6 +53,15 @@ pub record KeepsOldVolume (image other : Image) : Type 0 where
 -- the block lies in a unit of 1 MiB that the old volume has free
 abbrev pub IsFree : Image → ℕ → Type 0
 IsFree image b = IsFreeUnit (used_of image) (b / 256)
+
+-- It still stands, but that block 16 is half turned: it has the first sector of the old one with a mark, and is put back.
+pub record IsHalfConverted (image other : Image) : Type 0 where
+  pub half : is_half_turned other ≡ true
+  pub old : KeepsOldVolume image (put_back other)
+
+-- Where a conversion may write: block 16, and in the volume the units that it has free and the places of the superblock's copies.
+abbrev pub IsConvertPlace : Image → ℕ → Type 0
+IsConvertPlace image b = (b ≡ 16) ⊎ ((b < (superblock image).blocks) × (IsFree image b ⊎ IsMirrorOf (superblock image).blocks b))
 
 -- All else is as it was: only blocks in units that the old volume has free may differ.
 pub record DiffersInFree (image other : Image) : Type 0 where
@@ -94,6 +104,10 @@ pub record IsPutDown (o : Options) (ids : Ids) (now : ℕ) (image other : Image)
   pub others : (b : ℕ) → ¬ IsTaken m.plan b → block_at other b ≡ block_at image b
   pub superblock : w.superblock.bytes ≡ superblock_of m r nodes
   pub blocks : w.blocks ≡ m.volume.sup.blocks
+  -- a copy of block 16
+  pub copy : block_at other w.copy ≡ block_at image SUPER_BLOCK
+  pub inside : w.copy < length other
+  pub elsewhere : w.copy ≢ 16
   pub summary : IsSummary o image w.summary
 
 -- The new volume: block 16 is its superblock. The blocks of the superblock's copies may hold anything, where the volume has them.
@@ -119,7 +133,11 @@ pub record IsConverted (o : Options) (ids : Ids) (now : ℕ) (image other : Imag
 abbrev pub IsSomeNew : Options → Ids → ℕ → Image → Image → Type 0
 IsSomeNew o ids now image other = (m : Making) × (r : VolumeTrees) × (nodes : List TreeNode) × IsNew o ids now image other m r nodes
 
--- The disk as it was; or, of a volume that can be converted, the old volume or the new one.
+-- The disk as it was; or, of a volume that can be converted, the old volume, of which block 16 may be half turned, or the new one.
 abbrev pub IsEither : Options → Ids → ℕ → Image → Image → Type 0
 IsEither o ids now image other =
-    (other ≡ image) ⊎ ((format_in image ≢ Btrfs) × IsConvertible o image × (KeepsOldVolume image other ⊎ IsSomeNew o ids now image other))
+    (other ≡ image) ⊎ ((format_in image ≢ Btrfs) × IsConvertible o image × (KeepsOldVolume image other ⊎ (IsHalfConverted image other ⊎ IsSomeNew o ids now image other)))
+
+-- and before that, what is left while block 16 is put back
+abbrev pub IsLeftByConvert : Options → Ids → ℕ → Image → Image → Type 0
+IsLeftByConvert o ids now image other = IsPuttingBack image other ⊎ IsEither o ids now (put_back image) other

@@ -11,6 +11,7 @@ pub use Rattle.convert_steps.specs.space_items as space_items
 pub use Rattle.unit_plan.specs as unit_plan
 pub mod Answers
 pub mod Converted
+pub mod Copied
 pub mod Laws
 pub mod Surveyed
 pub mod Whole

@@ -5,6 +5,7 @@
 #![tactic(auto)]
 
 mod answers;
+mod copied;
 mod in_place;
 mod laws;
 mod summary;

@@ -20,13 +20,14 @@ ghost use Rattle.convert_core.specs.Converted.{IsConvertible, IsFree, IsPutDown}
 ghost use Rattle.convert_core.specs.Whole.{IsWhole};
 
 use crate::answers::{changed, write_answer};
+use crate::copied::superblock_copy;
 use crate::summary::{ConvertSummary, summary_of};
 use crate::whole::is_whole;
 use convert_options::Options;
 use convert_steps::{Answer, NewRoots, Prepared, VolumeTrees, prepare, superblock, write_moved};
 use convert_trees::write_trees;
 use convert_trees_laws::plans_suffice;
-use reiser_volume::{Access, Block, BlockSource, Cached, Disk, Ids, Room};
+use reiser_volume::{Access, Block, BlockNo, BlockSource, Cached, Disk, Ids, Room};
 use std::alloc::Global;
 
 /// How many blocks are kept in memory while the volume is read and its trees are written.
@@ -39,6 +40,8 @@ pub struct Written {
     pub superblock: Block,
     /// The blocks of the volume.
     pub blocks: u64,
+    /// The block that holds a copy of the old block 16.
+    pub copy: BlockNo,
     pub summary: ConvertSummary,
 }
 
@@ -110,6 +113,7 @@ fn write_prepared<D: Disk>(
     Ok(Written {
         superblock,
         blocks: prepared.volume.sup().blocks,
+        copy: superblock_copy(&prepared.pieces),
         summary: summary_of(&prepared.pieces.counts(), &prepared.need),
     })
 }

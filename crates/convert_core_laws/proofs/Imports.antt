@@ -5,7 +5,7 @@ pub use Rattle.std.proofs.Math.Seq.{drop-append-add, drop-append_seam, take-add,
 pub use Rattle.std.proofs.lemmas.Bool.{and_from, and_parts, both_ways, cases_Bool, cases_eq, cases_lt, eq-eqb, eqb-true, false≢true, le-leb, le-ltb, leb-true, lt-ltb, ltb-true, ne_eqb, not_from_false, or_left, or_right}
 pub use Rattle.std.proofs.lemmas.Bool.Decides.{nat_tests}
 pub use Rattle.std.proofs.lemmas.Int.{fits_signed_from_abs}
-pub use Rattle.std.proofs.lemmas.List.{append-nil, drop-drop, drop-take, drop_at, get_or-append_right, get_or-replicate, get_or-take, get_or_append_left, get_or_default, get_or_past, length-map, length-replicate, length-take, length_push, map-append, take-append-drop, take-take, take_at}
+pub use Rattle.std.proofs.lemmas.List.{append-nil, drop-drop, drop-take, drop_at, get_or-append_right, get_or-replicate, get_or-take, get_or_append_left, get_or_default, get_or_past, length-map, length-replicate, length-take, length_push, map-append, take-take, take_at}
 pub use Rattle.std.proofs.lemmas.List.Elements.{All-append, All-cons, All-contains, All-contains_itself, All-drop, All-from_recursion, All-head, All-map, All-nil, All-tail, All-take, Contains-append_cases, Contains-append_left, Contains-append_right, Contains-get_or, filter-append}
 pub use Rattle.std.proofs.lemmas.List.Folds.{flat_map-map, list_any-from_Any}
 pub use Rattle.std.proofs.lemmas.List.FromFn.{get_or-map-range_with_len, get_or-range_with_len, length-map-range_with_len, length-range_with_len}
@@ -122,7 +122,7 @@ pub use Rattle.convert_core.proofs.space_items.Ordered.{Rise, ascends_rise, item
 pub use Rattle.convert_core.proofs.unit_plan.Placing.{places_serve}
 pub use Rattle.convert_core.proofs.unit_plan.Starts.{among_contains, contains_among}
 pub use Rattle.convert_core.proofs.unit_plan.Uses.{free_of, role_is, roles_uses}
-pub use Rattle.convert_core.specs.Converted.{IsConvertible, IsFree, IsNew, KeepsOldVolume}
+pub use Rattle.convert_core.specs.Converted.{IsConvertible, IsFree, IsHalfConverted, IsNew, KeepsOldVolume}
 pub use Rattle.convert_core.specs.btr_item_list.Extents.{extent_item, inline_extent, regular_extent}
 pub use Rattle.convert_core.specs.btr_item_list.Groups.{ascending, grouped, in_group}
 pub use Rattle.convert_core.specs.btr_item_list.Inodes.{inode_item, inode_made, ref_item, stamp_of}
@@ -145,7 +145,7 @@ pub use Rattle.convert_core.specs.extent_pieces.Files.{FileAt, file_at, owner, t
 pub use Rattle.convert_core.specs.extent_pieces.Found.{files_of}
 pub use Rattle.convert_core.specs.extent_pieces.Laws.{AreSortedKeys, CoverUsed, HasPlan, HoldsBlock, IsKeptPiece, LieWell, LiesInUnit}
 pub use Rattle.convert_core.specs.extent_pieces.Pieces.{Owners, copied_pieces, kept_pieces, tail_piece}
-pub use Rattle.convert_core.specs.extent_pieces.Placed.{FitsPlan, at_place, at_places, blocks_of_units}
+pub use Rattle.convert_core.specs.extent_pieces.Placed.{at_place, at_places, blocks_of_units}
 pub use Rattle.convert_core.specs.file_items.Extents.{extents_at, file_block, is_owned_by, piece_bytes, pieces_of, pieces_of_volume, source_block}
 pub use Rattle.convert_core.specs.file_items.Inodes.{if_set, inode_flags}
 pub use Rattle.convert_core.specs.file_items.Names.{Indexed, IndexedLink, entries_behind, entry_behind, entry_items, entry_kind, entry_to, extref, extrefs, indexed, indexed_in, indexed_links, inode_ref, inode_refs, letters, names_in, names_of, next_index, parent_of, root_ref, saved_entry}
@@ -207,7 +207,6 @@ pub use Rattle.reiser_volume.proofs.Holding.{used_length}
 pub use Rattle.reiser_volume.proofs.fs_paths.Lists.{at_head, from_filter, from_flat_map, from_map, head_or_tail, in_filter, in_flat_map, in_map, in_tail}
 pub use Rattle.reiser_volume.proofs.fs_rows.Functions.{byte_at, length_bytes, same_bytes}
 pub use Rattle.reiser_volume.proofs.reiser_bitmap.Ranges.{all_from_contains, contains_cases, contains_head, contains_range, contains_tail, range_contains}
-pub use Rattle.reiser_volume.proofs.reiser_bitmap.SystemBlocks.{superblock_in}
 pub use Rattle.reiser_volume.proofs.reiser_volume_objects.Tables.{same_key-self, same_key-true}
 pub use Rattle.reiser_volume.proofs.vol_block.Reserved.{decides_reserved}
 pub use Rattle.reiser_volume.specs.Inline.{is_tail, stays_in_tree}

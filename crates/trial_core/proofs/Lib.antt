@@ -5,3 +5,4 @@ pub mod Reading
 pub mod Refusing
 pub mod Rounds
 pub mod Tried
+pub mod Unturned

@@ -1,5 +1,6 @@
 -- The answers of the steps, as those of a round and of a trial.
-use Rattle.trial_core.proofs.Imports.{◌≡◌, inl, inr, refl, sym, ◌∙◌, subst, None, Some, ◌≢◌, History, Image, Answer, HasBtrfsRows, IsRowsRefusal, RefusesBtrfsRows, has_log, unreadable, RefusesConvert, FrontsAreJudged, RefusalsBreakRules, IsAccepted, RefusedCanNotGoBack, CanGoBack, IsTrialReadAnswer, IsStop, LeavesRound, RefusesRound, StopsUnless, by_step, FreeAreBytes, plain}
+use Rattle.trial_core.proofs.Imports.{◌≡◌, inl, inr, refl, sym, ◌∙◌, subst, None, Some, Err, Result, ap, ℕ, ◌≢◌, History, Image, Answer, HasBtrfsRows, IsRowsRefusal, RefusesBtrfsRows, has_log, unreadable, RefusesConvert, FrontsAreJudged, RefusalsBreakRules, IsAccepted, RefusedCanNotGoBack, CanGoBack, IsTrialReadAnswer, IsStop, LeavesRound, RefusesRound, StopsUnless, by_step, FreeAreBytes, plain}
+use Rattle.reiser_bitmap.specs.outside.Fault.{HasCauseOf}
 use Rattle.convert_core.specs.command_answers.Answers.{of_btrfs, of_volume}
 use Rattle.reiser_bitmap.specs.refusals.declared.answer.BtrAnswer.{BtrAnswer}
 use Rattle.reiser_bitmap.specs.refusals.declared.answer.VolAnswer.{VolAnswer}
@@ -13,6 +14,28 @@ use Rattle.rollback_core.specs.RollbackAnswers.{IsRollbackAnswer, RefusesRollbac
 use Rattle.convert_core.specs.command_answers.declared.answer.Answer.TheVariants as answer
 use Rattle.reiser_bitmap.specs.refusals.declared.answer.BtrAnswer.TheVariants as of_btr
 use Rattle.reiser_bitmap.specs.refusals.declared.answer.VolAnswer.TheVariants as of_reiser
+
+-- ---- of a call that failed
+
+abbrev err : (T : Type 0) → Answer → Result T Answer
+err T e = Err e
+
+err_same : (T : Type 0) (a b : Answer) → err T a ≡ err T b → a ≡ b
+err_same T a b is = cc
+
+step_fault : (e : Answer) → by_step e ≡ answer.Fault → e ≡ answer.Fault
+step_fault (answer.NoSpace needed free run_needed longest) is = absurd (cc is)
+step_fault answer.Fault is = refl
+step_fault answer.Memory is = absurd (cc is)
+step_fault _ is = absurd (cc is)
+
+-- the answer of a step that failed is a fault exactly where the step's own is
+pub step_cause : (T U : Type 0) (e : Answer) (before now : ℕ) → HasCauseOf answer.Fault before now (err T e) → HasCauseOf answer.Fault before now (err U (by_step e))
+step_cause T U e before now cause = record {
+  later = cause.later;
+  failed = λ is. cause.failed (ap (err T) (step_fault e (err_same U (by_step e) answer.Fault is)));
+  kept = λ other. cause.kept (λ is. other (ap (err U) (ap by_step (err_same T e answer.Fault is))));
+}
 
 -- ---- of a conversion
 

@@ -1,16 +1,16 @@
 -- A trial, from what is said of its steps.
-use Rattle.trial_core.proofs.Imports.{◌≡◌, inl, inr, ⊎_elim, Result, Ok, Err, ℕ, ◌<◌, ◌≤◌, false, ◌&&◌, List, length, map, sym, ◌∙◌, ap, subst, arith, true≢false, IfErr, IsTrue, nat_lt, slice_index, MatchResult, and_parts, Ids, ConvertedVolumesGoBack, History, Image, IsSettled, WritesOnly, after, block_at, reads, synced, Answer, WholeRow, row_of, Row, has, RowsAreOne, used_of, RollbackKeeps, HasBytes, summary_of, TrialSummary, IsMakeAnswer, LeavesRefused, LeavesRound, RefusesRound, RefusesScratch, RefusesTrial, FreeAreBytes, IsRound, IsTrialSummary, IsSampleMade, IsScratch, IsTried, KeepsFree, needed_by, sample_on, trial_summary, synced_now}
+use Rattle.trial_core.proofs.Imports.{◌≡◌, inl, inr, ⊎_elim, Result, Ok, Err, ℕ, ◌<◌, ◌≤◌, false, ◌&&◌, List, length, map, sym, ◌∙◌, ap, subst, arith, true≢false, IfErr, IsTrue, nat_lt, slice_index, MatchResult, and_parts, Ids, ConvertedVolumesGoBack, History, Image, IsSettled, WritesOnly, after, block_at, reads, synced, Answer, WholeRow, row_of, Row, has, RowsAreOne, used_of, RollbackKeeps, HasBytes, summary_of, TrialSummary, IsMakeAnswer, LeavesRefused, LeavesRound, RefusesRound, RefusesScratch, RefusesTrial, FreeAreBytes, IsRound, IsTrialSummary, IsSampleMade, IsScratch, IsTried, KeepsFree, needed_by, sample_on, trial_summary, synced_now, is_half_turned, shape}
 use Rattle.std.proofs.lemmas.Bool.Decides.{Decides-ltb}
 use Rattle.reiser_bitmap.proofs.outside.Crash.{reads_only}
 use Rattle.reiser_make.specs.Layout.{IsUsed}
 use Rattle.reiser_make.specs.Maker.{usage_of}
 use Rattle.reiser_make.specs.Places.{is_taken}
 use Rattle.reiser_make.specs.Rows.{sample_rows}
-use Rattle.reiser_make.specs.Shape.{shape}
 use Rattle.reiser_make_laws.specs.Laws.{SamplesMarkUsed}
 use Rattle.reiser_make_laws.specs.Rows.{IsAsDescribed, SamplesAreAsDescribed}
 use Rattle.trial_core.specs.Laws.{TriesKeep}
 use Rattle.trial_core.proofs.Rounds.{gone_back, restored}
+use Rattle.trial_core.proofs.Unturned.{not_half_turned}
 use Rattle.convert_core.specs.command_answers.declared.answer.Answer.TheVariants as answer
 
 -- ---- what was made
@@ -41,6 +41,7 @@ made_whole described marks number old mid new few room long written only settled
       written = written;
       settled = synced_settled mid;
       described = subst (IsAsDescribed number) (sym written) is;
+      unturned = ap (λ (image : Image). is_half_turned image) written ∙ not_half_turned number (reads old) room long;
       free = free_kept marks number old mid few room long written only;
     })
 

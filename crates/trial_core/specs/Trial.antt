@@ -12,6 +12,7 @@ use Rattle.reiser_make.specs.Shape.{shape}
 use Rattle.reiser_make_laws.specs.Laws.{made}
 use Rattle.reiser_bitmap.specs.vol_block.declared.format.Format.TheVariants.{Neither}
 use Rattle.reiser_bitmap.specs.vol_block.declared.ids.Ids.{Ids}
+use Rattle.super_turn.specs.PutBack.{is_half_turned}
 use Rattle.trial_core.specs.Parts.{summary_of}
 use Rattle.trial_core.specs.declared.summary.TrialSummary.{TrialSummary}
 use Rattle.trial_core.specs.Round.{IsRound}
@@ -33,11 +34,13 @@ pub record IsScratch (disk : Image) : Type 0 where
 abbrev pub KeepsFree : Image → Image → Type 0
 KeepsFree disk image = (b : ℕ) → has (used_of image) b ≡ false → block_at image b ≡ block_at disk b
 
--- The sample was made, and has reached the disk. It is an accepted volume with the rows of its number, and no other block was written.
+-- The sample was made, and has reached the disk. It is an accepted volume with the rows of its number, of which block 16 is not half turned,
+-- and no other block was written.
 pub record IsSampleMade (number : ℕ) (old new : History) : Type 0 where
   pub written : reads new ≡ sample_on number (reads old)
   pub settled : IsSettled new
   pub described : IsAsDescribed number (reads new)
+  pub unturned : is_half_turned (reads new) ≡ false
   pub free : KeepsFree (reads old) (reads new)
 
 -- The sample was made on the disk, and no block that it leaves free was written. It was converted and rolled back.

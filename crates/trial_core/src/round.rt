@@ -1,5 +1,5 @@
 // A volume that is converted and rolled back.
-ghost use Rattle.std.specs.Prelude.{◌≡◌, ◌≤◌, ◌<◌, ◌^◌, Some, IfErr, IsTrue, OnOk, length};
+ghost use Rattle.std.specs.Prelude.{◌≡◌, ◌≤◌, ◌<◌, ◌^◌, false, Some, IfErr, IsTrue, OnOk, length};
 ghost use Rattle.std.specs.Result.{MatchResult};
 ghost use Rattle.convert_core_laws.specs.going_back.Back.{GoesBack};
 ghost use Rattle.btr_reader.specs.Parts.{ListsBtrfs};
@@ -14,6 +14,7 @@ ghost use Rattle.trial_core.specs.Answers.{IsTrialReadAnswer, IsRoundAnswer, Lea
 ghost use Rattle.trial_core.specs.Round.{FreeAreBytes, IsKnownVolume, IsRound, IsTrialSummary, plain};
 ghost use Rattle.trial_core.specs.Parts.{used_mark};
 ghost use Rattle.first_sync.specs.Synced.{GoesOn, synced_now};
+ghost use Rattle.super_turn.specs.PutBack.{is_half_turned};
 
 use crate::answers::{changed, step_answer};
 use crate::between::read_btrfs_rows;
@@ -28,8 +29,8 @@ use reiser_volume::refusals_break_rules;
 use rollback_core::{in_order_has_format, refused_can_not_go_back};
 use std::alloc::Global;
 
-/// Converts the ReiserFS volume of a disk, which is accepted, and rolls it back. The rows before and in between are compared, and so are the
-/// used blocks before and in the end.
+/// Converts the ReiserFS volume of a disk, which is accepted and of which block 16 is not half turned, and rolls it back. The rows before
+/// and in between are compared, and so are the used blocks before and in the end.
 ///
 /// Where the volume has too little space for a conversion, nothing was written, but the disk was synced.
 pub fn go_round<D: Disk>(
@@ -44,10 +45,10 @@ pub fn go_round<D: Disk>(
     ensures open { D.opened disk.new ≡ D.opened disk.old }
     ensures size { D.size disk.new ≡ D.size disk.old }
     ensures grows { IsTrue D.tells → GoesOn (D.history disk.old) (D.history disk.new) }
-    ensures told { OverTold D.tells (reads (D.history disk.old)) (λ image. IsAccepted image →
+    ensures told { OverTold D.tells (reads (D.history disk.old)) (λ image. IsAccepted image → is_half_turned image ≡ false →
         MatchResult result (λ told. IsRound ids.now now image (reads (D.history disk.new)) × IsTrialSummary image told) (RefusesRound image)) }
     ensures settled { IsTrue D.tells → OnOk result (IsSettled (D.history disk.new)) }
-    ensures leaves { IsTrue D.tells → IfErr result (LeavesRound (synced_now (D.history disk.old)) (D.history disk.new)) }
+    ensures leaves { IsTrue D.tells → is_half_turned (reads (D.history disk.old)) ≡ false → IfErr result (LeavesRound (synced_now (D.history disk.old)) (D.history disk.new)) }
     ensures cause { HasCauseOf Answer.Fault (D.faults disk.old) (D.faults disk.new) result }
     ensures answers { IfErr result IsRoundAnswer }
 {
@@ -71,10 +72,10 @@ fn go_there<D: Disk>(
     ensures open { D.opened disk.new ≡ D.opened disk.old }
     ensures size { D.size disk.new ≡ D.size disk.old }
     ensures grows { IsTrue D.tells → GoesOn (D.history disk.old) (D.history disk.new) }
-    ensures told { OverTold D.tells (reads (D.history disk.old)) (λ image. IsAccepted image → IsKnownVolume image known.now →
+    ensures told { OverTold D.tells (reads (D.history disk.old)) (λ image. IsAccepted image → is_half_turned image ≡ false → IsKnownVolume image known.now →
         MatchResult result (λ _. IsConverted plain ids.now now image (reads (D.history disk.new)) × ListsBtrfs (reads (D.history disk.new)) known.now.rows × (FreeAreBytes image → GoesBack image (reads (D.history disk.new))))
         (RefusesRound image)) }
-    ensures leaves { IsTrue D.tells → IfErr result (LeavesRound (synced_now (D.history disk.old)) (D.history disk.new)) }
+    ensures leaves { IsTrue D.tells → is_half_turned (reads (D.history disk.old)) ≡ false → IfErr result (LeavesRound (synced_now (D.history disk.old)) (D.history disk.new)) }
     ensures cause { HasCauseOf Answer.Fault (D.faults disk.old) (D.faults disk.new) result }
     ensures answers { IfErr result IsRoundAnswer }
 {
@@ -99,9 +100,9 @@ fn convert<D: Disk>(alloc: Global, ids: &Ids, now: u64, disk: &mut D) -> Result<
     ensures open { D.opened disk.new ≡ D.opened disk.old }
     ensures size { D.size disk.new ≡ D.size disk.old }
     ensures grows { IsTrue D.tells → GoesOn (D.history disk.old) (D.history disk.new) }
-    ensures told { OverTold D.tells (reads (D.history disk.old)) (λ image. IsAccepted image →
+    ensures told { OverTold D.tells (reads (D.history disk.old)) (λ image. IsAccepted image → is_half_turned image ≡ false →
         MatchResult result (λ _. IsConverted plain ids.now now image (reads (D.history disk.new))) (RefusesRound image)) }
-    ensures leaves { IsTrue D.tells → IfErr result (LeavesRound (synced_now (D.history disk.old)) (D.history disk.new)) }
+    ensures leaves { IsTrue D.tells → is_half_turned (reads (D.history disk.old)) ≡ false → IfErr result (LeavesRound (synced_now (D.history disk.old)) (D.history disk.new)) }
     ensures cause { HasCauseOf Answer.Fault (D.faults disk.old) (D.faults disk.new) result }
     ensures answers { IfErr result IsRoundAnswer }
 {

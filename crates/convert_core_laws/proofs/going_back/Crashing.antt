@@ -1,5 +1,9 @@
 -- What a crash leaves before block 16 is turned stands as the volume before.
-use Rattle.convert_core_laws.proofs.Imports.{◌≡◌, ◌≢◌, ℕ, nat_le, List, length, sym, ap, ◌∙◌, arith, if◌then◌else◌, SUPER_BLOCK, format_in, Image, block_at, format, Btrfs, Neither, KeepsOldVolume, IsConvertible, StandsAsBefore, superblock_in, UsedBlocksDecide, IsAccepted, superblock, Options}
+use Rattle.convert_core_laws.proofs.Imports.{◌≡◌, ◌≢◌, ℕ, nat_le, List, length, sym, ap, ◌∙◌, arith, if◌then◌else◌, SUPER_BLOCK, format_in, Image, block_at, format, Btrfs, Neither, KeepsOldVolume, IsConvertible, IsHalfConverted, StandsAsBefore, UsedBlocksDecide, IsSameVolume, IsAccepted, superblock, Options}
+use Rattle.reiser_volume.proofs.reiser_bitmap.SystemBlocks.{superblock_in}
+use Rattle.reiser_volume.proofs.Unchanged.{put_back_same}
+use Rattle.super_turn.specs.PutBack.{put_back}
+use Rattle.super_turn.proofs.Backs.{keeps as put_keeps}
 
 module _ (decide : UsedBlocksDecide) (o : Options) (image other : Image) (other_format : format_in image ≢ Btrfs) (can : IsConvertible o image) (before : KeepsOldVolume image other) where
   accepted : IsAccepted image
@@ -19,3 +23,22 @@ module _ (decide : UsedBlocksDecide) (o : Options) (image other : Image) (other_
     format = λ is. other_format (sym same_format ∙ is);
     same = decide image other accepted before.used (let fits = accepted.clean.superblock.fits in let size = before.size in omega (arith, fits, size));
   }
+
+-- one volume is the same as another, and that as a third
+pub then_same : (one two three : Image) → IsSameVolume one two → IsSameVolume two three → IsSameVolume one three
+then_same one two three first second = record {
+  accepted = second.accepted;
+  fields = second.fields ∙ first.fields;
+  used = second.used ∙ first.used;
+  items = second.items ∙ first.items;
+  rows = λ rows. (λ is. (second.rows rows).0 ((first.rows rows).0 is), λ is. (first.rows rows).1 ((second.rows rows).1 is));
+}
+
+-- while block 16 is half turned the volume before stands, with its rows, as when it is put back
+pub half_stands : UsedBlocksDecide → (o : Options) (image other : Image) → format_in image ≢ Btrfs → IsConvertible o image → IsHalfConverted image other → StandsAsBefore image other
+half_stands decide o image other other_format can half =
+    let back : StandsAsBefore image (put_back other) = stands decide o image (put_back other) other_format can half.old in
+    record {
+      format = λ is. back.format (put_keeps.format other ∙ is);
+      same = then_same image (put_back other) other back.same (put_back_same.before other back.same.accepted);
+    }

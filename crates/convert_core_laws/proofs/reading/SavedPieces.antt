@@ -1,8 +1,7 @@
 -- The pieces that hold blocks of the old volume, by these blocks.
-use Rattle.convert_core_laws.proofs.Imports.{◌≡◌, ◌≤◌, ◌<◌, ℕ, zero, suc, ◌+◌, ◌*◌, ◌==◌, inl, eqb, Bool, true, false, List, [], ◌∷◌, ◌++◌, length, take, drop, filter, get_or, Option, Some, None, refl, sym, ap, subst, ◌∙◌, ⊎_elim, arith, length-drop, Contains, MatchOption, AllByRecursion, option_map_or, and_parts, both_ways, cases_lt, eq-eqb, le-ltb, is_lt, nat_cmp, Less, Equal, Greater, All-contains_itself, All-drop, All-take, Contains-append_cases, Contains-append_left, Contains-append_right, get_or_default, take-append-drop, Contains-permutation, IsPermutation-sym, EXTENT_DATA, from_filter, in_filter, Image, has, contains_cases, contains_head, contains_tail, used_of, make_key, Key, Item, keys_of, IsNodeSize, ascends, is_before, MapRange, IsMaking, Making, HasPieces, well, piece_apart, owner, tails, files_of, CoverUsed, HasPlan, HoldsBlock, LieWell, Owners, FitsPlan, at_place, at_places, blocks_of_units, pieces_cover_used, all_at, extents_at, pieces_of_volume, source_block, ascending_all, ascending_filter, used_few, Piece, map_for}
+use Rattle.convert_core_laws.proofs.Imports.{◌≡◌, ◌≤◌, ◌<◌, ℕ, zero, suc, ◌+◌, ◌*◌, ◌==◌, inl, eqb, Bool, true, false, List, [], ◌∷◌, ◌++◌, length, take, drop, filter, get_or, Option, Some, None, refl, sym, ap, subst, ◌∙◌, ⊎_elim, arith, Contains, MatchOption, AllByRecursion, option_map_or, and_parts, both_ways, cases_lt, eq-eqb, le-ltb, is_lt, nat_cmp, Less, Equal, Greater, All-contains_itself, All-drop, All-take, Contains-append_cases, get_or_default, Contains-permutation, IsPermutation-sym, EXTENT_DATA, from_filter, in_filter, Image, has, contains_cases, contains_head, contains_tail, used_of, make_key, Key, Item, keys_of, IsNodeSize, ascends, is_before, MapRange, IsMaking, Making, HasPieces, well, piece_apart, owner, tails, files_of, CoverUsed, HasPlan, HoldsBlock, LieWell, Owners, at_place, at_places, blocks_of_units, pieces_cover_used, all_at, extents_at, pieces_of_volume, source_block, ascending_all, ascending_filter, used_few, Piece, map_for}
 use Rattle.std.proofs.Common.{is_some, if◌then◌else◌}
-use Rattle.convert_core.proofs.extent_pieces.Apart.{plans_have_room}
-use Rattle.convert_core.proofs.extent_pieces.Placing.{length-blocks}
+use Rattle.convert_core.proofs.Copying.{at_its_place}
 use Rattle.convert_core_laws.proofs.reading.Mapped.{all_itself}
 use Rattle.convert_core_laws.proofs.reading.SavedExtents.{AreSources, Holds, IsSource}
 
@@ -74,14 +73,6 @@ from_is (Some b) t = refl
 inside_of : (o : Option ℕ) (count blocks : ℕ) → is_some o ≡ true → MatchOption o (Unit {0}) (λ b. b + count ≤ blocks) → option_map_or (λ b. b) o 0 + count ≤ blocks
 inside_of None count blocks t h = absurd (cc t)
 inside_of (Some b) count blocks t h = h
-
--- an element that gets a place
-placed_there : (ps : List Piece) (places : List ℕ) (p : Piece) → length ps ≤ length places → Contains ps p → (b : ℕ) × Contains (at_places ps places) (at_place p b)
-placed_there [] places p few h = absurd (omega (arith, h.1))
-placed_there (q ∷ ps) [] p few h = absurd (omega (arith, few))
-placed_there (q ∷ ps) (b ∷ bs) p few h =
-    ⊎_elim (λ (same : q ≡ p). (b, subst (λ (z : Piece). Contains (at_place q b ∷ at_places ps bs) (at_place z b)) same (contains_head (at_place q b) (at_places ps bs))))
-    (λ (later : Contains ps p). let r = placed_there ps bs p (omega (arith, few)) later in (r.0, contains_tail (at_place p r.0) (at_place q b) (at_places ps bs) r.1)) (contains_cases p q ps h)
 
 -- an element that has a place
 from_places : (ps : List Piece) (places : List ℕ) (q : Piece) → Contains (at_places ps places) q → (p : Piece) × Contains ps p × (p.from ≡ q.from) × (p.count ≡ q.count)
@@ -212,33 +203,6 @@ module _ (image : Image) (m : Making) (made : IsMaking image m) (size : IsNodeSi
 
   -- ---- used blocks
 
-  enough : length back_part ≤ length spots
-  enough =
-      let fits : FitsPlan of.found m.plan.data_ = plans_have_room image of.found m.options m.plan plan in
-      let room = fits.room in
-      let long = length-drop of.found.kept of.found.items.items in
-      let many = length-blocks m.plan.data_ in
-      omega (arith, room, long, many)
-
-  -- the piece with its place
-  record IsPlaced (p : Piece) : Type 0 where
-    q : Piece
-    among : Contains m.pieces q
-    from : q.from ≡ p.from
-    count : q.count ≡ p.count
-
-  in_place : (q : Piece) → Contains (front ++ at_places back_part spots) q → Contains m.pieces q
-  in_place q h = Contains-permutation (front ++ at_places back_part spots) m.pieces q of.placed.same h
-
-  at_its_place : (p : Piece) → Contains old p → IsPlaced p
-  at_its_place p h =
-      ⊎_elim
-      (λ first. record { q = p; among = in_place p (Contains-append_left front (at_places back_part spots) p first); from = refl; count = refl })
-      (λ later.
-      let at = placed_there back_part spots p enough later in
-      record { q = at_place p at.0; among = in_place (at_place p at.0) (Contains-append_right front (at_places back_part spots) (at_place p at.0) at.1); from = refl; count = refl })
-      (Contains-append_cases front back_part p (subst (λ (ps : List Piece). Contains ps p) (sym (take-append-drop of.found.kept old)) h))
-
   -- a piece that holds blocks of the volume is in the list
   in_list : (q : Piece) → Contains m.pieces q → is_some q.from ≡ true → Contains (pieces_of_volume m.pieces) q
   in_list q h t =
@@ -257,7 +221,7 @@ module _ (image : Image) (m : Making) (made : IsMaking image m) (size : IsNodeSi
       let at = covered.whole b t in
       let p : Piece = at.1 in
       let holds : HoldsBlock b p = at.4 in
-      let there : IsPlaced p = at_its_place p (at.0, at.2, at.3) in
+      let there = at_its_place m.volume image m.options m.plan m.pieces of p (at.0, at.2, at.3) in
       let from : there.q.from ≡ Some holds.0 = there.from ∙ holds.1 in
       let start : source_block there.q ≡ holds.0 = ap (λ (o : Option ℕ). option_map_or (λ n. n) o 0) from in
       let count = there.count in

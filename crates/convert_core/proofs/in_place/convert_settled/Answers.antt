@@ -1,5 +1,5 @@
-use Rattle.convert_core.proofs.Imports.{◌≡◌, ◌≢◌, ◌∙◌, inl, refl, sym, ap, subst, both_ways, err_from_is_err_and, Btrfs, format_in, History, reads, reads_only, left_unwritten, IsSwitchPart, GoesOn, goes_on, stays_on, then_goes_on, RefusesConvert}
-use Rattle.convert_core.proofs.Crashing.{MayWrite, behind_for, converted, early_crash, keeps_behind, may_go_on, may_keep, switch_crash}
+use Rattle.convert_core.proofs.Imports.{◌≡◌, ◌≢◌, ◌∙◌, inl, refl, sym, ap, subst, both_ways, err_from_is_err_and, Btrfs, format_in, History, reads, left_unwritten, RefusesConvert}
+use Rattle.convert_core.proofs.Crashing.{MayWrite, behind_for, converted, early_crash, keeps_behind, may_keep, may_places, switch_crash, switch_only, switch_outside}
 use Rattle.convert_core.proofs.Ending.{refuses}
 use Rattle.convert_core.proofs.in_place.convert_settled.Goals as goal
 
@@ -59,7 +59,7 @@ returns-clause-converted g c = λ tells image is.
     let may = subst (λ (h : History). MayWrite c.args.options.now h (g.D.Disk.history c.write_volume.new.disk)) same (c.write_volume.ensures.only tells _ refl) in
     let behind =
     keeps_behind c.args.options.now c.args.ids.now c.args.now _ _ may _ (c.in_ok-written.ensures.written tells _ (ap reads same)) c.in_ok-written.ensures.room.0 _
-    (reads_only (IsSwitchPart _ _) _ _ (c.switch_to.ensures.only tells)) in
+    (switch_outside _ _ _ _ (c.switch_to.ensures.only tells)) in
     let down = c.in_ok-written.ensures.written tells image (ap reads same ∙ is) in
     (converted c.args.options.now c.args.ids.now c.args.now image _ _ down c.requires.size _ (c.in_ok-switch_to.ensures.written tells) (behind_for image _ _ is behind) (c.in_ok-switch_to.ensures.copies tells), down.summary)
 
@@ -77,23 +77,26 @@ returns-in_err-written-clause-memory g c = λ tells.
     rw err.1
     (λ memory. may_keep c.args.options.now _ _ may)
 
-pub returns-in_err-found-clause-grows : goal.returns-in_err-found-clause-grows
-returns-in_err-found-clause-grows g c = λ tells. stays_on _ _ (g.met.D.Disk.kept_history _ _ tells c.find_format.ensures.kept)
+pub returns-in_err-found-clause-only : goal.returns-in_err-found-clause-only
+returns-in_err-found-clause-only g c = λ tells. may_places c.args.options.now _ _ (inl (g.met.D.Disk.kept_history _ _ tells c.find_format.ensures.kept))
 
-pub returns-then-is_btrfs-clause-grows : goal.returns-then-is_btrfs-clause-grows
-returns-then-is_btrfs-clause-grows g c = λ tells. stays_on _ _ (g.met.D.Disk.kept_history _ _ tells c.find_format.ensures.kept)
+pub returns-then-is_btrfs-clause-only : goal.returns-then-is_btrfs-clause-only
+returns-then-is_btrfs-clause-only g c = λ tells. may_places c.args.options.now _ _ (inl (g.met.D.Disk.kept_history _ _ tells c.find_format.ensures.kept))
 
-pub returns-in_err-written-clause-grows : goal.returns-in_err-written-clause-grows
-returns-in_err-written-clause-grows g c = λ tells.
-    subst (λ (h : History). GoesOn h (g.D.Disk.history c.write_volume.new.disk)) (g.met.D.Disk.kept_history _ _ tells c.find_format.ensures.kept)
-    (may_go_on c.args.options.now _ _ (c.write_volume.ensures.only tells _ refl))
+pub returns-in_err-written-clause-only : goal.returns-in_err-written-clause-only
+returns-in_err-written-clause-only g c = λ tells.
+    let same : g.D.Disk.history c.find_format.new.src ≡ g.D.Disk.history c.args.disk.now = g.met.D.Disk.kept_history _ _ tells c.find_format.ensures.kept in
+    let may = subst (λ (h : History). MayWrite c.args.options.now h (g.D.Disk.history c.write_volume.new.disk)) same (c.write_volume.ensures.only tells _ refl) in
+    may_places c.args.options.now _ _ may
 
-pub returns-clause-grows : goal.returns-clause-grows
-returns-clause-grows g c = λ tells.
-    subst (λ (h : History). GoesOn h (g.D.Disk.history c.switch_to.new.disk)) (g.met.D.Disk.kept_history _ _ tells c.find_format.ensures.kept)
-    (then_goes_on _ _ _ (may_go_on c.args.options.now _ _ (c.write_volume.ensures.only tells _ refl)) (goes_on _ _ _ (c.switch_to.ensures.only tells)))
+pub returns-clause-only : goal.returns-clause-only
+returns-clause-only g c = λ tells.
+    let same : g.D.Disk.history c.find_format.new.src ≡ g.D.Disk.history c.args.disk.now = g.met.D.Disk.kept_history _ _ tells c.find_format.ensures.kept in
+    let may = subst (λ (h : History). MayWrite c.args.options.now h (g.D.Disk.history c.write_volume.new.disk)) same (c.write_volume.ensures.only tells _ refl) in
+    switch_only c.args.options.now c.args.ids.now c.args.now _ _ _ may _ (c.in_ok-written.ensures.written tells _ (ap reads same)) (c.switch_to.ensures.only tells)
 
-pub returns-in_err-switch_to-clause-grows : goal.returns-in_err-switch_to-clause-grows
-returns-in_err-switch_to-clause-grows g c = λ tells.
-    subst (λ (h : History). GoesOn h (g.D.Disk.history c.switch_to.new.disk)) (g.met.D.Disk.kept_history _ _ tells c.find_format.ensures.kept)
-    (then_goes_on _ _ _ (may_go_on c.args.options.now _ _ (c.write_volume.ensures.only tells _ refl)) (goes_on _ _ _ (c.switch_to.ensures.only tells)))
+pub returns-in_err-switch_to-clause-only : goal.returns-in_err-switch_to-clause-only
+returns-in_err-switch_to-clause-only g c = λ tells.
+    let same : g.D.Disk.history c.find_format.new.src ≡ g.D.Disk.history c.args.disk.now = g.met.D.Disk.kept_history _ _ tells c.find_format.ensures.kept in
+    let may = subst (λ (h : History). MayWrite c.args.options.now h (g.D.Disk.history c.write_volume.new.disk)) same (c.write_volume.ensures.only tells _ refl) in
+    switch_only c.args.options.now c.args.ids.now c.args.now _ _ _ may _ (c.in_ok-written.ensures.written tells _ (ap reads same)) (c.switch_to.ensures.only tells)

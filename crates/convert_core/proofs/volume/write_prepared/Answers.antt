@@ -81,7 +81,7 @@ returns-clause-written g c = λ tells image is ids prepared.
     let laid = g.D.Disk.history c.write_nodes.new.disk in
     let end = g.D.Disk.history c.sync.new.self in
     put_down image o ids p prepared c.args.now chunks.0 chunks.1 c.requires.size start mid laid end is (c.write_moved.ensures.only tells) (c.write_nodes.ensures.only tells)
-    (sync_reads laid end c.sync.result (c.sync.ensures.effect tells)) _ c.in_ok-trees.trees hold stand (c.in_ok-superblock.ensures.bytes chunks.0 chunks.1) (ap (λ (s : Super). s.blocks) c.sup.ensures)
+    (sync_reads laid end c.sync.result (c.sync.ensures.effect tells)) _ c.in_ok-trees.trees hold stand (c.in_ok-superblock.ensures.bytes chunks.0 chunks.1) (ap (λ (s : Super). s.blocks) c.sup.ensures) c.superblock_copy.ensures
     (c.summary_of.ensures ∙ ap (λ (n : Counts). summary_by n p.need) c.counts.ensures)
 
 pub summary_of-requires : goal.summary_of-requires

@@ -1,4 +1,4 @@
-use Rattle.std.proofs.lemmas.Option.{get_or_from_slice_get, slice_get_within}
+use Rattle.convert_core.proofs.Imports.{get_or_from_slice_get, slice_get_within}
 use Rattle.convert_core.proofs.Wholeness.{placed_more}
 use Rattle.convert_core.proofs.whole.are_placed.Goals as goal
 

@@ -1,5 +1,4 @@
-use Rattle.trial_core.proofs.Imports.{sym, ◌∙◌, ap, subst, HasBtrfsRows, Image, block_at, Answer, StopsUnless, by_step}
-use Rattle.btrfs_format.specs.declared.block.TheConstants.{SUPER_BLOCK}
+use Rattle.trial_core.proofs.Imports.{sym, ◌∙◌, ap, subst, HasBtrfsRows, Image, block_at, Answer, StopsUnless, by_step, SUPER_BLOCK}
 use Rattle.trial_core.proofs.Refusing.{btrfs_refused}
 use Rattle.trial_core.proofs.between.read_btrfs_rows.Goals as goal
 

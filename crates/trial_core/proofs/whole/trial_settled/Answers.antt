@@ -25,7 +25,7 @@ returns-clause-tried g c = λ tells image is.
     let made = subst (λ (h : History). IsSampleMade c.args.number h mid) same (c.in_ok-make_sample.ensures.made tells) in
     subst (λ (disk : Image). MatchResult c.go_round.result (λ told. IsTried c.args.number c.args.ids.now c.args.now disk (reads new) × (told ≡ trial_summary c.args.number)) (RefusesTrial c.args.number disk)) is
     (tried_result c.args.number c.args.ids.now c.args.now old mid new scratch c.in_ok-make_sample.ensures.enough made c.rows_are_one.ensures c.go_round.result
-    (c.go_round.ensures.told tells (reads mid) refl made.described.accepted))
+    (c.go_round.ensures.told tells (reads mid) refl made.described.accepted made.unturned))
 
 pub returns-clause-leaves : goal.returns-clause-leaves
 returns-clause-leaves g c = λ tells.
@@ -36,7 +36,7 @@ returns-clause-leaves g c = λ tells.
     let scratch = c.in_ok-check_scratch.ensures.found tells (reads old) (g.met.D.Disk.open_blocks c.args.disk.now _ tells c.requires.«open») in
     let made = subst (λ (h : History). IsSampleMade c.args.number h mid) same (c.in_ok-make_sample.ensures.made tells) in
     leaves_result c.args.number c.args.ids.now c.args.now old mid new scratch c.in_ok-make_sample.ensures.enough made c.go_round.result
-    (c.go_round.ensures.told tells (reads mid) refl made.described.accepted) (c.go_round.ensures.leaves tells)
+    (c.go_round.ensures.told tells (reads mid) refl made.described.accepted made.unturned) (c.go_round.ensures.leaves tells made.unturned)
 
 pub returns-in_err-check_scratch-clause-grows : goal.returns-in_err-check_scratch-clause-grows
 returns-in_err-check_scratch-clause-grows g c = λ tells. stays_on _ _ (g.met.D.Disk.kept_history _ _ tells c.check_scratch.ensures.kept)
