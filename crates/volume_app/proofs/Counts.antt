@@ -1,5 +1,6 @@
 -- A number with another count of words behind it than one is no trial.
-use Rattle.volume_app.proofs.Imports.{◌≡◌, ℕ, ◌<◌, List, [], ◌∷◌, length, map, refl, arith, numbered}
+use Rattle.volume_app.proofs.Imports.{◌≡◌, ℕ, ◌<◌, List, [], length, map, refl, arith, numbered}
+use Rattle.std.proofs.Common.{◌∷◌}
 use Rattle.std.specs.Prelude.{None}
 
 pub too_few : {A : Type 0} (bytes : A → List ℕ) (number : List ℕ) (words : List A) → length words < 1 → None ≡ numbered number (map bytes words)

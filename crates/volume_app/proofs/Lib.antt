@@ -9,7 +9,9 @@ pub mod OneText
 pub mod Outcomes
 pub mod Performing
 pub mod Promise
+pub mod Recoveries
 pub mod Space
 pub mod Telling
 pub mod Trees
 pub mod Trials
+pub mod Undone

@@ -1,17 +1,14 @@
 -- What is promised of crashes, said of every moment of a command.
-use Rattle.volume_app.proofs.Imports.{inl, inr, ⊎_elim, Some, None, refl, sym, subst, Option, Image, SpareBlocksDecideNothing, Asked, inspect, list, convert, recover, rollback, trial, help, version, LeavesTree, CrashesAtAnyMoment}
-use Rattle.first_sync.specs.Laws.{FirstSyncParts}
+use Rattle.volume_app.proofs.Imports.{inl, inr, ⊎_elim, Some, None, refl, sym, subst, Option, Image, SpareBlocksDecideNothing, Asked, inspect, list, convert, recover, rollback, trial, help, version, LeavesTree, CrashesAtAnyMoment, FirstSyncParts}
+use Rattle.volume_app.proofs.Trees.{as_it_was as not_turned, keeps_putting, putting_tree}
 
 -- a disk that is as it was is one that may be left
 as_it_was : SpareBlocksDecideNothing → (asked : Option Asked) (disk : Image) → LeavesTree asked disk disk
 as_it_was spare None disk = refl
 as_it_was spare (Some (inspect o path)) disk = refl
 as_it_was spare (Some (list path)) disk = refl
-as_it_was spare (Some (convert o path)) disk = inl refl
-as_it_was spare (Some (recover path)) disk = record {
-  opens = λ f rows is. is;
-  goes_back = λ is. spare disk disk is (record { size = refl; others = λ b outside. refl });
-}
+as_it_was spare (Some (convert o path)) disk = inl (putting_tree disk disk (not_turned disk))
+as_it_was spare (Some (recover path)) disk = keeps_putting disk disk (not_turned disk)
 as_it_was spare (Some (rollback path)) disk = inl refl
 as_it_was spare (Some (trial number path)) disk = tt
 as_it_was spare (Some help) disk = refl

@@ -1,5 +1,5 @@
 -- What an ending that is right for a disk comes to.
-use Rattle.volume_app.proofs.Imports.{◌≡◌, ◌⊎◌, inl, inr, ℕ, ◌-◌, ◌^◌, ◌<◌, List, refl, ap, subst, ⊎_elim, arith, Result, Ok, Err, ◌≢◌, Option, Format, HasCause, Rose, Takes, Image, Answer, Volume, Btr, NoSpace, WrongFormat, ImageMissing, ImageMoved, ImageDamaged, ReservedUsed, NotSound, ImageShared, Fault, Memory, Ending, Done, Usage, Failed, OutputFault, Ids, IsConvertible, IsSurvey, Survey, LacksSpace, IsRecoverable, HasBytes, RefusesTrial, sample_on, need, Options, Asked, inspect, list, convert, recover, rollback, trial, help, version, status, IsAccepted, format_in, IsInspectable, InspectRefuses, IsListable, ListRefuses, rows_not_refused, EndsRight, HasFaults, IsDoneWith, Prints, Reports, ending_of, meaning, IsTriable}
+use Rattle.volume_app.proofs.Imports.{◌≡◌, ◌⊎◌, inl, inr, ℕ, ◌-◌, ◌^◌, ◌<◌, List, refl, ap, subst, ⊎_elim, arith, Result, Ok, Err, ◌≢◌, Option, Format, HasCause, Rose, Takes, Image, Answer, Volume, Btr, NoSpace, WrongFormat, ImageMissing, ImageMoved, ImageDamaged, ReservedUsed, NotSound, ImageShared, Fault, Memory, Ending, Done, Usage, Failed, OutputFault, Ids, IsConvertible, IsSurvey, Survey, LacksSpace, IsRecoverable, HasBytes, RefusesTrial, sample_on, need, Options, Asked, inspect, list, convert, recover, rollback, trial, help, version, status, IsAccepted, format_in, IsInspectable, InspectRefuses, IsListable, ListRefuses, rows_not_refused, EndsRight, HasFaults, IsDoneWith, Prints, Reports, ending_of, meaning, IsTriable, put_back, CanGoBack}
 use Rattle.std.specs.Prelude.{Some, None}
 use Rattle.convert_core.specs.Answers.{RefusesConvert}
 use Rattle.rollback_core.specs.RecoveryAnswers.{RefusesRecover}
@@ -7,7 +7,6 @@ use Rattle.rollback_core.proofs.RecoveryKeeping.{in_order_recovers}
 use Rattle.rollback_core.specs.RollbackAnswers.{RefusesRollback}
 use Rattle.rollback_core.proofs.Refusing.{refused_can_not}
 use Rattle.reiser_volume.proofs.Refusals.{not_refused}
-use Rattle.volume_state.specs.GoingBack.{CanGoBack}
 use Rattle.volume_app.proofs.Convertible.{accepted_is_reiser}
 use Rattle.volume_app.proofs.Space.{missing}
 use Rattle.reiser_volume.specs.vol_block.declared.format.Format.TheVariants as formats
@@ -151,8 +150,8 @@ failed_done : (ids : Ids) (now : ℕ) (asked : Option Asked) (disk : Image) (ans
 failed_done ids now None disk answer disk_old disk_new done right device same low = absurd done
 failed_done ids now (Some (inspect o path)) disk answer disk_old disk_new done right device same low = inspect_done disk answer disk_old disk_new done right device same low
 failed_done ids now (Some (list path)) disk answer disk_old disk_new done right device same low = list_done disk answer disk_old disk_new done right device same low
-failed_done ids now (Some (convert o path)) disk answer disk_old disk_new done right device same low = convert_done o disk answer disk_old disk_new done right device same low
-failed_done ids now (Some (recover path)) disk answer disk_old disk_new done right device same low = recover_done disk answer disk_old disk_new done right device same low
+failed_done ids now (Some (convert o path)) disk answer disk_old disk_new done right device same low = convert_done o (put_back disk) answer disk_old disk_new done right device same low
+failed_done ids now (Some (recover path)) disk answer disk_old disk_new done right device same low = recover_done (put_back disk) answer disk_old disk_new done right device same low
 failed_done ids now (Some (rollback path)) disk answer disk_old disk_new done right device same low = rollback_done disk answer disk_old disk_new done right device same low
 failed_done ids now (Some (trial number path)) disk answer disk_old disk_new done right device same low = trial_done number disk answer disk_old disk_new done right device same low
 failed_done ids now (Some help) disk answer disk_old disk_new done right device same low = absurd right

@@ -1,7 +1,7 @@
 -- What is said of a command that was done, or failed, from what is said of its parts.
-use Rattle.volume_app.proofs.Imports.{◌≡◌, ◌⊎◌, ⊎_elim, ℕ, Bool, false, List, Result, Ok, Err, refl, sym, ap, arith, true≢false, IsTrue, Option, HasCause, HasCauseOf, Takes, EachCrashSynced, synced_now, synced_settled, uncalled, History, Image, IsSettled, reads, Answer, Fault, Memory, Asked, status, EndsRight, HasFaults, IsDoneWith, IsQuiet, Knows, Performs, ending_of, Ending, Done, Usage, Failed, OutputFault}
+use Rattle.volume_app.proofs.Imports.{◌≡◌, ◌⊎◌, ⊎_elim, ℕ, Bool, false, List, Result, Ok, Err, refl, sym, ap, arith, true≢false, IsTrue, Option, HasCause, HasCauseOf, Takes, EachCrashSynced, synced_now, synced_settled, uncalled, History, Image, IsSettled, reads, Answer, Fault, Memory, Asked, status, EndsRight, HasFaults, IsDoneWith, IsQuiet, Knows, Performs, ending_of, Ending, Done, Usage, Failed, OutputFault, IsPutBackAlone, put_back}
 use Rattle.std.specs.Prelude.{Some, None}
-use Rattle.volume_app.specs.Meaning.{IsSame, Meaning, begun, no_command, reads_disk, says}
+use Rattle.volume_app.specs.Meaning.{IsSame, Meaning, no_command, reads_disk, says}
 use Rattle.reiser_volume.specs.outside.declared.fault.Fault as faults
 use Rattle.volume_app.proofs.Outcomes.{prints_text}
 
@@ -88,7 +88,7 @@ ok_kept found before now cause = cause.kept (λ is. ok_no_err found Fault is)
 
 -- how the disk is behind a command
 pub record Leaves (m : Meaning) (tells : Bool) (old new : History) (ending : Ending) : Type 0 where
-  pub unchanged : IsTrue tells → m.keeps (reads old) (status ending) → new ≡ begun m.writes old
+  pub unchanged : IsTrue tells → m.keeps (reads old) (status ending) → m.first old new
   pub lacking : IsTrue tells → status ending ≡ 6 → m.lacking (reads old) (reads new) × (IsTrue m.writes → IsSettled new)
   pub starved : IsTrue tells → status ending ≡ 4 → m.starved (reads old) (reads new)
   pub changed : IsTrue tells → IsDoneWith ending → m.becomes (reads old) (reads new)
@@ -99,6 +99,10 @@ pub record Leaves (m : Meaning) (tells : Bool) (old new : History) (ending : End
 -- a disk that was synced alone reads as before, and is settled
 pub only_synced : {W : Type 0} (old new : History) → new ≡ synced_now old → IsSame (reads old) (reads new) × (W → IsSettled new)
 only_synced old new is = (ap reads is, λ writes. synced_settled old new is)
+
+-- the same where block 16 was put back
+pub put_alone : {W : Type 0} (old new : History) → IsPutBackAlone (synced_now old) new → (reads new ≡ put_back (reads old)) × (W → IsSettled new)
+put_alone old new alone = (alone.put, λ writes. alone.settled (λ b bytes waits. waits))
 
 -- a command that only reads writes nothing
 no_writer : {T : Type 0} → IsTrue false → T

@@ -1,7 +1,7 @@
 -- The space that a volume lacks, and the space that `inspect` tells of.
-use Rattle.volume_app.proofs.Imports.{◌≡◌, ◌∙◌, ◌≤◌, ℕ, ◌+◌, length, refl, sym, ap, subst, surveys_are_one, IsSurvey, LacksSpace, Survey, Options, used_of, Image, need, InspectTellsSpace, IsReiserSummary, ReiserSummary}
-use Rattle.unit_plan.specs.Choice.{HasEnoughSpace, longest_run}
+use Rattle.volume_app.proofs.Imports.{◌≡◌, ◌∙◌, ◌≤◌, ℕ, ◌+◌, length, refl, sym, ap, subst, surveys_are_one, IsSurvey, LacksSpace, Survey, Options, used_of, Image, need, InspectTellsSpace, IsReiserSummary, ReiserSummary, HasEnoughSpace, longest_run}
 use Rattle.unit_plan.specs.declared.need.Need.{Need}
+use Rattle.volume_app.proofs.Convertible.{lacks_before}
 
 module _ (o : Options) (disk : Image) (needed free run longest : ℕ) (l : LacksSpace disk o needed free run longest) where
   -- what was counted of the volume
@@ -32,12 +32,13 @@ module _ (o : Options) (disk : Image) (needed free run longest : ℕ) (l : Lacks
 pub inspect_tells_space : InspectTellsSpace
 inspect_tells_space o disk told is = record {
   suffices = λ units run needed free run_needed longest lacks.
-      missing o disk needed free run_needed longest lacks is.survey is.surveyed
+      missing o disk needed free run_needed longest (lacks_before o disk needed free run_needed longest lacks) is.survey is.surveyed
       (record {
         units = subst (λ (t : ReiserSummary). t.needed ≤ t.units) is.is units;
         run = subst (λ (t : ReiserSummary). t.run ≤ longest_run (used_of disk)) is.is run;
       });
-  same = λ needed free run longest lacks.
+  same = λ needed free run longest lack.
+      let lacks = lacks_before o disk needed free run longest lack in
       let space = need_told o disk needed free run longest lacks is.survey is.surveyed in (
         lacks.space.needed_is ∙ (ap (λ (n : Need). n.system + n.metadata + n.data_) space ∙ sym (ap (λ (t : ReiserSummary). t.needed) is.is)),
         lacks.space.free_is ∙ sym (ap (λ (t : ReiserSummary). t.units) is.is),

@@ -1,12 +1,10 @@
 -- What is told of a volume that was opened, and how a volume is refused.
-use Rattle.volume_app.proofs.Imports.{◌≡◌, inl, inr, ℕ, ◌-◌, ◌^◌, ◌<◌, ◌≤◌, List, [], Some, None, Ok, Contains, refl, sym, ◌∙◌, ap, subst, arith, Rose, Image, BtrAnswer, Super, opening_refusals, IsBtrfsOpened, IsAmong, own_super, own_map, way_refusals, SavedImage, IsReadable, IsBtrfsRefusal, RefusesPart, opened_super, of_disk, image_length, summary_with, summary_of}
+use Rattle.volume_app.proofs.Imports.{◌≡◌, inl, inr, ℕ, ◌-◌, ◌^◌, ◌<◌, ◌≤◌, List, [], Some, None, Ok, Contains, refl, sym, ◌∙◌, ap, subst, arith, Rose, Image, BtrAnswer, Super, opening_refusals, IsBtrfsOpened, IsAmong, own_super, own_map, way_refusals, SavedImage, IsReadable, IsBtrfsRefusal, RefusesPart, opened_super, of_disk, image_length, summary_with, summary_of, MapRange, ImageFile, saved_image, image_refusals}
 use Rattle.std.proofs.Common.{Option}
 use Rattle.std.specs.Option.{option_map}
 use Rattle.reiser_volume.specs.refusals.declared.answer.BtrAnswer.TheVariants.{Refused, Fault, Memory}
 use Rattle.reiser_volume.specs.refusals.declared.refusal.BtrRefusal.{BtrRefusal}
-use Rattle.btr_reader.specs.btr_reader_walk.declared.map.MapRange.{MapRange}
 use Rattle.btr_reader.specs.declared.image_map.ImageMap.{ImageMap}
-use Rattle.btr_reader.specs.Image.{ImageFile, saved_image, image_refusals}
 use Rattle.btr_reader.specs.Pieces.{MapsImage}
 use Rattle.btr_reader.specs.Reading.{ReadsImage}
 

@@ -1,6 +1,7 @@
 -- What a command means.
 use Rattle.std.specs.Prelude.{◌≡◌, ℕ, Bool, true, false, List, []}
 use Rattle.first_sync.specs.Synced.{synced_now}
+use Rattle.super_turn.specs.PutBack.{IsPutBackAlone}
 use Rattle.reiser_volume.specs.outside.History.{History, Image}
 use Rattle.convert_core.specs.command_answers.declared.answer.Answer.{Answer}
 
@@ -23,21 +24,29 @@ pub record Meaning : Type 1 where
   -- it may answer so on this disk, and whatever the disk gives
   pub answers : Image → Answer → Type 0
   pub knows : Answer → Type 0
-  -- with these statuses nothing is written on this disk, though a command that writes has synced it
+  -- with these statuses nothing is done on this disk but what comes first, and that is so, by the history before and behind
   pub keeps : Image → ℕ → Type 0
+  pub first : History → History → Type 0
   -- what the disk is where there is too little space, where memory ran out, and where the command is done, by what it was
   pub lacking : Image → Image → Type 0
   pub starved : Image → Image → Type 0
   pub becomes : Image → Image → Type 0
   -- what a crash at any moment since that sync may leave
   pub leaves : Image → Image → Type 0
-  -- in which order it writes, by the history before and behind it
+  -- where it writes, and in which order, by the history before and behind it
   pub order : History → History → Type 0
 
--- the history of the disk once the command has begun, where it writes or where it does not
-abbrev pub begun : Bool → History → History
-begun true h = synced_now h
-begun false h = h
+-- Nothing was called.
+abbrev pub IsUncalled : History → History → Type 0
+IsUncalled old new = new ≡ old
+
+-- Nothing was called but a sync, which succeeded.
+abbrev pub IsSyncedAlone : History → History → Type 0
+IsSyncedAlone old new = new ≡ synced_now old
+
+-- Nor that, but that a block 16 which is half turned was put back.
+abbrev pub IsSyncedBack : History → History → Type 0
+IsSyncedBack old new = IsPutBackAlone (synced_now old) new
 
 -- no order that is told of
 abbrev pub AnyOrder : History → History → Type 0
@@ -60,6 +69,7 @@ reads_disk done text refuses known = record {
   answers = refuses;
   knows = known;
   keeps = λ disk status. Unit {0};
+  first = IsUncalled;
   lacking = IsSame;
   starved = IsSame;
   becomes = IsSame;
@@ -80,6 +90,7 @@ says text = record {
   answers = λ disk answer. ⊥;
   knows = λ answer. ⊥;
   keeps = λ disk status. Unit {0};
+  first = IsUncalled;
   lacking = IsSame;
   starved = IsSame;
   becomes = IsSame;

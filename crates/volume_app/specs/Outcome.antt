@@ -15,7 +15,7 @@ use Rattle.volume_app.specs.Inspect.{inspect_meaning}
 use Rattle.volume_app.specs.Listing.{list_meaning}
 use Rattle.volume_app.specs.Recovering.{recover_meaning}
 use Rattle.volume_app.specs.RollingBack.{rollback_meaning}
-use Rattle.volume_app.specs.Meaning.{Meaning, begun, says, no_command}
+use Rattle.volume_app.specs.Meaning.{Meaning, says, no_command}
 use Rattle.volume_app.specs.Texts.{help_text, version_text}
 use Rattle.volume_app.specs.Trying.{trial_meaning}
 
@@ -107,7 +107,7 @@ pub record Performs (m : Meaning) (tells : Bool) (old new : History) (disk_old d
   pub printed : (m.asks_disk → IsTrue tells) → IsTrue out_tells → Prints (m.is_text (reads old)) ending taken_old taken_new
   pub quiet : IsTrue out_tells → IsQuiet ending → taken_new ≡ taken_old
   pub memory : ending ≡ Failed Memory → m.takes_memory
-  pub unchanged : IsTrue tells → m.keeps (reads old) (status ending) → new ≡ begun m.writes old
+  pub unchanged : IsTrue tells → m.keeps (reads old) (status ending) → m.first old new
   pub lacking : IsTrue tells → status ending ≡ 6 → m.lacking (reads old) (reads new) × (IsTrue m.writes → IsSettled new)
   pub starved : IsTrue tells → status ending ≡ 4 → m.starved (reads old) (reads new)
   pub changed : IsTrue tells → IsDoneWith ending → m.becomes (reads old) (reads new)

@@ -4,7 +4,7 @@ use Rattle.reiser_volume.specs.outside.History.{Image}
 use Rattle.rollback_core.specs.RollbackAnswers.{IsRollbackAnswer, RefusesRollback}
 use Rattle.rollback_core.specs.RolledBack.{IsLeftByRollback, IsRolledBack, rollback_summary}
 use Rattle.volume_state.specs.GoingBack.{CanGoBack}
-use Rattle.volume_app.specs.Meaning.{IsSame, Meaning, AnyOrder}
+use Rattle.volume_app.specs.Meaning.{AnyOrder, IsSame, IsSyncedAlone, Meaning}
 use Rattle.volume_app.specs.Texts.{text_of_lines}
 use Rattle.volume_app.specs.Trees.{IsRestoredTree, LeavesRestoredTree}
 use Rattle.rollback_core.specs.declared.way.RollbackSummary.{RollbackSummary}
@@ -46,6 +46,7 @@ rollback_meaning = record {
   answers = RefusesRollback;
   knows = IsRollbackAnswer;
   keeps = λ disk status. (status ≡ 1) ⊎ ((status ≡ 2) ⊎ (status ≡ 4));
+  first = IsSyncedAlone;
   lacking = IsSame;
   starved = IsSame;
   becomes = IsRolledBackWhole;

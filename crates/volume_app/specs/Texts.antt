@@ -36,7 +36,7 @@ help_text =
     ++ codes "  0 done, 1 refused or not confirmed, 2 the arguments are invalid, 3 device fault, 4 out of memory," ++ 10 ∷ []
     ++ codes "  5 done but the text could not be printed, 6 too little free space, 7 the program could not start" ++ 10 ∷ []
     ++ codes "Documents:" ++ 10 ∷ []
-    ++ codes "  the manual page reiserconv(8), and the guide docs/HOWTO.md" ++ 10 ∷ []
+    ++ codes "  the manual page reiserconv(8), and the guide HOWTO.md in /usr/share/doc/reiserconv or docs of the sources" ++ 10 ∷ []
 
 abbrev pub version_text : List ℕ
 version_text = codes "reiserconv 0.2.0" ++ 10 ∷ []

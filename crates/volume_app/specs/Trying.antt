@@ -9,7 +9,7 @@ use Rattle.trial_core.specs.Round.{plain}
 use Rattle.trial_core.specs.Trial.{IsScratch, IsTried, needed_by, sample_on, trial_summary}
 use Rattle.trial_core.specs.declared.summary.TrialSummary.{TrialSummary}
 use Rattle.reiser_volume.specs.vol_block.declared.ids.Ids.{Ids}
-use Rattle.volume_app.specs.Meaning.{AnyOrder, Meaning}
+use Rattle.volume_app.specs.Meaning.{AnyOrder, IsSyncedAlone, Meaning}
 use Rattle.volume_app.specs.Texts.{text_of_lines}
 
 abbrev pub trial_lines : ℕ → TrialSummary → List (List ℕ × List (List ℕ))
@@ -63,6 +63,7 @@ trial_meaning ids now number = record {
   answers = RefusesTrial number;
   knows = IsTrialAnswer;
   keeps = KeepsScratch number;
+  first = IsSyncedAlone;
   lacking = LeavesSample number;
   starved = λ disk other. Unit {0};
   becomes = IsTriedWhole number ids now;

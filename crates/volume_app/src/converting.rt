@@ -2,12 +2,13 @@ ghost use Rattle.std.specs.Prelude.{◌≡◌, ◌≢◌, ◌<◌, ◌^◌, None
 ghost use Rattle.std.specs.Result.{MatchResult};
 ghost use Rattle.btr_reader.specs.btr_node.NodeSize.{IsNodeSize};
 ghost use Rattle.convert_core.specs.Answers.{IsConvertAnswer, RefusesConvert};
-ghost use Rattle.convert_core.specs.Converted.{DiffersInFree, IsConverted, IsEither};
+ghost use Rattle.convert_core.specs.Converted.{DiffersInFree, IsConverted, IsLeftByConvert};
 ghost use Rattle.convert_core.specs.Surveyed.{IsSummary};
 ghost use Rattle.reiser_volume.specs.outside.Fault.{HasCause, HasCauseOf, Takes};
 ghost use Rattle.first_sync.specs.Synced.{EachCrashSynced, synced_now};
 ghost use Rattle.reiser_volume.specs.outside.History.{IsSettled, reads};
-ghost use Rattle.volume_app.specs.Converting.{convert_meaning, convert_text};
+ghost use Rattle.super_turn.specs.PutBack.{IsPutBackAlone, put_back};
+ghost use Rattle.volume_app.specs.Converting.{WritesConvertPlaces, convert_meaning, convert_text};
 ghost use Rattle.volume_app.specs.Outcome.{Performs};
 ghost use Rattle.volume_app.specs.Trees.{HasId};
 ghost use Rattle.convert_core.specs.space_items.Laws.{AreIds};
@@ -15,7 +16,8 @@ ghost use Rattle.convert_core.specs.space_items.Laws.{AreIds};
 use crate::ending::{Ending, printed};
 use convert_core::{Answer, ConvertSummary};
 use convert_core_laws::{
-    converted_volumes_are_sound, converted_volumes_go_back, converted_volumes_open,
+    converted_data_stays, converted_volumes_are_sound, converted_volumes_go_back,
+    converted_volumes_open,
 };
 use convert_options::{Options, UuidChoice};
 use reiser_volume::{Access, Disk, Fault, Ids, Sink, used_blocks_decide};
@@ -43,6 +45,7 @@ pub fn convert_volume<D: Disk, O: Sink>(
     converted_volumes_open();
     converted_volumes_go_back();
     converted_volumes_are_sound();
+    converted_data_stays();
     used_blocks_decide();
     know_ids(*ids);
     know_id(options.uuid);
@@ -79,12 +82,13 @@ fn convert<D: Disk>(
     requires wanted { D.wants path.now Access.Write }
     requires size { IsNodeSize options.now.nodesize }
     requires moment { now < 2 ^ 63 }
-    ensures crash { EachCrashSynced D.tells (D.history disk.old) (D.history disk.new) (IsEither options.now ids.now now (reads (D.history disk.old))) }
-    ensures right { IsTrue D.tells → MatchResult result (λ s. IsConverted options.now ids.now now (reads (D.history disk.old)) (reads (D.history disk.new)) × IsSummary options.now (reads (D.history disk.old)) s)
-        (RefusesConvert options.now (reads (D.history disk.old))) }
+    ensures crash { EachCrashSynced D.tells (D.history disk.old) (D.history disk.new) (IsLeftByConvert options.now ids.now now (reads (D.history disk.old))) }
+    ensures only { IsTrue D.tells → WritesConvertPlaces (D.history disk.old) (D.history disk.new) }
+    ensures right { IsTrue D.tells → MatchResult result (λ s. IsConverted options.now ids.now now (put_back (reads (D.history disk.old))) (reads (D.history disk.new)) × IsSummary options.now (put_back (reads (D.history disk.old))) s)
+        (RefusesConvert options.now (put_back (reads (D.history disk.old)))) }
     ensures settled { IsTrue D.tells → OnOk result (IsSettled (D.history disk.new)) }
-    ensures refused { IsTrue D.tells → IfErr result (λ e. e ≢ Answer.Fault → e ≢ Answer.Memory → D.history disk.new ≡ synced_now (D.history disk.old)) }
-    ensures memory { IsTrue D.tells → IfErr result (λ e. e ≡ Answer.Memory → DiffersInFree (reads (D.history disk.old)) (reads (D.history disk.new))) }
+    ensures refused { IsTrue D.tells → IfErr result (λ e. e ≢ Answer.Fault → e ≢ Answer.Memory → IsPutBackAlone (synced_now (D.history disk.old)) (D.history disk.new)) }
+    ensures memory { IsTrue D.tells → IfErr result (λ e. e ≡ Answer.Memory → DiffersInFree (put_back (reads (D.history disk.old))) (reads (D.history disk.new))) }
     ensures cause { HasCauseOf Answer.Fault (D.faults disk.old) (D.faults disk.new) result }
     ensures known { IfErr result IsConvertAnswer }
 {

@@ -23,6 +23,9 @@ mod trying;
 
 pub use command::{Command, CommandLine, read_words};
 pub use ending::Ending;
-pub use laws::{crashes_at_any_moment, inspect_tells_space, inspect_texts_are_one};
+pub use laws::{
+    crashes_at_any_moment, inspect_tells_space, inspect_texts_are_one, list_texts_are_one,
+    recovers_after_crashes, rollback_undoes_convert,
+};
 pub use summary::Summary;
 pub use top::run;

@@ -4,7 +4,8 @@ ghost use Rattle.reiser_volume.specs.outside.Fault.{HasCause, HasCauseOf, Takes}
 ghost use Rattle.first_sync.specs.Synced.{EachCrashSynced, synced_now};
 ghost use Rattle.reiser_volume.specs.outside.History.{IsSettled, reads};
 ghost use Rattle.rollback_core.specs.RecoveryAnswers.{IsRecoverAnswer, RefusesRecover};
-ghost use Rattle.rollback_core.specs.Recovered.{IsLeftByRecover, IsRecovered, RewritesBeforeCopies, recover_summary};
+ghost use Rattle.rollback_core.specs.Recovered.{IsLeftByRecovery, IsRecovered, RewritesBeforeCopies, recover_summary};
+ghost use Rattle.super_turn.specs.PutBack.{IsPutBackAlone, put_back};
 ghost use Rattle.volume_app.specs.Outcome.{Performs};
 ghost use Rattle.volume_app.specs.Recovering.{format_word, recover_meaning, recover_text};
 
@@ -42,12 +43,12 @@ pub fn recover_volume<D: Disk, O: Sink>(
 fn recover<D: Disk>(alloc: Global, path: &str, disk: &mut D) -> Result<RecoverSummary, Answer>
     requires closed { D.opened disk.old ≡ None }
     requires wanted { D.wants path.now Access.Write }
-    ensures crash { EachCrashSynced D.tells (D.history disk.old) (D.history disk.new) (IsLeftByRecover (reads (D.history disk.old))) }
-    ensures right { IsTrue D.tells → MatchResult result (λ told. IsRecovered (reads (D.history disk.old)) (reads (D.history disk.new)) × (told ≡ recover_summary (reads (D.history disk.old))))
-        (RefusesRecover (reads (D.history disk.old))) }
+    ensures crash { EachCrashSynced D.tells (D.history disk.old) (D.history disk.new) (IsLeftByRecovery (reads (D.history disk.old))) }
+    ensures right { IsTrue D.tells → MatchResult result (λ told. IsRecovered (put_back (reads (D.history disk.old))) (reads (D.history disk.new)) × (told ≡ recover_summary (put_back (reads (D.history disk.old)))))
+        (RefusesRecover (put_back (reads (D.history disk.old)))) }
     ensures order { IsTrue D.tells → RewritesBeforeCopies (D.history disk.old) (D.history disk.new) }
     ensures settled { IsTrue D.tells → OnOk result (IsSettled (D.history disk.new)) }
-    ensures refused { IsTrue D.tells → IfErr result (λ e. e ≢ Answer.Fault → D.history disk.new ≡ synced_now (D.history disk.old)) }
+    ensures refused { IsTrue D.tells → IfErr result (λ e. e ≢ Answer.Fault → IsPutBackAlone (synced_now (D.history disk.old)) (D.history disk.new)) }
     ensures cause { HasCauseOf Answer.Fault (D.faults disk.old) (D.faults disk.new) result }
     ensures known { IfErr result IsRecoverAnswer }
 {

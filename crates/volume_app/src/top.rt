@@ -4,7 +4,6 @@ ghost use Rattle.first_sync.specs.Synced.{EachCrashSynced};
 ghost use Rattle.reiser_volume.specs.outside.History.{IsSettled, reads};
 ghost use Rattle.volume_app.specs.Command.{command, opens};
 ghost use Rattle.volume_app.specs.Headline.{KeepsPromise};
-ghost use Rattle.volume_app.specs.Meaning.{begun};
 ghost use Rattle.volume_app.specs.Outcome.{Performs, RunsCommand, meant};
 ghost use Rattle.volume_app.specs.Trees.{AreBlocks};
 
@@ -48,11 +47,13 @@ pub fn run<D: Disk, O: Sink, E: Sink>(
     ensures output { result ≡ 5 → Rose (O.faults out.old) (O.faults out.new) }
     ensures output_kept { result ≢ 5 → O.faults out.new ≡ O.faults out.old }
     ensures memory { result ≡ 4 → (meant ids now (map string_bytes words.now)).takes_memory }
-    // A command that only reads writes nothing and syncs nothing. One that writes has done no more than its first sync where it is refused.
-    ensures unchanged { IsTrue D.tells → (meant ids now (map string_bytes words.now)).keeps (reads (D.history disk.old)) result → D.history disk.new ≡ begun (meant ids now (map string_bytes words.now)).writes (D.history disk.old) }
+    // A command that only reads writes nothing and syncs nothing. One that writes has done no more than its first sync where it is refused; but
+    // `convert` and `recover` have put block 16 back, too, where it was half turned.
+    ensures unchanged { IsTrue D.tells → (meant ids now (map string_bytes words.now)).keeps (reads (D.history disk.old)) result → (meant ids now (map string_bytes words.now)).first (D.history disk.old) (D.history disk.new) }
     // One that lacks space has written nothing, but for a trial whose sample does: that sample stays. What there is has reached the device.
     ensures lacking { IsTrue D.tells → result ≡ 6 → (meant ids now (map string_bytes words.now)).lacking (reads (D.history disk.old)) (reads (D.history disk.new)) × (IsTrue (meant ids now (map string_bytes words.now)).writes → IsSettled (D.history disk.new)) }
-    // Where memory ran out nothing was written, but by `convert`, which may have written to free units of the volume, and by a trial.
+    // Where memory ran out nothing was written but a block 16 that was put back; `convert` may have written to free units of the volume, too. Of a
+    // trial nothing is said.
     ensures starved { IsTrue D.tells → result ≡ 4 → (meant ids now (map string_bytes words.now)).starved (reads (D.history disk.old)) (reads (D.history disk.new)) }
     // Where the command was done the disk is what it makes of it, whether its text could be printed or not.
     ensures changed { IsTrue D.tells → (result ≡ 0) ⊎ (result ≡ 5) → (meant ids now (map string_bytes words.now)).becomes (reads (D.history disk.old)) (reads (D.history disk.new)) }
@@ -60,6 +61,7 @@ pub fn run<D: Disk, O: Sink, E: Sink>(
     // From every history of the disk: nothing is called before a sync that succeeds, and a crash at any moment since then leaves what the
     // command may leave. Of a trial no more is said.
     ensures crash { EachCrashSynced D.tells (D.history disk.old) (D.history disk.new) ((meant ids now (map string_bytes words.now)).leaves (reads (D.history disk.old))) }
+    // `convert` writes block 16, and of the volume units that it has free and the places of the superblock's copies; nothing else at any moment.
     // `recover` writes no copy before it has written block 16 as it stands, and synced.
     ensures order { IsTrue D.tells → (meant ids now (map string_bytes words.now)).order (D.history disk.old) (D.history disk.new) }
     ensures ends { RunsCommand (meant ids now (map string_bytes words.now)) (IsTrue D.tells) (reads (D.history disk.old)) result
@@ -76,7 +78,7 @@ pub fn run<D: Disk, O: Sink, E: Sink>(
     // whatever waited to reach the device before: from the first call on, which is a sync.
     ensures headline { IsTrue D.tells → AreBlocks (reads (D.history disk.old))
         → KeepsPromise (command (map string_bytes words.now)) (D.history disk.old) (D.history disk.new) result
-        ((D.faults disk.new ≡ D.faults disk.old) × (D.faults disk.old < 2 ^ 64 - 1) × (O.faults out.new ≡ O.faults out.old) × (O.faults out.old < 2 ^ 64 - 1)) }
+        (D.faults disk.old) (D.faults disk.new) (O.faults out.old) (O.faults out.new) }
 {
     let ending = perform(alloc, words, &ids, now, disk, out);
     let _ = ending.write_line(err);

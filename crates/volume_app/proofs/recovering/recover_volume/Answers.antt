@@ -1,6 +1,6 @@
-use Rattle.volume_app.proofs.Imports.{ap, inr, turned, reads, recover_meaning, recover_text}
+use Rattle.volume_app.proofs.Imports.{ap, inr, turned, recover_meaning, recover_text}
 use Rattle.volume_app.proofs.Outcomes.{no_fault_by, refusal_by}
-use Rattle.volume_app.proofs.Performing.{failed, ok_kept, performed, printed_lacks, printed_starves, recovered_keeps, only_synced}
+use Rattle.volume_app.proofs.Performing.{failed, ok_kept, performed, printed_lacks, printed_starves, recovered_keeps, put_alone}
 use Rattle.volume_app.proofs.Trees.{recovered_whole, recovery_left_whole}
 use Rattle.volume_app.proofs.recovering.recover_volume.Goals as goal
 
@@ -26,8 +26,8 @@ returns-in-Err g c =
     failed recover_meaning _ _ _ _ _ _ _ _ _ c.in-Err.answer (λ told. c.in-Err.ensures.right (told tt)) c.in-Err.ensures.known (λ is. tt)
     (record {
       unchanged = λ told keeps. c.in-Err.ensures.refused told (no_fault_by c.in-Err.answer keeps);
-      lacking = λ told is. only_synced _ _ (c.in-Err.ensures.refused told (refusal_by c.in-Err.answer (inr (inr is))).0);
-      starved = λ told is. ap reads (c.in-Err.ensures.refused told (no_fault_by c.in-Err.answer (inr (inr is))));
+      lacking = λ told is. put_alone _ _ (c.in-Err.ensures.refused told (refusal_by c.in-Err.answer (inr (inr is))).0);
+      starved = λ told is. (c.in-Err.ensures.refused told (no_fault_by c.in-Err.answer (inr (inr is)))).put;
       changed = λ told is. absurd is;
       settled = λ told writes is. absurd is;
       crash = λ told. turned _ _ _ _ (λ image left. recovery_left_whole c.recovery_keeps.ensures c.recovery_opens.ensures c.spare_blocks_decide_nothing.ensures _ image left) (c.recover.ensures.crash told);
