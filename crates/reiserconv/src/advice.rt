@@ -1,8 +1,9 @@
 // What a person at a terminal is told below the line of a run: what it means, what is safe, and what to do.
+use crate::asked::Verb;
 use crate::paragraph::Paragraph;
 use crate::sentences::{
-    Sentence, of_btrfs_rule, of_fault, of_feature, of_line, of_refusal, of_rule, of_safety,
-    of_start, of_trial,
+    Sentence, of_btrfs_rule, of_command, of_fault, of_feature, of_line, of_refusal, of_rule,
+    of_safety, of_start,
 };
 use crate::space::Space;
 use crate::start::Missing;
@@ -21,14 +22,23 @@ pub struct Outcome<'a> {
     pub trouble: Option<Trouble>,
     /// Whether a block was written, whole or in part.
     pub wrote: bool,
-    /// Whether it was a trial, on a device that is to be overwritten.
-    pub is_trial: bool,
+    /// The command, where the words ask for one.
+    pub verb: Option<Verb>,
+    /// Whether it ran as root.
+    pub is_root: bool,
     /// The words, without the program's name.
     pub words: &'a [String],
     /// The path of the run, as a shell reads it.
     pub path: &'a str,
     /// The size of a node that was asked for.
     pub size: &'a str,
+}
+
+impl Outcome<'_> {
+    /// Whether it was a trial, on a device that is to be overwritten.
+    fn is_trial(&self) -> bool {
+        self.verb == Some(Verb::Trial)
+    }
 }
 
 /// The text for a person. It has a line feed at its end, and nothing where nothing is known of the line.
@@ -87,19 +97,26 @@ impl<'a> Refusal<'a> {
         }
     }
 
-    /// What is said of it, of a trial or of another command.
-    fn sentence(&self, is_trial: bool) -> Sentence {
-        let own = of_trial(self.number);
-        if is_trial && !own.means.is_empty() {
-            own
-        } else {
+    /// What is said of it: what stands for this command, or else for all.
+    fn sentence(&self, verb: Option<Verb>) -> Sentence {
+        let own = match verb {
+            Some(verb) => of_command(verb.name(), self.number),
+            None => of_refusal(self.number),
+        };
+        if own.means.is_empty() {
             of_refusal(self.number)
+        } else {
+            own
         }
     }
 
     /// Tells what it means, and returns what to do.
-    fn tell(&self, text: &mut Paragraph<'_>, is_trial: bool) -> Result<&'static str, AllocError> {
-        let sentence = self.sentence(is_trial);
+    fn tell(
+        &self,
+        text: &mut Paragraph<'_>,
+        verb: Option<Verb>,
+    ) -> Result<&'static str, AllocError> {
+        let sentence = self.sentence(verb);
         text.say(sentence.means, self.numbers)?;
         let mut next = sentence.next;
         if let Some(detail) = self.detail() {
@@ -133,15 +150,15 @@ fn tell_refusal(
     }
     if let Some(refusal) = Refusal::read(words.as_slice()) {
         text.say(PATH, &[])?;
-        let next = refusal.tell(text, outcome.is_trial)?;
+        let next = refusal.tell(text, outcome.verb)?;
         if refusal.number == IMAGE {
             if let Some(own) = Refusal::read(refusal.numbers) {
-                let _ = own.tell(text, false)?;
+                let _ = own.tell(text, None)?;
             }
         }
         text.end()?;
         tell_safety(text, written(outcome, "free"))?;
-        match space_of(&refusal, outcome.is_trial) {
+        match space_of(&refusal, outcome.is_trial()) {
             Some(space) => space.tell_what_helps(alloc, text, outcome.size, None)?,
             None => tell_next(text, next, refusal.numbers)?,
         }
@@ -197,7 +214,7 @@ fn tell_fault(
     trouble: &Trouble,
     outcome: &Outcome<'_>,
 ) -> Result<&'static str, AllocError> {
-    let case = cause(trouble, outcome.is_trial);
+    let case = cause(trouble, outcome);
     if let Cause::System(_) | Cause::Holds(_) = trouble.cause {
         if case != ABSENT && case != UNTRIED {
             let reason = format!(in alloc; "{}.", trouble)?;
@@ -229,7 +246,7 @@ fn tell_wrong_words(
 
 /// The name of what is safe: this one where something was written, and it was no trial.
 fn written(outcome: &Outcome<'_>, case: &'static str) -> &'static str {
-    match (outcome.wrote, outcome.is_trial) {
+    match (outcome.wrote, outcome.is_trial()) {
         (false, _) => "nothing",
         (true, false) => case,
         (true, true) => "trial",
@@ -257,11 +274,9 @@ const ABSENT: &str = "absent";
 const UNTRIED: &str = "untried";
 
 /// The cause's name in the table of sentences.
-fn cause(trouble: &Trouble, is_trial: bool) -> &'static str {
+fn cause(trouble: &Trouble, outcome: &Outcome<'_>) -> &'static str {
     match trouble.cause {
-        Cause::System(e) if e.kind() == ErrorKind::NotFound && trouble.call == DiskCall::Open => {
-            if is_trial { UNTRIED } else { ABSENT }
-        }
+        Cause::System(e) if trouble.call == DiskCall::Open => unopened(e.kind(), outcome),
         Cause::InUse(Use::Mounted) => "mounted",
         Cause::InUse(Use::Swap) => "swap",
         Cause::InUse(Use::Held) => "held",
@@ -271,7 +286,17 @@ fn cause(trouble: &Trouble, is_trial: bool) -> &'static str {
         Cause::ReadOnly => "readonly",
         Cause::Holds(_) => "holds",
         Cause::Kind => "kind",
-        Cause::System(_) | Cause::Closed if trouble.call == DiskCall::Open => "open",
         Cause::System(_) | Cause::Closed => "device",
+    }
+}
+
+/// The same of a path that the system did not open.
+fn unopened(kind: ErrorKind, outcome: &Outcome<'_>) -> &'static str {
+    match kind {
+        ErrorKind::NotFound if outcome.is_trial() => UNTRIED,
+        ErrorKind::NotFound => ABSENT,
+        ErrorKind::PermissionDenied if outcome.is_root => "forbidden",
+        ErrorKind::PermissionDenied => "denied",
+        _ => "open",
     }
 }

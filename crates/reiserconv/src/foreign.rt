@@ -32,7 +32,7 @@ pub fn of_others(word: &str) -> Option<&'static str> {
             "There is no '{1}' here: 'reiserconv inspect' only reads, and says whether a volume can be converted.",
         ),
         "-f" | "--force" | "-y" | "--yes" => Some(
-            "There is no '{1}' here: nothing is asked, and what is refused can't be forced. Leave it out.",
+            "There is no '{1}' here: what is refused can't be forced, and only a rollback asks, at a terminal alone. Leave it out.",
         ),
         "--" => Some(
             "There is no '{1}' here. A path that begins with a dash is written with './' before it.",

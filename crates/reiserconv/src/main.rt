@@ -8,12 +8,15 @@ ghost use Rattle.host_edge.specs.FileDisk.{opened_for};
 mod advice;
 mod asked;
 mod finding;
+mod first_write;
 mod foreign;
+mod guarded;
 mod nearest;
 mod notices;
 mod options;
 mod paragraph;
 mod question;
+mod root;
 mod sentences;
 mod shell;
 mod sizes;
@@ -23,13 +26,17 @@ mod talk;
 mod wrong_words;
 
 use asked::Asked;
+use first_write::FirstWrite;
+use guarded::GuardedDisk;
 use host_edge::{FileDisk, LineSink, Sink, StatusLine, StdSink, hold_streams};
-use question::is_confirmed;
+use question::Question;
+use root::is_root;
 use sizes::best_size;
 use start::{Missing, Start};
+use std::alloc::Global;
 use std::env::Env;
 use std::fs::{File, Files};
-use std::io::{Stdin, Write};
+use std::io::{Stderr, Stdin, Write};
 use std::process::ExitCode;
 use std::random::RandomSource;
 use std::time::Clock;
@@ -39,8 +46,10 @@ use volume_app::run;
 /// The status where the arguments, the clock or the random source failed.
 const START_FAULT: u8 = 7;
 
-/// The status where a person did not confirm what was asked for.
+/// The status where a person did not confirm what was asked for, and the line.
 const NOT_CONFIRMED: u8 = 1;
+
+const NOT_CONFIRMED_LINE: &[u8] = b"not confirmed\n";
 
 fn main(rt: HostRuntime) -> ExitCode {
     let start = begin(&rt);
@@ -48,7 +57,13 @@ fn main(rt: HostRuntime) -> ExitCode {
     let mut err = LineSink::new(StdSink::new(rt.stderr(), &shown));
     let mut out = LineSink::new(StdSink::new(rt.stdout(), &shown));
     let status = match start {
-        Ok(start) => serve(&rt, &start, &shown, rt.stdin(), &mut out, &mut err),
+        Ok(start) => {
+            let person = Person {
+                keyboard: rt.stdin(),
+                screen: rt.stderr(),
+            };
+            serve(&rt, &start, &shown, person, &mut out, &mut err)
+        }
         Err(missing) => {
             let _ = err.write(b"start fault\n");
             tell_start(rt.alloc(), missing, &shown, &mut err);
@@ -56,6 +71,13 @@ fn main(rt: HostRuntime) -> ExitCode {
         }
     };
     ExitCode::from(status)
+}
+
+/// The streams by which a person is asked and answers while a run goes on.
+#[derive(Drop)]
+struct Person {
+    keyboard: Stdin,
+    screen: Stderr,
 }
 
 /// What the run starts with, once no file that is opened can get the number of a standard stream.
@@ -68,28 +90,26 @@ fn begin<R: Env + Clock + RandomSource + Files<File = File> + AllocGlobal>(
     Start::new(rt)
 }
 
-/// Does what the words ask for, if it is to be done, and answers the status.
+/// Does what the words ask for, and answers the status.
+///
+/// The line of the run is passed on behind it: in its place stands another one where a person did not want what the run was about to do.
 fn serve<
+    'a,
     R: Files<File = File> + AllocGlobal + Clock + Copy + Drop,
     O: Write + Drop,
     W: Write + Drop,
 >(
     rt: R,
-    start: &Start,
-    shown: &StatusLine,
-    keyboard: Stdin,
+    start: &'a Start,
+    shown: &'a StatusLine,
+    person: Person,
     out: &mut LineSink<'_, O>,
     err: &mut LineSink<'_, W>,
 ) -> u8 {
     let asked = Asked::new(&start.words);
-    if !is_confirmed(&rt, &asked, shown, keyboard, err) {
-        return NOT_CONFIRMED;
-    }
     let talk = Talk::new(rt.alloc(), &start.words, asked, shown);
-    if let Some(talk) = &talk {
-        talk.begin(shown, err);
-    }
-    let mut disk = disk_for(rt, shown, &asked);
+    let mut disk = guarded_disk(rt, &asked, talk.as_ref(), shown, person);
+    let mut line = kept_line(rt.alloc(), shown);
     let status = run(
         rt.alloc(),
         &start.words,
@@ -97,21 +117,30 @@ fn serve<
         start.now,
         &mut disk,
         out,
-        err,
+        &mut line,
     );
     shown.wipe();
-    if let Some(talk) = &talk {
-        let ended = Ended {
-            status,
-            trouble: disk.trouble(),
-            wrote: disk.written() > 0,
-        };
-        tell_end(rt, start, talk, &ended, shown, out, err);
+    let mut ended = Ended {
+        status,
+        line: line.line(),
+        trouble: disk.disk.trouble(),
+        wrote: disk.disk.written() > 0,
+        is_root: is_root(&rt),
+    };
+    if disk.is_stopped() {
+        ended.status = NOT_CONFIRMED;
+        ended.line = NOT_CONFIRMED_LINE;
     }
-    status
+    tell_end(rt, start, talk.as_ref(), &ended, shown, out, err);
+    ended.status
 }
 
-/// Tells what the lines of a run mean that ended so.
+/// A sink that keeps the line of a run, and passes nothing on.
+fn kept_line<'a>(alloc: Global, shown: &'a StatusLine) -> LineSink<'a, Vec<u8>> {
+    LineSink::new(StdSink::new(Vec::new(alloc), shown))
+}
+
+/// Passes on the line of a run that ended so, and tells what its lines mean.
 fn tell_end<
     R: Files<File = File> + AllocGlobal + Clock + Copy + Drop,
     O: Write + Drop,
@@ -119,17 +148,22 @@ fn tell_end<
 >(
     rt: R,
     start: &Start,
-    talk: &Talk<'_>,
-    ended: &Ended,
+    talk: Option<&Talk<'_>>,
+    ended: &Ended<'_>,
     shown: &StatusLine,
     out: &LineSink<'_, O>,
     err: &mut LineSink<'_, W>,
 ) {
+    let Some(talk) = talk else {
+        let _ = err.write(ended.line);
+        return;
+    };
     let best = match talk.lacks_space(ended.status, out) {
         Some(size) => best_size(rt, start, size, shown),
         None => None,
     };
     shown.wipe();
+    let _ = err.write(ended.line);
     talk.end(ended, best.as_ref(), out, err);
 }
 
@@ -147,4 +181,27 @@ fn disk_for<'a, R: Files<File = File> + AllocGlobal + Clock + Clone + Drop>(
         disk.expect_blank();
     }
     disk
+}
+
+/// The same disk, behind what a person is asked and told before its first block is written.
+fn guarded_disk<'a, R: Files<File = File> + AllocGlobal + Clock + Copy + Drop>(
+    rt: R,
+    asked: &Asked<'a>,
+    talk: Option<&Talk<'_>>,
+    shown: &'a StatusLine,
+    person: Person,
+) -> GuardedDisk<FileDisk<'a, R>, FirstWrite<'a, R, Stderr>>
+    ensures { opened_for result.disk ≡ None }
+{
+    let notice = match talk {
+        Some(talk) => talk.notice(),
+        None => None,
+    };
+    let first = FirstWrite::new(
+        rt,
+        Question::of(asked, shown, person.keyboard),
+        notice,
+        StdSink::new(person.screen, shown),
+    );
+    GuardedDisk::new(disk_for(rt, shown, asked), Some(first))
 }

@@ -1,4 +1,4 @@
-// What a person is told before a command that writes begins, and when a command is done.
+// What a person is told right before a command writes, and when a command is done.
 use crate::asked::{Asked, Verb};
 use crate::paragraph::Paragraph;
 use crate::sizes::Counted;
@@ -6,22 +6,22 @@ use crate::space::Space;
 use std::alloc::{AllocError, Global};
 use std::str;
 
-const CONVERT_BEGINS: &str =
-    "If this is interrupted, by Ctrl-C, a signal or a power cut, the old volume or the new one is there, whole, at each moment. Run 'reiserconv recover {path}' then: it says which, and if it is the old one, begin again.";
+const CONVERT_WRITES: &str =
+    "{path} is written to from now on. If this is interrupted, by Ctrl-C, a signal or a power cut, the old volume or the new one is there, whole, at each moment. Run 'reiserconv recover {path}' then: it says which, and if it is the old one, begin again.";
 
-const ROLLBACK_BEGINS: &str =
-    "If this is interrupted, by Ctrl-C, a signal or a power cut, the Btrfs volume or the old one is there, whole, at each moment. Run 'reiserconv recover {path}' then: it says which, and if it is the Btrfs volume, begin again.";
+const ROLLBACK_WRITES: &str =
+    "{path} is written to from now on. If this is interrupted, by Ctrl-C, a signal or a power cut, the Btrfs volume or the old one is there, whole, at each moment. Run 'reiserconv recover {path}' then: it says which, and if it is the Btrfs volume, begin again.";
 
-const TRIAL_BEGINS: &str =
-    "{path} is overwritten, unless the trial is refused. If this is interrupted, by Ctrl-C, a signal or a power cut, what it holds then is of no use: begin again.";
+const TRIAL_WRITES: &str =
+    "{path} is overwritten from now on. If this is interrupted, by Ctrl-C, a signal or a power cut, what it holds then is of no use: take away what may tell of a volume ('wipefs -a {path}'), and begin again.";
 
-/// What is told before a command begins, by what is asked for; nothing of one that only reads, and of `recover`, which is done at once.
+/// What is told before a command writes its first block, by what is asked for; nothing of one that only reads, and of `recover`, which is done at once.
 pub fn before(alloc: Global, asked: &Asked<'_>, path: &str) -> Result<String, AllocError> {
     let mut text = Paragraph::new(alloc, path);
     let sentence = match asked.verb {
-        Some(Verb::Convert) => CONVERT_BEGINS,
-        Some(Verb::Rollback) => ROLLBACK_BEGINS,
-        Some(Verb::Trial) => TRIAL_BEGINS,
+        Some(Verb::Convert) => CONVERT_WRITES,
+        Some(Verb::Rollback) => ROLLBACK_WRITES,
+        Some(Verb::Trial) => TRIAL_WRITES,
         _ => "",
     };
     text.say(sentence, &[])?;
@@ -30,22 +30,30 @@ pub fn before(alloc: Global, asked: &Asked<'_>, path: &str) -> Result<String, Al
 }
 
 /// What comes behind a conversion, each a paragraph.
-const CONVERTED: [&str; 5] = [
+const CONVERTED: [&str; 7] = [
     "{path} is a Btrfs volume now. The old one is the file 'reiserfs_saved/image' in it.",
     "What comes next: 'btrfs check --readonly {path}' has to find nothing. The first time, mount it with 'mount -t btrfs -o space_cache=v2 {path} /mnt'.",
     "If /etc/fstab names the volume, change its line: the type is 'btrfs', options that only ReiserFS has go, and the last two fields are '0 0'. If the line names the UUID, 'blkid {path}' shows the one that it has now.",
-    "To go back, unmount it and run 'reiserconv rollback {path}': then it is as it was, without what was written since. Keep the image for as long as you may want that. What closes the way back: a balance of data, a smaller size that moves blocks of the image, RAID, another device, and to delete the image or to move it into another folder.",
+    "To go back, unmount it and run 'reiserconv rollback {path}': then it is as it was, without what was written since. Keep the image for as long as you may want that.",
+    "What closes the way back for good: to delete the image or its folder, a balance of data, data that is kept twice or in a RAID ('-dconvert'), a smaller size that moves blocks of the image, and a defragmentation or deduplication of the image itself.",
+    "What closes it for a while: to rename or move the image or its folder, until both have their names and places again; another device, until 'btrfs device remove' took it out; and metadata in a RAID, until 'btrfs balance start -f -mconvert=single -sconvert=single /mnt' made it single, without '-dconvert'.",
     "When you are sure that all is well, 'btrfs subvolume delete -c /mnt/reiserfs_saved', then 'btrfs subvolume sync /mnt' and then 'btrfs filesystem sync /mnt' free the space of the image. From then on nothing leads back.",
 ];
 
 const ROLLED_BACK: &str =
-    "{path} is the ReiserFS volume from before the conversion again, and what was written since is gone. 'reiserfsck --check {path}' has to find nothing. If /etc/fstab names the volume, its line is to be the old one again.";
+    "{path} is the ReiserFS volume from before the conversion again, and what was written since is gone. 'reiserfsck --check --yes {path}' has to find nothing. If /etc/fstab names the volume, its line is to be the old one again.";
 
 const IS_REISERFS: &str =
     "{path} is a ReiserFS volume. If a conversion was interrupted, it is as before: begin again with 'reiserconv convert {path}'. If a rollback was interrupted, it is done.";
 
 const IS_BTRFS: &str =
     "{path} is a Btrfs volume. If a conversion was interrupted, it is done, and 'btrfs check --readonly {path}' has to find nothing. If a rollback was interrupted, begin again with 'reiserconv rollback {path}'.";
+
+/// What comes behind a trial, each a paragraph. `{1}` is the number of its files.
+const TRIED: [&str; 2] = [
+    "The trial went well. A ReiserFS volume with {1} files was made at {path}, turned into Btrfs, and turned back. The lines of 'list' were the same before and after the conversion, and so was each block in use after the way back.",
+    "{path} still holds that ReiserFS volume, of 256 MiB, for you to look at. Remove the file when you are done with it. Before another trial take away what tells of the volume ('wipefs -a {path}').",
+];
 
 /// What is told of a command that is done, by the first bytes that it printed. `size` is the size of a node that was asked for,
 /// and `best` what was counted with another one.
@@ -60,9 +68,10 @@ pub fn behind(
     let mut text = Paragraph::new(alloc, path);
     let printed = str::from_utf8(printed).unwrap_or("");
     match asked.verb {
-        Some(Verb::Convert) => tell_all(&mut text, &CONVERTED)?,
+        Some(Verb::Convert) => tell_all(&mut text, &CONVERTED, &[])?,
         Some(Verb::Rollback) => text.say(ROLLED_BACK, &[])?,
         Some(Verb::Recover) => text.say(recovered(printed), &[])?,
+        Some(Verb::Trial) => tell_all(&mut text, &TRIED, &[files(printed)])?,
         Some(Verb::Inspect) => {
             if let Some(space) = Space::printed(printed) {
                 space.tell(alloc, &mut text, size, best)?;
@@ -74,12 +83,24 @@ pub fn behind(
     Ok(text.into_text())
 }
 
-fn tell_all(text: &mut Paragraph<'_>, sentences: &[&str]) -> Result<(), AllocError> {
+fn tell_all(
+    text: &mut Paragraph<'_>,
+    sentences: &[&str],
+    parts: &[&str],
+) -> Result<(), AllocError> {
     for sentence in sentences {
-        text.say(*sentence, &[])?;
+        text.say(*sentence, parts)?;
         text.end()?;
     }
     Ok(())
+}
+
+/// The number of the files of a trial, by its first line.
+fn files(printed: &str) -> &str {
+    match printed.lines().next() {
+        Some(line) => line.strip_prefix("trial ").unwrap_or(""),
+        None => "",
+    }
 }
 
 /// What is there, by the first line of `recover`.

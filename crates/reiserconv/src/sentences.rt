@@ -22,7 +22,7 @@ pub fn of_refusal(number: u64) -> Sentence {
         },
         2 => Sentence {
             means: "The volume was not unmounted, or is mounted right now: its superblock has the state {1}.",
-            next: "Mount it in Linux and unmount it, or run 'reiserfsck --check {path}', which replays the journal.",
+            next: "Mount it in Linux and unmount it, or run 'reiserfsck --check --yes {path}', which replays the journal.",
         },
         3 => Sentence {
             means: "The volume has something that is not supported: feature {1}, with the value {2}.",
@@ -34,11 +34,11 @@ pub fn of_refusal(number: u64) -> Sentence {
         },
         5 => Sentence {
             means: "The journal holds at least one transaction that is not in its place yet, number {1}.",
-            next: "Mount the volume in Linux and unmount it, or run 'reiserfsck --check {path}', which replays the journal.",
+            next: "Mount the volume in Linux and unmount it, or run 'reiserfsck --check --yes {path}', which replays the journal.",
         },
         6 => Sentence {
             means: "At block {1} a rule of the format is broken, rule {2}.",
-            next: "Run 'reiserfsck --check {path}', and do what it says. With '--rebuild-tree' it writes a lot: have a copy before. Where it finds nothing and the line stays, mount the volume read-only in Linux, and copy its files to a new one.",
+            next: "Run 'reiserfsck --check --yes {path}', and do what it says. With '--rebuild-tree' it writes a lot: have a copy before. Where it finds nothing and the line stays, mount the volume read-only in Linux, and copy its files to a new one.",
         },
         7 => Sentence {
             means: "There are extended attributes or access control lists, which the program does not carry over: those of {1} {2}.",
@@ -104,20 +104,28 @@ pub fn of_refusal(number: u64) -> Sentence {
     }
 }
 
-/// Of the refusal of a trial with this number, where it is another matter.
-pub fn of_trial(number: u64) -> Sentence {
-    match number {
-        4 => Sentence {
+/// Of the refusal with this number of one command, where it is another matter than of all.
+pub fn of_command(command: &str, number: u64) -> Sentence {
+    match (command, number) {
+        ("convert", 16) => Sentence {
+            means: "It is a Btrfs volume already, and a conversion makes one of ReiserFS. If you have converted it before, that is done.",
+            next: "Nothing. 'reiserconv inspect {path}' shows in the line 'image' whether it holds an old volume.",
+        },
+        ("rollback", 16) => Sentence {
+            means: "It is a ReiserFS volume already, and a rollback makes one of Btrfs. If you have rolled it back before, that is done.",
+            next: "Nothing. 'reiserfsck --check --yes {path}' has to find nothing.",
+        },
+        ("trial", 4) => Sentence {
             means: "A trial takes {1} blocks of 4 KiB, which is 256 MiB, and the device has only {2} of them.",
             next: "Take a longer file ('truncate -s 256M {path}' makes one so long) or device.",
         },
-        15 => Sentence {
+        ("trial", 15) => Sentence {
             means: "The sample is too large for its volume of 256 MiB, or leaves too little space for a conversion.",
             next: "Take a smaller number.",
         },
-        16 => Sentence {
+        ("trial", 16) => Sentence {
             means: "There is a volume of ReiserFS or Btrfs, which the trial would overwrite.",
-            next: "Take another file or device. Where it holds nothing but the sample of another trial, 'wipefs --all {path}' takes away what tells of a volume.",
+            next: "See by 'reiserconv inspect {path}' which it is, and take another file or device. Where it holds nothing but the sample of another trial, 'wipefs --all {path}' takes away what tells of a volume.",
         },
         _ => NOTHING,
     }
@@ -202,8 +210,8 @@ pub fn of_btrfs_rule(number: u64) -> Sentence {
             next: "",
         },
         2 => Sentence {
-            means: "A field of the superblock is out of its bounds.",
-            next: "",
+            means: "A field of the superblock is out of its bounds, or the volume has more than one device, so that it is larger than this one.",
+            next: "See by 'btrfs filesystem show {path}' how many devices it has. Where they are several, mount the volume, and take the others out with 'btrfs device remove'. The way back is open again then, if no block of the old volume was moved. Where it is one, run 'btrfs check --readonly {path}'.",
         },
         3 => Sentence {
             means: "A chunk is not as it has to be, overlaps another, or leaves the device.",
@@ -324,7 +332,7 @@ pub fn of_line(line: &str) -> Sentence {
             next: "'reiserconv --help' has the commands and their options.",
         },
         "not confirmed" => Sentence {
-            means: "The answer was not 'yes'. Nothing was opened for writing, and the volume stays as it is.",
+            means: "The answer was not 'yes'. Nothing was written, and the volume stays as it is.",
             next: "",
         },
         "device fault" => Sentence {
@@ -350,9 +358,17 @@ pub fn of_line(line: &str) -> Sentence {
 /// Of a device that fails, by the cause.
 pub fn of_fault(cause: &str) -> Sentence {
     match cause {
+        "denied" => Sentence {
+            means: "It could not be opened: you may not open it.",
+            next: "A device is opened by root alone: begin again as root. See whether the path is right ('lsblk').",
+        },
+        "forbidden" => Sentence {
+            means: "It could not be opened: the system forbids it to root too.",
+            next: "In a container begin again outside of it. A file may be immutable ('lsattr {path}' shows an i), which 'chattr -i {path}' ends, or lie on another machine that trusts no root.",
+        },
         "open" => Sentence {
-            means: "It could not be opened: you may not open it, for example.",
-            next: "A device is opened by root alone. See whether the path is right ('lsblk').",
+            means: "It could not be opened.",
+            next: "See whether the path is right ('lsblk'), and what 'dmesg' says of the device.",
         },
         "absent" => Sentence {
             means: "Nothing is there.",
@@ -441,7 +457,7 @@ pub fn of_safety(case: &str) -> Sentence {
             next: "",
         },
         "free" => Sentence {
-            means: "Free blocks may have been written; all blocks in use are as they were, and so is the volume.",
+            means: "Free blocks may have been written, or a superblock that a power cut left half turned was put back. All else in use is as it was, and so is the volume.",
             next: "",
         },
         "cut" => Sentence {

@@ -1,11 +1,14 @@
 // What a conversion takes with nodes of other sizes, where the space does not suffice with those that were asked for.
 use crate::asked::Asked;
 use crate::disk_for;
+use crate::first_write::FirstWrite;
+use crate::guarded::GuardedDisk;
 use crate::space::Space;
 use crate::start::Start;
 use host_edge::{LineSink, StatusLine, StdSink, Task};
 use std::alloc::{AllocError, Global};
 use std::fs::{File, Files};
+use std::io::Stderr;
 use std::str;
 use std::time::Clock;
 use volume_app::run;
@@ -65,8 +68,9 @@ fn count<R: Files<File = File> + AllocGlobal + Clock + Copy + Drop>(
     let words = words_with(alloc, &start.words, size).ok()?;
     let mut out = LineSink::new(StdSink::new(Vec::new(alloc), shown));
     let mut err = LineSink::new(StdSink::new(Vec::new(alloc), shown));
-    let mut disk = disk_for(rt, shown, &Asked::new(&words));
-    disk.expect(task);
+    let mut inner = disk_for(rt, shown, &Asked::new(&words));
+    inner.expect(task);
+    let mut disk = GuardedDisk::new(inner, Option::<FirstWrite<'_, R, Stderr>>::None);
     let status = run(
         alloc, &words, start.ids, start.now, &mut disk, &mut out, &mut err,
     );

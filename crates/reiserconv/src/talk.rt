@@ -22,12 +22,16 @@ pub struct Talk<'a> {
 
 /// How a run ended.
 #[derive(Clone, Copy)]
-pub struct Ended {
+pub struct Ended<'a> {
     pub status: u8,
+    /// Its line for standard error, with its line feed; nothing where it is done.
+    pub line: &'a [u8],
     /// Why the last call of the device failed, if one did.
     pub trouble: Option<Trouble>,
     /// Whether a block was written, whole or in part.
     pub wrote: bool,
+    /// Whether it ran as root.
+    pub is_root: bool,
 }
 
 impl<'a> Talk<'a> {
@@ -52,15 +56,9 @@ impl<'a> Talk<'a> {
         }
     }
 
-    /// Tells what has to be known before the run begins. Only a terminal is told, so that where there is none the line of the
-    /// run stays the first.
-    pub fn begin<W: Write + Drop>(&self, shown: &StatusLine, err: &mut LineSink<'_, W>) {
-        if !shown.is_seen() {
-            return;
-        }
-        if let Ok(text) = before(self.alloc, &self.asked, self.path.as_str()) {
-            let _ = err.pass(text.as_bytes());
-        }
+    /// What is to be told before the run writes its first block.
+    pub fn notice(&self) -> Option<String> {
+        before(self.alloc, &self.asked, self.path.as_str()).ok()
     }
 
     /// The size of a node that was asked for, where a volume was looked at that has too little space with it.
@@ -83,7 +81,7 @@ impl<'a> Talk<'a> {
     /// Tells what the lines of the run mean, and what to do. `best` is what was counted with nodes of another size.
     pub fn end<O: Write + Drop, W: Write + Drop>(
         &self,
-        ended: &Ended,
+        ended: &Ended<'_>,
         best: Option<&Counted>,
         out: &LineSink<'_, O>,
         err: &mut LineSink<'_, W>,
@@ -100,10 +98,11 @@ impl<'a> Talk<'a> {
             )
         } else {
             let outcome = Outcome {
-                line: err.line(),
+                line: ended.line,
                 trouble: ended.trouble,
                 wrote: ended.wrote,
-                is_trial: self.asked.is_trial(),
+                verb: self.asked.verb,
+                is_root: ended.is_root,
                 words: self.words,
                 path: self.path.as_str(),
                 size,
