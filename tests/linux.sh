@@ -5,7 +5,7 @@
 #   convert   the way of a user: fill, unmount, convert, mount as Btrfs; and GRUB reads the files of the new volume
 #   foreign   Linux writes to a converted volume and moves what is on it; and the way back
 #   everyday  a converted volume in use: compression, devices, snapshots, quotas, swap files, two copies of metadata; and the way back
-#   power     the power is cut in the middle of the commands that write
+#   power     the power is cut in the middle of the commands that write, and of their writes
 #   tight     a volume with just the free space that a conversion needs, and what the kernel can do then
 #   busy      a device in use is not opened for writing
 #   read      the kernel fills a volume of Btrfs, and list prints what Linux sees of it

@@ -88,8 +88,8 @@ short_words() {
         run $name
         same "the help by $name" "0|$help|" "$status|$out|$err"
     done
-    same 'the help names each status and the documents' '0 1 2 3 4 5 6 7 reiserconv(8) docs/HOWTO.md' \
-        "$(printf '%s\n' "$help" | sed -n '/^Exit status/,$p' | grep -oE '(^  |, )[0-7] |reiserconv\(8\)|docs/[A-Za-z.]*' | tr -d ', ' | xargs)"
+    same 'the help names each status and the documents' '0 1 2 3 4 5 6 7 reiserconv(8) HOWTO.md /usr/share/doc/reiserconv' \
+        "$(printf '%s\n' "$help" | sed -n '/^Exit status/,$p' | grep -oE '(^  |, )[0-7] |reiserconv\(8\)|[A-Z]*\.md|/usr/share/doc/[a-z]*' | tr -d ', ' | xargs)"
     run -V
     same 'the version by -V' "0|reiserconv $version|" "$status|$out|$err"
     ends 'help behind a word that is no command' 2 "$usage" mount --help
@@ -574,6 +574,7 @@ if need mkfs.reiserfs reiserfsprogs && need debugreiserfs reiserfsprogs; then
         rolled_back_volumes
         killed_conversions
         killed_rollbacks
+        torn_writes
         trials
         howto_lines
         fuzzed_volumes

@@ -11,6 +11,7 @@ taken    a directory of the root whose name a conversion needs
 long     a file whose name has 256 bytes
 crowd    32 files whose names have one hash of Btrfs, which are too many for it
 alike    9 files whose names have one hash of Btrfs
+copied   a file in the block where the first copy of a Btrfs superblock belongs, and a superblock that its map of objects fills
 """
 import struct
 import sys
@@ -37,6 +38,8 @@ ROOT, FOLDER = (1, 2), (2, 3)
 FIRST_FILE = 4
 # Behind the used blocks there is room for the trees of a conversion.
 FREE = 32768
+# The block of the first copy of a Btrfs superblock, and how many numbers the map of a ReiserFS superblock has at most.
+COPY, MAP = 16384, 972
 
 
 def links(leaves):
@@ -120,7 +123,22 @@ def alike(leaves):
     return files(leaves, names_of_one_hash(7, 9))
 
 
-KINDS = {it.__name__: it for it in (links, names, sparse, terabyte, large, removed, taken, long, crowd, alike)}
+def copied(leaves):
+    """The blocks before that one are used, and nothing names them."""
+    while next(leaves.numbers) < COPY - 1:
+        pass
+    return last_block(leaves, b"copied", BLOCK)
+
+
+def fill_map(out):
+    """Gives a volume a map of as many numbers of objects as its superblock has place for: 77 of them would fill its first 512 bytes."""
+    out.seek(16 * BLOCK + 48)
+    out.write(struct.pack("<H", MAP))
+    out.seek(16 * BLOCK + 204)
+    out.write(struct.pack(f"<{MAP}I", *range(1, 3 * MAP, 3)))
+
+
+KINDS = {it.__name__: it for it in (links, names, sparse, terabyte, large, removed, taken, long, crowd, alike, copied)}
 
 
 def main():
@@ -131,6 +149,8 @@ def main():
         add_directory(leaves, ROOT, (0, 1), 3, [(FOLDER, b"reiserfs_saved" if kind == "taken" else b"folder")])
         count = KINDS[kind](leaves)
         end_volume(out, leaves, FIRST_FILE + count, FREE)
+        if kind == "copied":
+            fill_map(out)
 
 
 main()

@@ -1,10 +1,12 @@
-/* Refuses calls of a program that it is loaded into by LD_PRELOAD, for tests/failing.py.
+/* Refuses or records calls of a program that it is loaded into by LD_PRELOAD, for tests/failing.py and tests/torn.py.
 
    VOLUME    the path of the volume; only calls on it are calls of the device
    MEMORY    the number of the allocation that is refused, from 1 on, where one is to be
    CALL      the number of the device call that fails with EIO, from 1 on; all later ones fail too
    OUTPUT    the number of the write to standard output that fails with ENOSPC, from 1 on; all later ones fail too
    LOSE      where it is set, what was written and not synced is undone when the program ends, as a device may do whose power fails
+   RECORD    a file that takes each write of the volume, as its place and its size in eight bytes each and then its bytes, and each sync, as a write of
+             no bytes
    COUNTS    a file that takes the numbers of allocations, of device calls and of writes to standard output at the end */
 #define _GNU_SOURCE
 #include <dlfcn.h>
@@ -17,12 +19,14 @@
 #include <sys/stat.h>
 #include <unistd.h>
 
+#define REAL(name) ((__typeof__(&name))dlsym(RTLD_NEXT, #name))
+
 extern void *__libc_malloc(size_t);
 extern void *__libc_realloc(void *, size_t);
 
 static unsigned long allocations, calls, outputs, refused_allocation, first_failed_call, first_failed_output;
 static const char *volume, *counts;
-static int volume_fd = -1, loses;
+static int volume_fd = -1, loses, record_fd = -1;
 
 /* What stood where something was written since the last sync, the last one first. */
 struct undo {
@@ -48,6 +52,19 @@ __attribute__((constructor)) static void begin(void)
 	first_failed_call = number("CALL");
 	first_failed_output = number("OUTPUT");
 	allocations = 0;
+}
+
+/* Adds a write that was done, or a sync, to the record. */
+static void record(const void *bytes, size_t size, off_t at)
+{
+	const char *path = getenv("RECORD");
+	if (!path)
+		return;
+	if (record_fd < 0)
+		record_fd = REAL(open)(path, O_WRONLY | O_CREAT | O_TRUNC, 0600);
+	unsigned long head[2] = {at, size};
+	if (REAL(write)(record_fd, head, sizeof head) != sizeof head || REAL(write)(record_fd, bytes, size) != (ssize_t)size)
+		_exit(99);
 }
 
 static int is_refused(void)
@@ -81,8 +98,6 @@ static int fails(void)
 	errno = EIO;
 	return 1;
 }
-
-#define REAL(name) ((__typeof__(&name))dlsym(RTLD_NEXT, #name))
 
 static int is_volume(const char *path)
 {
@@ -147,7 +162,10 @@ ssize_t pwrite(int fd, const void *from, size_t size, off_t at)
 		return -1;
 	if (loses)
 		note(fd, size, at);
-	return REAL(pwrite)(fd, from, size, at);
+	ssize_t done = REAL(pwrite)(fd, from, size, at);
+	if (done > 0)
+		record(from, done, at);
+	return done;
 }
 
 /* Whether a sync of this file fails; where it does not, what was written to the volume stays. */
@@ -161,14 +179,22 @@ static int sync_fails(int fd)
 	return 0;
 }
 
+/* The sync of a volume that was done is recorded. */
+static int synced(int fd, int result)
+{
+	if (fd == volume_fd && result == 0)
+		record("", 0, 0);
+	return result;
+}
+
 int fsync(int fd)
 {
-	return sync_fails(fd) ? -1 : REAL(fsync)(fd);
+	return sync_fails(fd) ? -1 : synced(fd, REAL(fsync)(fd));
 }
 
 int fdatasync(int fd)
 {
-	return sync_fails(fd) ? -1 : REAL(fdatasync)(fd);
+	return sync_fails(fd) ? -1 : synced(fd, REAL(fdatasync)(fd));
 }
 
 ssize_t write(int fd, const void *from, size_t size)

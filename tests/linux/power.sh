@@ -6,21 +6,14 @@
 . ./said.sh
 sectors=$(cat /sys/class/block/vda/size)
 
-device() { dmsetup create "$1" --noudevsync --noudevrules; }
-
-# begun: nothing is written over the volume
-begun() {
-    [ ! -e /dev/dm-0 ] || dmsetup remove tried --noudevsync --noudevrules
-    echo "0 $sectors snapshot /dev/vda /dev/vdc N 8" | device tried
-}
-
-# logged WORD: a command runs over a device that logs each of its writes
+# logged WORD: a command runs over a device that logs each of its writes. Block 16 of what it leaves is kept, by the format.
 logged() {
-    begun
+    begun /dev/vdc
     echo "0 $sectors log-writes /dev/dm-0 /dev/vdb" | device log
     run "$1" /dev/dm-1
     same "power: $1 with a log of its writes" '0|' "$status|$err"
     dmsetup remove log --noudevsync --noudevrules
+    if [ "$1" = convert ]; then super_of /dev/dm-0 /tmp/super.btrfs; fi
     echo "# power: $1 writes blocks between its flushes: $(perl /job/replay /dev/vdb count)"
 }
 
@@ -35,10 +28,11 @@ halfway() {
 converted() {
     run convert /dev/vda
     same 'power: a volume that is converted' '0|' "$status|$err"
+    super_of /dev/vda /tmp/super.btrfs
 }
 
-# whole NAME: behind the cut recover and list are done, and the kernel mounts what is there and sees the tree from before; a rollback that was
-# cut off is done again
+# whole NAME: behind the cut recover and list are done, block 16 is that of the format in all its bytes, and the kernel mounts what is there and sees
+# the tree from before; a rollback that was cut off is done again
 whole() {
     wrong=''
     run recover /dev/dm-0
@@ -46,6 +40,8 @@ whole() {
     format=$(sed -n 's/^volume is //p' /tmp/out)
     left="$left $format"
     mirrors=$(sed -n 's/^mirrors //p' /tmp/out)
+    super_of /dev/dm-0 /tmp/super
+    cmp -s "/tmp/super.$format" /tmp/super || wrong="$wrong, block 16 is torn"
     listed ''
     if mount -t "$format" -o "$(options "$format")" /dev/dm-0 /mnt; then
         perl /job/rows /mnt "$format" >/tmp/after
@@ -75,7 +71,7 @@ cuts() {
     logged "$command"
     number=$1
     while [ "$number" -le "$2" ]; do
-        begun
+        begun /dev/vdc
         moment=$(perl /job/replay /dev/vdb "$number" /dev/dm-0) || moment=none
         whole "power: $command, cut $number, $moment"
         number=$((number + 1))
@@ -85,6 +81,9 @@ cuts() {
 
 filled /dev/vda few
 said 'power: filled' $?
+many_objects /dev/vda
+said "power: $numbers numbers in the map of objects" $?
+super_of /dev/vda /tmp/super.reiserfs
 seen reiserfs /dev/vda /tmp/before
 status=$?
 said "power: looked at, $(wc -l </tmp/before) paths" $status

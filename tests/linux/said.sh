@@ -69,6 +69,27 @@ goes_back() {
     same "$1: reiserfsck finds nothing" '0 1' "$? $(grep -c 'No corruptions found' /tmp/out)"
 }
 
+# device NAME: makes a device of the table that is read
+device() { dmsetup create "$1" --noudevsync --noudevrules; }
+
+# begun DISK: /dev/dm-0 is /dev/vda again, and what is written to it goes to this disk
+begun() {
+    [ ! -e /dev/dm-0 ] || dmsetup remove tried --noudevsync --noudevrules
+    echo "0 $(cat /sys/class/block/vda/size) snapshot /dev/vda $1 N 8" | device tried
+}
+
+# super_of DISK FILE: puts block 16 of a disk into a file
+super_of() { dd if="$1" of="$2" bs=4096 skip=16 count=1 2>/dev/null; }
+
+# many_objects DISK: files are made and each second one is removed, so that the map of objects in the superblock has more than 77 numbers, which
+# would fill its first 512 bytes
+many_objects() {
+    mount -t reiserfs -o noatime,attrs "$1" /mnt && mkdir /mnt/objects || return
+    (cd /mnt/objects && for i in $(seq 200); do : >"$i"; done && rm ./*[13579]) && umount /mnt || return
+    numbers=$(dd if="$1" bs=2 skip=$((65536 / 2 + 24)) count=1 2>/dev/null | perl -e 'read STDIN, $it, 2; print unpack "v", $it')
+    [ "$numbers" -gt 77 ]
+}
+
 # quiet NAME: the kernel has complained of nothing since the last time, but that it will drop ReiserFS
 dmesg -c >/dev/null
 quiet() {

@@ -1,6 +1,7 @@
 # shellcheck shell=bash disable=SC2154
 # What is left of a volume when `convert` or `rollback` is killed at fifty moments: `recover` opens it, `list` prints the rows from before, and
-# the judge of the format that is there finds nothing. A rollback that was cut off can be done again. tests/outside.sh reads this file.
+# the judge of the format that is there finds nothing. A rollback that was cut off can be done again. And what is left where the power is cut in the
+# middle of their writes (tests/torn.py). tests/outside.sh reads this file.
 
 # milliseconds COMMAND..: how long it takes
 milliseconds() {
@@ -74,4 +75,17 @@ killed_rollbacks() {
     wanted=$(used_sum reiserfs reiserfs)
     run convert made
     killed 'a rollback' made goes_back rollback
+}
+
+# A sample of ten files, a volume that Linux filled, and one with a file where the first copy of a Btrfs superblock belongs and with a superblock
+# that its map of objects fills; and the definitions of what is torn, on examples.
+torn_writes() {
+    need python3 python3 || { lacks 'torn writes' python3; return; }
+    counted 'the model of a crash' "$top/tests/crash_model.py"
+    need cc gcc || { lacks 'torn writes' cc; return; }
+    is_built || { lacks 'torn writes' 'the program in crates/reiserconv/out, as rt ci builds it,'; return; }
+    makes 12288 10 12288
+    zstd -dqf "$top/tests/volumes/tiny.img.zst" -o tiny
+    "$top/tests/rare_volume.py" copied copied
+    RECONV=$top/crates/reiserconv/out/reiserconv counted 'torn writes' "$top/tests/torn.py" made tiny copied
 }

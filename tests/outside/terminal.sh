@@ -20,6 +20,13 @@ one_line() { out=$(tr '\r\n' '  ' <"$work/.out" | tr -s ' '); }
 # has TEXT: "yes" where the text is in $out, else all of $out
 has() { if [[ $out == *"$1"* ]]; then echo yes; else echo "$out"; fi; }
 
+# told TEXT: "yes" where the text is in what the last run without a terminal said on standard error, as one line
+told() {
+    local out
+    out=$(tr '\n' ' ' <"$work/.err")
+    has "$1"
+}
+
 # lines_of_terminal: what is left of the lines in .out once the line of the progress is wiped
 lines_of_terminal() { sed 's/.*\x1b\[K//' "$work/.out" | tr -d '\r'; }
 
@@ -47,7 +54,7 @@ told_refusals() {
     tells 'no volume' 1 'refused 1 novolume' "or the device ends before it. $nothing See whether" inspect zeros
     volume good 20000
     tells 'a trial on a short file' 1 'refused 4 short 65536 256' "which is 256 MiB, and the device has only 256 of them. $nothing Take a longer file" trial 1 zeros
-    tells 'a trial on a volume' 1 'refused 16 format' "which the trial would overwrite. $nothing Take another file" trial 1 good
+    tells 'a trial on a volume' 1 'refused 16 format' "which the trial would overwrite. $nothing See by 'reiserconv inspect good' which it is, and take another file" trial 1 good
     told_field() { # NAME LINE TEXT BYTE BYTES: a copy with this field is refused so
         cp --sparse=always good changed
         put changed "$4" "$5"
@@ -101,14 +108,10 @@ told_btrfs_refusals() {
     rm -f plain
     truncate -s 128M plain
     mkfs.btrfs -q -f -m single -d single plain >/dev/null 2>&1
-    tells 'a volume of the other format' 1 'refused 16 format' 'already has the format that the command makes. Nothing was written.' convert plain
-    ends 'a volume that was never converted, without a terminal' 1 'refused 17 noimage' rollback plain
-    if need python3 python3; then
-        answering '' yes rollback plain
-        same 'a volume that was never converted, on a terminal' '1|yes|yes|yes' "$status|$(has "If 'convert' made it")|$(has 'refused 17 noimage plain: ')|$(has "nothing to go back to. $nothing If you have")"
-    else
-        lacks 'a volume that was never converted, on a terminal' python3
-    fi
+    tells 'a Btrfs volume to convert' 1 'refused 16 format' "It is a Btrfs volume already, and a conversion makes one of ReiserFS. If you have converted it before, that is done. $nothing Nothing." convert plain
+    tells 'a ReiserFS volume to roll back' 1 'refused 16 format' "It is a ReiserFS volume already, and a rollback makes one of Btrfs. If you have rolled it back before, that is done. $nothing Nothing." rollback good
+    unasked 'a volume that was never converted' 1 'refused 17 noimage' "nothing to go back to. $nothing If you have" plain
+    told_second_device
     cp --sparse=always plain changed
     put changed $((super + 300)) 'A'
     tells 'a superblock with a changed byte' 1 'refused 13 badbtrfs 65536 1' 'rule 1. The checksum of the superblock is wrong.' list changed
@@ -119,6 +122,27 @@ told_btrfs_refusals() {
         lacks 'the refusal of a log tree' python3
     fi
     told_ways_back
+}
+
+# a volume that has a second device is larger than the first one
+told_second_device() {
+    rm -f first second
+    truncate -s 200M first second
+    mkfs.btrfs -q -f -m single -d single first second >/dev/null 2>&1
+    tells 'the first of two devices' 1 'refused 13 badbtrfs 65536 2' \
+        "or the volume has more than one device, so that it is larger than this one. $nothing See by 'btrfs filesystem show first' how many devices it has. Where they are several, mount the volume, and take the others out with 'btrfs device remove'." list first
+    rm -f first second
+}
+
+# unasked NAME STATUS LINE TEXT PATH: a rollback ends so on a terminal where somebody could answer, and asks nothing; without one the line is all
+unasked() {
+    local before
+    ends "a rollback of $1, without a terminal" "$2" "$3" rollback "$5"
+    need python3 python3 || { lacks "a rollback of $1, on a terminal" python3; return; }
+    before=$(sha256sum <"$5")
+    answering '' yes rollback "$5"
+    same "a rollback of $1, on a terminal" "$2|0|0|yes|yes|$before" \
+        "$status|$(grep -c "'yes' or 'no'" "$work/.out")|$(grep -c 'interrupted' "$work/.out")|$(has "$3 $5: ")|$(has "$4")|$(sha256sum <"$5")"
 }
 
 # a conversion without the space, and refusals of going back
@@ -152,13 +176,8 @@ told_moved_image() {
     umount mounted
     run rollback "$device"
     same 'the number of a moved image' 'refused 18 moved' "${err% *}"
-    if need python3 python3; then
-        answering '' 'yes' rollback "$device"
-        same 'a moved image, on a terminal' '1|yes' "$status|$(has "$err $device: Block ${err##* } of the old volume no longer lies where it lay. A balance of data moves blocks")"
-        same 'a moved image has no way back' yes "$(has "$nothing Nothing leads back any more.")"
-    else
-        lacks 'a moved image, on a terminal' python3
-    fi
+    unasked 'a moved image' 1 "$err" "Block ${err##* } of the old volume no longer lies where it lay. A balance of data moves blocks" "$device"
+    same 'a moved image has no way back' yes "$(has "$nothing Nothing leads back any more.")"
     losetup --detach "$device"
 }
 
@@ -173,8 +192,29 @@ told_lines() {
     flock -n 7
     tells 'a file that is locked' 3 'device fault' "Another program has locked it, such as another run of this one. $nothing Wait" recover locked
     exec 7<&-
+    told_permissions
     on_terminal --version
     same 'nothing is told where a command is done' "0|reiserconv $version " "$status|$out"
+}
+
+# What may not be opened, as root and as another user. An immutable file is closed to root too.
+told_permissions() {
+    if [ "$(id -u)" != 0 ]; then
+        echo 'skipped: what root may not open, since this is not run as root'
+        return
+    fi
+    printf x >fixed
+    if chattr +i fixed 2>/dev/null; then
+        tells 'what root may not open' 3 'device fault' "the system forbids it to root too. $nothing In a container begin again outside of it." recover fixed
+        same 'root is not told to be root' 0 "$(grep -c 'by root alone' "$work/.out")"
+        chattr -i fixed
+    else
+        echo 'skipped: what root may not open, since this file system has no immutable files'
+    fi
+    # the folder of the checks belongs to root alone
+    local traced=$program program=setpriv
+    on_terminal --reuid 65534 --regid 65534 --clear-groups "$traced" inspect "$work/fixed"
+    same 'what another user may not open' '3|yes' "$status|$(has "$work/fixed: opening it: Permission denied (os error 13). It could not be opened: you may not open it. $nothing A device is opened by root alone: begin again as root.")"
 }
 
 # what is wrong with words that are no command
@@ -230,7 +270,7 @@ told_odd_words() {
     tells 'a word with control characters' 2 "$usage" "'a\\ b\$'\\u001b'\$'\\u000a'c' is a word too many" inspect x $'a b\e\nc'
     tells 'a path that is not in UTF-8' 7 'start fault' 'An argument is no text in UTF-8, and a path has to be. Nothing was opened. What to do: Reach the file by a symbolic link' inspect $'\xff'
     run convert --verbose --nodesize 16K x
-    same 'without a terminal, but with --verbose' "2||$usage 'yes" "$status|$out|$(head -1 "$work/.err") '$(out=$(tr '\n' ' ' <"$work/.err") && has "write '--nodesize 16384' in place of '16K'. What to do: 'reiserconv --help' has")"
+    same 'without a terminal, but with --verbose' "2||$usage 'yes" "$status|$out|$(head -1 "$work/.err") '$(told "write '--nodesize 16384' in place of '16K'. What to do: 'reiserconv --help' has")"
 }
 
 # whether the space suffices, and that what is told to help does help
@@ -264,22 +304,74 @@ told_steps() {
     makes 12288 7 12288
     cp --sparse=always made "$disk"
     on_terminal convert "$disk"
-    same 'a conversion begins and is done' '0|yes|yes|yes|yes|yes' "$status|$(
-        has "is there, whole, at each moment. Run 'reiserconv recover my\\ disk\\'s' then")|$(has "'btrfs check --readonly my\\ disk\\'s' has to find nothing.")|$(
+    same 'a conversion begins and is done' '0|yes|yes|yes|yes|yes|yes|yes' "$status|$(
+        has "my\\ disk\\'s is written to from now on. If this is interrupted, by Ctrl-C, a signal or a power cut, the old volume or the new one is there, whole, at each moment. Run 'reiserconv recover my\\ disk\\'s' then")|$(has "'btrfs check --readonly my\\ disk\\'s' has to find nothing.")|$(
+        has "What closes the way back for good: to delete the image or its folder, a balance of data, data that is kept twice or in a RAID ('-dconvert'), a smaller size that moves blocks of the image, and a defragmentation or deduplication of the image itself.")|$(
+        has "What closes it for a while: to rename or move the image or its folder, until both have their names and places again; another device, until 'btrfs device remove' took it out; and metadata in a RAID, until 'btrfs balance start -f -mconvert=single -sconvert=single /mnt' made it single, without '-dconvert'.")|$(
         has "'mount -t btrfs -o space_cache=v2 my\\ disk\\'s /mnt'")|$(has "'reiserconv rollback my\\ disk\\'s'")|$(
         has "'btrfs subvolume delete -c /mnt/reiserfs_saved', then 'btrfs subvolume sync /mnt' and then 'btrfs filesystem sync /mnt' free the space of the image.")"
     on_terminal recover "$disk"
     same 'what is there is Btrfs' '0|yes' "$status|$(has 'is a Btrfs volume. If a conversion was interrupted, it is done')"
     on_terminal rollback "$disk"
-    same 'a rollback begins and is done' '0|yes|yes' "$status|$(has "is there, whole, at each moment. Run 'reiserconv recover my\\ disk\\'s' then")|$(has 'is the ReiserFS volume from before the conversion again')"
+    same 'a rollback begins and is done' '0|yes|yes|yes' "$status|$(has "is there, whole, at each moment. Run 'reiserconv recover my\\ disk\\'s' then")|$(has 'is the ReiserFS volume from before the conversion again')|$(
+        has "'reiserfsck --check --yes my\\ disk\\'s' has to find nothing.")"
     on_terminal recover "$disk"
     same 'what is there is ReiserFS' '0|yes' "$status|$(has "it is as before: begin again with 'reiserconv convert my\\ disk\\'s'.")"
-    truncate -s 256M blank
-    on_terminal trial 7 blank
-    same 'a trial begins' '0|yes' "$status|$(has 'blank is overwritten, unless the trial is refused.')"
+    told_trial
     run convert "$disk"
     same 'nothing is told without a terminal' '0||6' "$status|$err|$(wc -l <"$work/.out")"
-    rm -f "$disk" blank
+    rm -f "$disk"
+    told_before_writing
+}
+
+# a trial tells that it overwrites, that it went well, and what it leaves
+told_trial() {
+    truncate -s 256M blank
+    on_terminal trial 7 blank
+    same 'a trial begins and is done' '0|yes|yes|yes|yes' "$status|$(has 'blank is overwritten from now on.')|$(has 'same blocks The trial went well. A ReiserFS volume with 7 files was made at blank, turned into Btrfs, and turned back.')|$(
+        has "The lines of 'list' were the same before and after the conversion, and so was each block in use after the way back.")|$(
+        has "blank still holds that ReiserFS volume, of 256 MiB, for you to look at. Remove the file when you are done with it.")"
+    run inspect blank
+    same 'what a trial says that it leaves' '0||format reiserfs' "$status|$err|$(head -1 "$work/.out")"
+    rm -f blank
+    truncate -s 256M blank
+    run trial --verbose 7 blank
+    same 'a trial with --verbose, without a terminal' '0|same blocks|yes|yes' "$status|$(tail -1 "$work/.out")|$(told 'blank is overwritten from now on.')|$(
+        told 'begin again. The trial went well.')"
+    rm -f blank
+}
+
+# What to do if a command is interrupted is told once it begins to write, and so not where it is refused; with --verbose without a terminal too.
+told_before_writing() {
+    local word
+    makes 9216 0 9216
+    for word in convert rollback; do
+        on_terminal "$word" made
+        same "nothing of an interruption is told of a refused $word" 0 "$(grep -c interrupted "$work/.out")"
+    done
+    on_terminal trial 7 made
+    same 'nor of a refused trial' '1|0' "$status|$(grep -c 'interrupted\|overwritten from' "$work/.out")"
+    on_terminal trial 7 "$work/nothing"
+    same 'nor of a trial where nothing is' '3|0' "$status|$(grep -c 'interrupted\|overwritten from' "$work/.out")"
+    makes 12288 7 12288
+    run convert --verbose made
+    same 'of a convert with --verbose it is told without a terminal' '0|converted to btrfs|yes|yes' "$status|$(head -1 "$work/.out")|$(
+        told 'made is written to from now on. If this is interrupted')|$(told 'begin again. made is a Btrfs volume now.')"
+    run rollback --verbose made
+    same 'of a rollback with --verbose it is told without a terminal' '0|rolled back to reiserfs|yes' "$status|$(head -1 "$work/.out")|$(
+        told "the Btrfs volume or the old one is there, whole, at each moment. Run 'reiserconv recover made' then: it says which, and if it is the Btrfs volume, begin again. made is the ReiserFS volume")"
+    run rollback --verbose made
+    same 'with --verbose the line of a refused rollback is the first' '1||refused 16 format' "$status|$out|$(head -1 "$work/.err")"
+    told_write_order
+}
+
+# the first block is written behind the text, and nothing before it
+told_write_order() {
+    need strace strace || { lacks 'when the text on an interruption is told' strace; return; }
+    makes 12288 7 12288
+    strace -qq -o calls -e trace=write,pwrite64 "$program" convert --verbose made >/dev/null 2>&1
+    same 'the text on an interruption comes right before the first block' '1|yes' "$(grep -c 'is written to from now on' calls)|$(
+        grep -E '^(write\(2|pwrite64)' calls | head -2 | sed 's/(.*//' | paste -sd ' ' | grep -qx 'write pwrite64' && echo yes)"
 }
 
 # shown: the texts that were shown in the line of the progress, one below the other
@@ -312,7 +404,7 @@ progress() {
     goes_on 'a long convert' 'checking|checking \(1 of 3\)|counting \(2 of 3\)|converting \(3 of 3\)'
     # the volume has 533,047 blocks in use, and its tree a few hundred
     same 'what is known of it is right' 'yes' "$(sed -n 's/^converting.* of \([0-9]*\) MiB.*/\1/p' lines | sort -u | awk '{ n++; if ($1 < 2082 || $1 > 2086) exit 1 } END { if (n == 1) print "yes" }')"
-    same 'what is told before a long convert is done' "If this is interrupted, by Ctrl-C, a signal or a power cut, the old volume or the new one is there, whole, at each moment. Run 'reiserconv recover copied' then: it says which, and if it is the old one, begin again." \
+    same 'what is told before a long convert is done' "copied is written to from now on. If this is interrupted, by Ctrl-C, a signal or a power cut, the old volume or the new one is there, whole, at each moment. Run 'reiserconv recover copied' then: it says which, and if it is the old one, begin again." \
         "$(lines_of_terminal | sed '/^converted to btrfs$/,$d' | paste -sd ' ')"
     narrow_terminals
     cp --sparse=always rare copied
@@ -424,38 +516,25 @@ PYTHON
     one_line
 }
 
-# with_generation FILE NUMBER: the superblock has this generation, and its checksum is right
-with_generation() {
-    python3 - "$1" "$top/tests" "$2" <<'PYTHON'
-import struct, sys
-sys.path.insert(0, sys.argv[2])
-from crc32c import crc32c
-with open(sys.argv[1], "r+b") as volume:
-    volume.seek(65536)
-    block = bytearray(volume.read(4096))
-    struct.pack_into("<Q", block, 72, int(sys.argv[3]))
-    struct.pack_into("<I", block, 0, crc32c(block[32:]))
-    volume.seek(65536)
-    volume.write(block)
-PYTHON
-}
-
-# a rollback asks where something was written since the conversion, and only where somebody can answer
+# a rollback asks where something was written since the conversion and the way back is open, and only where somebody can answer
 questions() {
     need python3 python3 || { lacks 'what a rollback asks' python3; return; }
+    need btrfs btrfs-progs || { lacks 'what a rollback asks' btrfs; return; }
     local before answer typed
     makes 12288 7 12288
+    "$program" list made >rows
     run convert made
     cp --sparse=always made copied
     answering '' '' rollback copied
     same 'nothing is asked where nothing was written' '0|0|yes' "$status|$(grep -c "'yes' or 'no'" "$work/.out")|$(has 'rolled back to reiserfs')"
-    with_generation made 5
+    # a transaction more, as a mount for writing makes one
+    btrfs filesystem label made written
     before=$(sha256sum <made)
     while IFS='|' read -r typed answer; do
         answering "$typed" "$answer" rollback made
-        same "the answer '$answer', behind '$typed'" "1|1|yes|yes|$before" "$status|$(tr -d '\r' <"$work/.out" | grep -cx 'not confirmed')|$(
-            has "made was mounted for writing since it became Btrfs. If 'convert' made it, a rollback makes it the old volume again, and all that was written since is lost")|$(
-            has "made: The answer was not 'yes'. Nothing was opened for writing, and the volume stays as it is.")|$(sha256sum <made)"
+        same "the answer '$answer', behind '$typed'" "1|1|yes|yes|0|$before" "$status|$(tr -d '\r' <"$work/.out" | grep -cx 'not confirmed')|$(
+            has "The way back is open: a rollback makes made the old volume again. But it was written to since the conversion, as each mount that is not read-only does, and all of that is lost then")|$(
+            has "made: The answer was not 'yes'. Nothing was written, and the volume stays as it is.")|$(grep -c 'device fault\|interrupted' "$work/.out")|$(sha256sum <made)"
     done <<'ANSWERS'
 |no
 |y
@@ -465,25 +544,59 @@ yes|no
 yes|
 yes|nonsense
 ANSWERS
-    # no mark of a node fits this generation, so that the run behind a yes is refused
-    answering 'no' 'yes' rollback made
-    same 'behind a yes the command is done' '1|0|yes' "$status|$(grep -c 'not confirmed' "$work/.out")|$(has 'refused 13 badbtrfs')"
-    opens_for_reading
-    run rollback made
-    same 'nothing is asked without a terminal' '1|refused 13 badbtrfs' "$status|${err% * *}"
-    "$program" rollback made </dev/null >"$work/.out" 2>&1
-    same 'nor without any' '1|refused 13 badbtrfs' "$?|$(head -1 "$work/.out" | cut -d ' ' -f 1-3)"
-    on_terminal inspect made
-    same 'nothing is asked of a command that only reads' 0 "$(grep -c "'yes' or 'no'" "$work/.out")"
+    writes_nothing
+    asked_where_seen
+    cp --sparse=always made copied
+    answering 'no' 'yes' rollback copied
+    same 'behind a yes it is told what to do if it is interrupted, and done' '0|0|yes' "$status|$(grep -c 'not confirmed' "$work/.out")|$(
+        has "('yes' or 'no') yes copied is written to from now on. If this is interrupted")"
+    same 'with the rows from before, behind a yes' "$(sha256sum <rows)" "$("$program" list copied | sha256sum)"
+    questions_in_vain
     mounted_questions
 }
 
-# before an answer, and behind one that is not yes, the volume is opened for reading alone
-opens_for_reading() {
-    need strace strace || { lacks 'how a volume is opened before a question' strace; return; }
+# asked_where_seen: nothing is asked where nobody sees it or can answer
+asked_where_seen() {
+    cp --sparse=always made copied
+    run rollback copied
+    same 'nothing is asked without a terminal' '0||rolled back to reiserfs' "$status|$err|$(head -1 "$work/.out")"
+    cp --sparse=always made copied
+    local asked=$program program=/bin/sh
+    # shellcheck disable=SC2016
+    on_terminal -c '"$0" rollback copied </dev/null' "$asked"
+    program=$asked
+    same 'nor where nobody can answer' '0|0' "$status|$(grep -c "'yes' or 'no'" "$work/.out")"
+    on_terminal inspect made
+    same 'nor of a command that only reads' 0 "$(grep -c "'yes' or 'no'" "$work/.out")"
+}
+
+# before an answer, and behind one that is not yes, no block is written
+writes_nothing() {
+    need strace strace || { lacks 'what is written before a question' strace; return; }
     local traced=$program program=strace
-    answering '' no -qq -o opened -e trace=open,openat "$traced" rollback made
-    same 'before an answer nothing is opened for writing' '1|0' "$(grep -c '"made"' opened)|$(grep -c 'O_RDWR\|O_WRONLY' opened)"
+    answering '' no -qq -o called -e trace=pwrite64,pread64 "$traced" rollback made
+    same 'before an answer nothing is written' 'yes|0' "$(grep -q pread64 called && echo yes)|$(grep -c pwrite64 called)"
+    program=$traced
+}
+
+# what would be refused behind an answer is refused before, and nothing is asked
+questions_in_vain() {
+    local device
+    cp --sparse=always made copied
+    put copied $((super + 300)) 'A'
+    unasked 'a volume with a changed superblock' 1 'refused 13 badbtrfs 65536 1' 'The checksum of the superblock is wrong.' copied
+    cp --sparse=always made copied
+    exec 7<copied
+    flock -n 7
+    unasked 'a file that is locked' 3 'device fault' 'Another program has locked it' copied
+    exec 7<&-
+    if ! device=$(losetup --find --show --read-only copied 2>/dev/null); then
+        echo 'skipped: questions on devices in use, since this machine gives no loop device'
+        return
+    fi
+    unasked 'a read-only device' 3 'device fault' 'It is read-only.' "$device"
+    unasked 'the file of a loop device' 3 'device fault' 'A loop device is attached to the file.' copied
+    losetup --detach "$device"
 }
 
 # what Linux writes is asked for, and rolled back behind a yes
@@ -502,6 +615,8 @@ mounted_questions() {
     device=$(losetup --find --show asked)
     mkdir -p mounted
     mount -t btrfs "$device" mounted && : >mounted/new
+    answering '' yes rollback "$device"
+    same 'nothing is asked of a mounted volume' '3|0|yes' "$status|$(grep -c "'yes' or 'no'" "$work/.out")|$(has "device fault $device: It is mounted, or")"
     umount mounted
     answering yes no rollback "$device"
     same 'a volume that Linux has written to is asked for' '1|yes' "$status|$(has 'not confirmed')"

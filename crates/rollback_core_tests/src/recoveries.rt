@@ -397,3 +397,78 @@ fn a_last_block_is_kept(rt: HostRuntime) -> Result<(), Fail> {
     assert!(rt; left == (copy_of(&block), writes_for(1)));
     Ok(())
 }
+
+/// A block that no volume here uses, for the superblock that a mark names.
+const KEPT: BlockNo = 900;
+
+/// A ReiserFS volume whose block 16 is half turned: its first sector has a mark, which names the block where the superblock lies as it was, and
+/// its other sectors hold fives. And that superblock.
+fn half_turned(alloc: Global) -> Result<(MemDisk, Block), Fail>
+    ensures size { IfOk result (λ both. length both.0.history.start ≡ 20000) }
+    ensures closed { IfOk result (λ both. both.0.opened ≡ None) }
+{
+    let mut disk = reiser(alloc, &Block::zero())?;
+    let mut before = Block::zero();
+    disk.block(16, &mut before);
+    let mut half = filled(5);
+    half.bytes[..512].copy_from_slice(&before.bytes[..512]);
+    half.bytes[128..144].copy_from_slice(b"reiserconv turns");
+    half.bytes[144..152].copy_from_slice(&KEPT.to_le_bytes());
+    disk.set_block(KEPT, &before)?;
+    disk.set_block(16, &half)?;
+    Ok((disk, before))
+}
+
+/// Block 16 becomes the superblock that its mark names, whatever its other sectors hold, in two writes.
+#[test]
+fn a_half_turned_superblock_is_put_back(rt: HostRuntime) -> Result<(), Fail> {
+    let whole = RecoverSummary {
+        format: Format::Reiser,
+        mirrors: 0,
+    };
+    let (mut disk, before) = half_turned(rt.alloc())?;
+    disk.open("", Access::Write)?;
+    assert_eq!(rt; recover(rt.alloc(), &mut disk), Ok(whole));
+    assert_eq!(rt; disk.writes(), 2);
+    assert!(rt; has(&mut disk, 16, &before)?);
+    disk.settle();
+    disk.open("", Access::Write)?;
+    assert_eq!(rt; recover(rt.alloc(), &mut disk), Ok(whole));
+    assert_eq!(rt; disk.writes(), 0);
+    assert!(rt; has(&mut disk, 16, &before)?);
+    Ok(())
+}
+
+/// A recovery that stops while it puts block 16 back leaves what the next one puts back.
+#[test]
+fn a_crash_of_putting_back_is_put_back(rt: HostRuntime) -> Result<(), Fail> {
+    for writes in 1..3 {
+        let (mut disk, before) = half_turned(rt.alloc())?;
+        disk.open("", Access::Write)?;
+        disk.stop_at_write(writes);
+        assert_eq!(rt; recover(rt.alloc(), &mut disk), Err(Answer::Fault));
+        for choice in [0, 1] {
+            let mut left = disk.after_crash(&[choice])?;
+            left.open("", Access::Write)?;
+            assert!(rt; recover(rt.alloc(), &mut left).is_ok());
+            assert!(rt; has(&mut left, 16, &before)?);
+        }
+    }
+    Ok(())
+}
+
+/// A mark leads nowhere where the block that it names is another one; block 16 stays as it is.
+#[test]
+fn a_mark_without_a_copy_is_left_alone(rt: HostRuntime) -> Result<(), Fail> {
+    let (mut disk, before) = half_turned(rt.alloc())?;
+    let mut half = Block::zero();
+    disk.block(16, &mut half);
+    let mut other = before;
+    other.bytes[511] ^= 1;
+    disk.set_block(KEPT, &other)?;
+    disk.open("", Access::Write)?;
+    assert!(rt; recover(rt.alloc(), &mut disk).is_ok());
+    assert_eq!(rt; disk.writes(), 0);
+    assert!(rt; has(&mut disk, 16, &half)?);
+    Ok(())
+}

@@ -3,7 +3,7 @@ ghost use Rattle.std.specs.Prelude.{◌≤◌};
 
 use crate::block_access::{block, put_block};
 use crate::broken::Broken;
-use crate::layout::{Entry, Stat, Super, TOP, directory, mark, r5};
+use crate::layout::{Entry, Stat, Super, TOP, directory, mark, put_bytes, r5};
 use outside::{Access, BlockSource, Disk};
 use outside_mem::MemDisk;
 use reiser_make::make;
@@ -144,4 +144,23 @@ pub fn made(alloc: Global, number: u32, blocks: u64) -> Result<MemDisk, Broken>
         }
     }
     Ok(disk)
+}
+
+/// How many numbers the object-id map of a superblock has at most: from byte 204 on it has four bytes for each.
+const MAP: u16 = 972;
+
+/// Gives a volume an object-id map that fills its superblock, where 77 numbers would fill the first 512 bytes.
+pub fn fill_map(disk: &mut MemDisk) -> Result<(), Broken> {
+    let mut superblock = block(disk, 16)?;
+    put_bytes(&mut superblock, 46, &MAP.to_le_bytes())?;
+    put_bytes(&mut superblock, 48, &MAP.to_le_bytes())?;
+    for i in 0..u32::from(MAP) {
+        let number = i.wrapping_mul(3).wrapping_add(1);
+        put_bytes(
+            &mut superblock,
+            204 + 4 * (i as usize),
+            &number.to_le_bytes(),
+        )?;
+    }
+    put_block(disk, 16, &superblock)
 }

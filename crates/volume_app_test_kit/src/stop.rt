@@ -1,9 +1,11 @@
 // Commands that are stopped behind their writes, and what crashes leave then.
+use crate::block_access::block;
 use crate::broken::Broken;
 use crate::choice::Choice;
 use crate::old::Old;
 use crate::run::{Trouble, done, ran};
 use outside_mem::MemDisk;
+use vol_block::Block;
 
 /// Behind which numbers of writes a command is stopped: those that leave the remainder `first` by `step`.
 #[derive(Clone, Copy)]
@@ -32,18 +34,52 @@ impl Old {
         Ok(())
     }
 
-    /// Sees that what a crash left has the rows of the volume behind `recover`, and is the volume, or becomes it by a rollback: whether
-    /// it was still Btrfs.
-    fn recovers(&self, left: &mut MemDisk) -> Result<bool, Broken> {
+    /// Sees that what a crash left has the rows of the volume behind `recover`, and is the volume, or is the one that a conversion makes of it
+    /// by block 16 and becomes it by a rollback: whether it was still Btrfs.
+    fn recovers(&self, left: &mut MemDisk, superblock: &Block) -> Result<bool, Broken> {
         let told = done(self.alloc, "recover", left)?;
         self.is_recovered(left)?;
         self.has_rows(left)?;
         let is_btrfs = told.as_slice().starts_with(b"volume is btrfs\n");
         if is_btrfs {
+            if block(left, 16)? != *superblock {
+                return Err(Broken::Changed(16));
+            }
             done(self.alloc, "rollback", left)?;
         }
         self.is_back(left)?;
         Ok(is_btrfs)
+    }
+
+    /// What a crash leaves by a choice of a disk where a command is stopped behind so many writes.
+    fn crashed(
+        &self,
+        word: &str,
+        base: &MemDisk,
+        writes: u64,
+        choice: Choice,
+    ) -> Result<MemDisk, Broken> {
+        let mut disk = base.after_crash(&[])?;
+        let ended = ran(self.alloc, word, &mut disk, Trouble::Power(writes))?;
+        if ended.status != 3 {
+            return Err(Broken::Status(ended.status));
+        }
+        Ok(choice.left(self.alloc, &disk, writes)?)
+    }
+
+    /// Sees that what a crash left recovers where `recover` is stopped behind any of its writes, and once it is not: whether it was still Btrfs.
+    fn recovers_in_the_end(
+        &self,
+        left: &mut MemDisk,
+        choice: Choice,
+        superblock: &Block,
+    ) -> Result<bool, Broken> {
+        let last = self.writes_of("recover", left)?;
+        for writes in 1..last.saturating_add(1) {
+            let mut again = self.crashed("recover", left, writes, choice)?;
+            self.recovers(&mut again, superblock)?;
+        }
+        self.recovers(left, superblock)
     }
 
     /// Stops a command behind so many writes, and looks at what crashes leave by each of these choices: how many leave it Btrfs.
@@ -53,17 +89,12 @@ impl Old {
         base: &MemDisk,
         writes: u64,
         choices: &[Choice],
+        superblock: &Block,
     ) -> Result<u64, Broken> {
-        let mut disk = base.after_crash(&[])?;
-        let ended = ran(self.alloc, word, &mut disk, Trouble::Power(writes))?;
-        if ended.status != 3 {
-            return Err(Broken::Status(ended.status));
-        }
         let mut btrfs = 0u64;
         for choice in choices {
-            let numbers = choice.numbers(self.alloc, writes)?;
-            let mut left = disk.after_crash(&numbers)?;
-            if self.recovers(&mut left)? {
+            let mut left = self.crashed(word, base, writes, *choice)?;
+            if self.recovers_in_the_end(&mut left, *choice, superblock)? {
                 btrfs = btrfs.saturating_add(1);
             }
         }
@@ -85,8 +116,8 @@ impl Old {
     /// Runs a command over copies of a disk that holds this volume in one format or the other, stops it behind these numbers of writes
     /// and where all are made, and looks each time at what crashes leave by each of these choices: how many leave it Btrfs.
     ///
-    /// Whatever a crash leaves has the rows of the volume behind `recover`, which has nothing to do a second time; and it is the volume, or
-    /// becomes it by a rollback.
+    /// Whatever a crash leaves has the rows of the volume behind `recover`, which has nothing to do a second time and can itself be stopped; and
+    /// it is the volume, or the one that a conversion makes of it by block 16, and becomes the volume by a rollback.
     pub fn stops(
         &self,
         word: &str,
@@ -94,11 +125,27 @@ impl Old {
         stops: Stops,
         choices: &[Choice],
     ) -> Result<u64, Broken> {
+        let superblock = block(&mut self.converted()?, 16)?;
         let last = self.writes_of(word, base)?;
         let mut btrfs = 0u64;
         for writes in 0..last.saturating_add(1) {
             if stops.has(writes) {
-                btrfs = btrfs.saturating_add(self.stop(word, base, writes, choices)?);
+                let left = self.stop(word, base, writes, choices, &superblock)?;
+                btrfs = btrfs.saturating_add(left);
+            }
+        }
+        Ok(btrfs)
+    }
+
+    /// The same behind each of its last writes, five at most, with sectors torn by so many random choices.
+    pub fn torn_ends(&self, word: &str, base: &MemDisk, seeds: u32) -> Result<u64, Broken> {
+        let superblock = block(&mut self.converted()?, 16)?;
+        let last = self.writes_of(word, base)?;
+        let mut btrfs = 0u64;
+        for writes in last.saturating_sub(4)..last.saturating_add(1) {
+            for seed in 0..seeds {
+                let left = self.stop(word, base, writes, &[Choice::Torn(seed)], &superblock)?;
+                btrfs = btrfs.saturating_add(left);
             }
         }
         Ok(btrfs)
