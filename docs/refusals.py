@@ -16,6 +16,8 @@ TABLE = "docs/refusals.table"
 SENTENCES = "crates/reiserconv/src/sentences.rt"
 DOCUMENT = "docs/REFUSALS.md"
 MANUAL = "docs/reiserconv.8"
+# the commands of which a refusal may be another matter than of all
+COMMANDS = ("convert", "rollback", "trial")
 
 
 class Block:
@@ -66,7 +68,7 @@ def read_table(path):
 def plain(block, field):
     """A text without its marks, with `{1}` for the first number and `{path}` for the path."""
     text = re.sub(r"\[([^]]*)\]\([^)]*\)", r"\1", block.text(field)).replace("`", "'")
-    if block.kind in ("refused", "trial") and field == "means":
+    if block.kind in ("refused", *COMMANDS) and field == "means":
         for place, name in enumerate(block.names, 1):
             text = re.sub(rf"\b{name}\b", f"{{{place}}}", text)
     elif block.kind == "refused" and field == "do":
@@ -78,7 +80,9 @@ def plain(block, field):
 
 def function(name, argument, says, arms):
     """A function of the texts, in the layout of `rt fmt`."""
-    lines = [f"/// {says}", f"pub fn {name}({argument}) -> Sentence {{", f"    match {argument.split(':')[0]} {{"]
+    names = re.findall(r"\w+(?=:)", argument)
+    matched = names[0] if len(names) == 1 else f"({', '.join(names)})"
+    lines = [f"/// {says}", f"pub fn {name}({argument}) -> Sentence {{", f"    match {matched} {{"]
     for pattern, means, do in arms:
         lines += [
             f"        {pattern} => Sentence {{",
@@ -99,6 +103,11 @@ def sentences(blocks):
     def quoted(block):
         return f'"{block.name}"'
 
+    def of_command(block):
+        return f'("{block.kind}", {block.number})'
+
+    own = [it for kind in COMMANDS for it in arms(kind, of_command)]
+
     parts = [
         "// Made by docs/refusals.py of docs/refusals.table: change that one, and not this file.\n",
         "/// What a line means, and what to do next, each empty where there is nothing to say. In the text of a refusal `{1}` stands for the first\n"
@@ -107,7 +116,7 @@ def sentences(blocks):
         "pub struct Sentence {\n    pub means: &'static str,\n    pub next: &'static str,\n}\n",
         'const NOTHING: Sentence = Sentence {\n    means: "",\n    next: "",\n};\n',
         function("of_refusal", "number: u64", "Of the refusal with this number.", arms("refused", number)) + "\n",
-        function("of_trial", "number: u64", "Of the refusal of a trial with this number, where it is another matter.", arms("trial", number)) + "\n",
+        function("of_command", "command: &str, number: u64", "Of the refusal with this number of one command, where it is another matter than of all.", own) + "\n",
         function("of_rule", "number: u64", "Of a rule of ReiserFS that is broken.", arms("rule", number)) + "\n",
         function("of_btrfs_rule", "number: u64", "Of a rule of Btrfs that is broken.", arms("btrfs", number)) + "\n",
         function("of_feature", "number: u64", "Of what is not supported.", arms("feature", number)) + "\n",
