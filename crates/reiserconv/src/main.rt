@@ -120,19 +120,15 @@ fn serve<
         &mut line,
     );
     shown.wipe();
-    let mut ended = Ended {
-        status,
-        line: line.line(),
-        trouble: disk.disk.trouble(),
-        wrote: disk.disk.written() > 0,
-        is_root: is_root(&rt),
-    };
+    let (trouble, wrote, root) = (disk.disk.trouble(), disk.disk.written() > 0, is_root(&rt));
     if disk.is_stopped() {
-        ended.status = NOT_CONFIRMED;
-        ended.line = NOT_CONFIRMED_LINE;
+        let ended = Ended::new(NOT_CONFIRMED, NOT_CONFIRMED_LINE, trouble, wrote, root);
+        tell_end(rt, start, talk.as_ref(), &ended, shown, out, err);
+        return NOT_CONFIRMED;
     }
+    let ended = Ended::new(status, line.line(), trouble, wrote, root);
     tell_end(rt, start, talk.as_ref(), &ended, shown, out, err);
-    ended.status
+    status
 }
 
 /// A sink that keeps the line of a run, and passes nothing on.

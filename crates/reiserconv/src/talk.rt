@@ -34,6 +34,25 @@ pub struct Ended<'a> {
     pub is_root: bool,
 }
 
+impl<'a> Ended<'a> {
+    /// With this status and this line; the rest is as the fields say.
+    pub fn new(
+        status: u8,
+        line: &'a [u8],
+        trouble: Option<Trouble>,
+        wrote: bool,
+        is_root: bool,
+    ) -> Ended<'a> {
+        Ended {
+            status,
+            line,
+            trouble,
+            wrote,
+            is_root,
+        }
+    }
+}
+
 impl<'a> Talk<'a> {
     /// There is one where standard error is a terminal, or the words ask for it. Without memory there is none.
     pub fn new(

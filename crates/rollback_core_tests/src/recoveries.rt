@@ -401,8 +401,20 @@ fn a_last_block_is_kept(rt: HostRuntime) -> Result<(), Fail> {
 /// A block that no volume here uses, for the superblock that a mark names.
 const KEPT: BlockNo = 900;
 
-/// A ReiserFS volume whose block 16 is half turned: its first sector has a mark, which names the block where the superblock lies as it was, and
-/// its other sectors hold fives. And that superblock.
+/// The first sector of a superblock, with a mark that names the block where it is kept, and fives in the other sectors.
+fn half_of(before: &Block) -> Block {
+    let mut half = Block {
+        bytes: before.bytes,
+    };
+    half.bytes[128..144].copy_from_slice(b"reiserconv turns");
+    half.bytes[144..152].copy_from_slice(&KEPT.to_le_bytes());
+    for i in 512..4096 {
+        half.bytes[i] = 5;
+    }
+    half
+}
+
+/// A ReiserFS volume whose block 16 is half turned, by a mark that names the block where the superblock lies as it was. And that superblock.
 fn half_turned(alloc: Global) -> Result<(MemDisk, Block), Fail>
     ensures size { IfOk result (λ both. length both.0.history.start ≡ 20000) }
     ensures closed { IfOk result (λ both. both.0.opened ≡ None) }
@@ -410,12 +422,8 @@ fn half_turned(alloc: Global) -> Result<(MemDisk, Block), Fail>
     let mut disk = reiser(alloc, &Block::zero())?;
     let mut before = Block::zero();
     disk.block(16, &mut before);
-    let mut half = filled(5);
-    half.bytes[..512].copy_from_slice(&before.bytes[..512]);
-    half.bytes[128..144].copy_from_slice(b"reiserconv turns");
-    half.bytes[144..152].copy_from_slice(&KEPT.to_le_bytes());
     disk.set_block(KEPT, &before)?;
-    disk.set_block(16, &half)?;
+    disk.set_block(16, &half_of(&before))?;
     Ok((disk, before))
 }
 
