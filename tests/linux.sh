@@ -7,6 +7,7 @@
 #   everyday  a converted volume in use: compression, devices, snapshots, quotas, swap files, two copies of metadata; and the way back
 #   power     the power is cut in the middle of the commands that write, and of their writes
 #   tight     a volume with just the free space that a conversion needs, and what the kernel can do then
+#   failing   one sector of the disk can't be written, while another process holds it open
 #   busy      a device in use is not opened for writing
 #   read      the kernel fills a volume of Btrfs, and list prints what Linux sees of it
 #
@@ -40,11 +41,16 @@ fi
 PROGRAM=${RECONV:-$("$top/release/find.sh" reiserconv)} || cannot 'the program could not be built'
 export PROGRAM ADD="$here/said.sh $here/fill $here/rows $here/saved $here/replay"
 
-# machine NAME SCRIPT MIB..: a machine with disks of these sizes, which are $work/NAME.1 and so on
+# machine NAME SCRIPT MIB..: a machine with disks of these sizes, which are $work/NAME.1 and so on. In place of a size !SECTOR is the first disk once
+# more, where each write fails that this sector belongs to.
 machine() {
     local name=$1 script=$2 disk=0 disks=() status
     shift 2
     for size in "$@"; do
+        if [[ $size == !* ]]; then
+            disks+=("$work/$name.1$size")
+            continue
+        fi
         disks+=("$work/$name.$((disk += 1))")
         truncate -s "${size}M" "${disks[-1]}"
     done
@@ -77,6 +83,7 @@ grub() {
 part_foreign() { machine foreign "$here/foreign.sh" 160 160 160; }
 part_everyday() { machine everyday "$here/everyday.sh" 200 200 200; }
 part_tight() { machine tight "$here/tight.sh" 48 48; }
+part_failing() { machine failing "$here/failing.sh" 128 '!128' '!131072' 128; }
 part_busy() { machine busy "$here/busy.sh" 64 96; }
 part_read() { machine read "$here/read.sh" 300; }
 
@@ -104,7 +111,7 @@ side_by_side() {
     wait
 }
 
-[ $# != 0 ] || set -- everyday tight foreign power convert read busy
+[ $# != 0 ] || set -- everyday tight foreign power convert read failing busy
 parts=()
 for part in "$@"; do
     case $part in

@@ -371,7 +371,7 @@ told_write_order() {
     makes 12288 7 12288
     strace -qq -o calls -e trace=write,pwrite64 "$program" convert --verbose made >/dev/null 2>&1
     same 'the text on an interruption comes right before the first block' '1|yes' "$(grep -c 'is written to from now on' calls)|$(
-        grep -E '^(write\(2|pwrite64)' calls | head -2 | sed 's/(.*//' | paste -sd ' ' | grep -qx 'write pwrite64' && echo yes)"
+        grep -m 2 -E '^(write\(2|pwrite64)' calls | sed 's/(.*//' | paste -sd ' ' | grep -qx 'write pwrite64' && echo yes)"
 }
 
 # shown: the texts that were shown in the line of the progress, one below the other
