@@ -1,7 +1,7 @@
 #!/usr/bin/env python3
 """What each crate costs in the gate: processor seconds of its proof, of its tests' proof, and of its wrong bodies.
 
-    bench/gate_table.py [-o FILE] [COMMAND..]       runs the command (rt ci --anew, where none is given) and watches it
+    bench/gate_table.py [-o FILE] [COMMAND..]       runs the command (rt ci, where none is given) and watches it
     bench/gate_table.py [-o FILE] --pid NUMBER      watches a run that has begun already
 
 `rt ci` prints no times, so every half second this looks up how much of the processors each prover below it has taken so far:
@@ -120,7 +120,7 @@ def main():
     parser.add_argument("command", nargs=argparse.REMAINDER)
     words = parser.parse_args()
     watch, start, status = Watch(), time.monotonic(), 0
-    child = None if words.pid else subprocess.Popen(words.command or ["rt", "ci", "--anew"])
+    child = None if words.pid else subprocess.Popen(words.command or ["rt", "ci"])
     try:
         while os.path.exists(f"/proc/{words.pid}") if child is None else child.poll() is None:
             watch.look(words.pid or child.pid)

@@ -7,7 +7,7 @@
 #   everyday  a converted volume in use: compression, devices, snapshots, quotas, swap files, two copies of metadata; and the way back
 #   power     the power is cut in the middle of the commands that write, and of their writes
 #   tight     a volume with just the free space that a conversion needs, and what the kernel can do then
-#   failing   one sector of the disk can't be written, while another process holds it open
+#   failing   one sector of the disk can't be written, always or once, while another process holds it open
 #   busy      a device in use is not opened for writing
 #   read      the kernel fills a volume of Btrfs, and list prints what Linux sees of it
 #
@@ -42,7 +42,7 @@ PROGRAM=${RECONV:-$("$top/release/find.sh" reiserconv)} || cannot 'the program c
 export PROGRAM ADD="$here/said.sh $here/fill $here/rows $here/saved $here/replay"
 
 # machine NAME SCRIPT MIB..: a machine with disks of these sizes, which are $work/NAME.1 and so on. In place of a size !SECTOR is the first disk once
-# more, where each write fails that this sector belongs to.
+# more, where each write fails that this sector belongs to, and with !SECTOR!once the first of them.
 machine() {
     local name=$1 script=$2 disk=0 disks=() status
     shift 2
@@ -83,7 +83,7 @@ grub() {
 part_foreign() { machine foreign "$here/foreign.sh" 160 160 160; }
 part_everyday() { machine everyday "$here/everyday.sh" 200 200 200; }
 part_tight() { machine tight "$here/tight.sh" 48 48; }
-part_failing() { machine failing "$here/failing.sh" 128 '!128' '!131072' 128; }
+part_failing() { machine failing "$here/failing.sh" 128 '!128' '!131072' 128 '!131072!once'; }
 part_busy() { machine busy "$here/busy.sh" 64 96; }
 part_read() { machine read "$here/read.sh" 300; }
 

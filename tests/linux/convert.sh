@@ -19,6 +19,23 @@ same 'convert: list before ends with status 0' '0|' "$status|$err"
 same_file 'convert: list before prints what Linux sees' /tmp/before /tmp/out
 quiet 'convert: the kernel complains of nothing before'
 
+# with checksums by SHA-256, and back
+run convert --csum sha256 /dev/vda
+same 'convert: with SHA-256 ends with status 0' '0|' "$status|$err"
+same 'convert: the superblock names SHA-256' '2 (sha256)' "$(btrfs inspect-internal dump-super /dev/vda | sed -n 's/^csum_type[[:space:]]*//p')"
+checked 'convert: btrfs check finds nothing with SHA-256'
+mount -t btrfs -o noatime /dev/vda /mnt
+said 'convert: with SHA-256 mounts for writing' $?
+(cd /mnt && mkdir more && for i in $(seq 500); do echo "$i" >"more/$i" || exit; done && cp -r sizes more/ && sync)
+said 'convert: with SHA-256 takes files' $?
+scrubbed 'convert: scrub finds nothing with SHA-256'
+umount /mnt
+checked 'convert: btrfs check finds nothing with SHA-256 behind the files'
+quiet 'convert: the kernel complains of nothing with SHA-256'
+goes_back 'convert: with SHA-256'
+# (reiserfsck has written the superblock and the journal's header)
+cp /dev/vda /dev/vdb
+
 run convert --copy-label /dev/vda
 same 'convert: ends with status 0' '0|' "$status|$err"
 sed 's/^/# convert: /' /tmp/out

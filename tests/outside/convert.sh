@@ -75,6 +75,8 @@ convert_words() {
     ends 'an option of another command' 2 "$usage" list --no-inline volume
     ends 'a uuid that is none' 2 "$usage" convert --uuid 12 volume
     ends 'a label of 256 bytes' 2 "$usage" convert --label "$(printf '%0256d' 0)" volume
+    ends 'a kind of checksum that is not made' 2 "$usage" convert --csum xxhash volume
+    ends 'a kind of checksum without a name' 2 "$usage" convert --csum volume
     ends 'convert of a path that is not there' 3 'device fault' convert "$work/nothing"
 }
 
@@ -103,6 +105,28 @@ names_in() {
     same "inspect of $1" "0||$2|$3" "$status|$err|$(sed -n 's/^\(fsid\|label\) //p' "$work/.out" | paste -sd '|')"
 }
 
+# sums_of FILE: the kind of checksum in the superblock, and the bytes of the longest item of checksums
+sums_of() {
+    printf '%s %s' "$(btrfs inspect-internal dump-super "$1" | awk '$1 == "csum_type" { print $2, $3 }')" \
+        "$(btrfs inspect-internal dump-tree -t 7 "$1" | sed -n 's/.*EXTENT_CSUM.* itemsize \([0-9]*\)$/\1/p' | sort -n | tail -1)"
+}
+
+# the kinds of checksum: 900 checksums of 4 bytes in an item, or 100 of 32
+converted_sums() {
+    local name wanted needed
+    while read -r name wanted; do
+        cp sample made
+        run inspect --csum "$name" made
+        needed=$(sed -n 's/^needed //p' "$work/.out")
+        run convert --csum "$name" made
+        same "checksums by $name" "0||$needed|$wanted" "$status|$err|$(sed -n 's/^units //p' "$work/.out")|$(sums_of made)"
+        judged "checksums by $name" made
+    done <<'KINDS'
+crc32c 0 (crc32c) 3600
+sha256 2 (sha256) 3200
+KINDS
+}
+
 # options by what btrfs and inspect say of the new volume
 converted_options() {
     local size needed
@@ -125,6 +149,7 @@ converted_options() {
     judged 'a volume without checksums' made
     kept btrfs inspect-internal dump-tree -t 7 made
     same 'a volume without checksums has none' 0 "$(grep -c EXTENT_CSUM "$work/.out")"
+    converted_sums
     cp sample made
     run convert --uuid 12345678-9abc-4def-8123-456789abcdef made
     same 'a given uuid' '0|12345678-9abc-4def-8123-456789abcdef' "$status|$(btrfs inspect-internal dump-super made | awk '$1 == "fsid" { print $2 }')"

@@ -231,6 +231,7 @@ unseen_devices() {
     mounted_outside
     hidden_tables
     read_only_devices
+    dropped_caches
 }
 
 # an ext4 file system that another mount name space has mounted
@@ -323,4 +324,23 @@ read_only_devices() {
     device=mounted/made
     within 'a file of a file system that is read-only' 'mount -t tmpfs none mounted && cp made mounted && mount -o remount,ro mounted' 'device fault'
     told_within 'a file of a file system that is read-only' 'mount -t tmpfs none mounted && cp made mounted && mount -o remount,ro mounted' 'It is read-only. Nothing was written.'
+}
+
+# how often Linux has dropped what it keeps of devices and files
+drops() { awk '$1 == "drop_pagecache" { print $2 }' /proc/vmstat; }
+
+# a device that is opened for writing: what Linux keeps of it is dropped
+dropped_caches() {
+    local device before
+    if ! [ -w /proc/sys/vm/drop_caches ] || [ -z "$(drops)" ]; then
+        echo 'skipped: what Linux keeps of a device, which can not be dropped here'
+        return
+    fi
+    makes 12288 7 12288
+    device=$(losetup --find --show made)
+    before=$(drops)
+    run recover "$device"
+    same 'what Linux keeps is dropped where a device is opened for writing' '0|volume is reiserfs|dropped' \
+        "$status|$(head -1 "$work/.out")|$([ "$(drops)" -gt "$before" ] && echo dropped)"
+    losetup --detach "$device"
 }

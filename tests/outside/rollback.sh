@@ -102,6 +102,7 @@ rolled_back_samples() {
     there_and_back 'sample 200 with old items' made
     makes 12400 --old 7 12299
     there_and_back 'a volume of an odd length with old items' made --no-datasum
+    there_and_back 'a volume of an odd length for the second time' made --csum sha256 --copy-label
 }
 
 rolled_back_linux_volumes() {
@@ -109,6 +110,7 @@ rolled_back_linux_volumes() {
     for name in tiny collide attrs xattr-removed empty-mounted empty-64m; do
         zstd -dqf "$top/tests/volumes/$name.img.zst" -o packed
         there_and_back "the volume $name" packed
+        there_and_back "the volume $name with SHA-256" packed --csum sha256
     done
 }
 

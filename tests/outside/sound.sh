@@ -28,6 +28,7 @@ sound_conversions() {
         sound_converted "a volume with nodes of $size bytes" "$top/samples/tiny.img" --nodesize "$size" --no-inline
     done
     sound_converted 'a volume without checksums of data' "$top/samples/tiny.img" --no-datasum
+    sound_converted 'a volume with checksums by SHA-256' "$top/samples/tiny.img" --csum sha256
     makes 12299 7 12299
     sound_converted 'a volume of an odd length' made
     for name in attrs collide empty-mounted; do

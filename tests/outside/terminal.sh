@@ -246,6 +246,9 @@ convert --nodesize 16K x|takes bytes: write '--nodesize 16384' in place of '16K'
 convert --nodesize 5 x|'5' is no size of a node: '--nodesize' takes 4096, 8192, 16384, 32768 or 65536, in bytes.
 convert --nodesize|A value is missing behind '--nodesize'.
 convert --uuid foo x|'foo' is no UUID: '--uuid' takes 'new', 'copy' or one in the form 01234567-89ab-cdef-0123-456789abcdef.
+convert --csum xxhash x|This program makes no checksums by 'xxhash': '--csum' takes crc32c or sha256.
+convert --csum SHA-256 x|'SHA-256' is written 'sha256': write '--csum sha256'.
+inspect --csum 5 x|'5' is no kind of checksum: '--csum' takes crc32c or sha256.
 convert -n x|There is no '-n' here: a volume with extended attributes is refused, so that none gets lost. Leave it out.
 convert -i x|'-i' is '--no-inline' here.
 convert -d x|'-d' is '--no-datasum' here.

@@ -15,7 +15,9 @@ use crate::refusal::refused;
 use btr_reader_names::{
     DirIndex, NameIn, index_entry, is_name, names_inode, names_tree, naming_of, see_name,
 };
-use btr_reader_walk::{BlockSource, BtrAnswer, BtrRule, DirEntry, Key, MapRange, Tree, TreeWalker};
+use btr_reader_walk::{
+    BlockSource, BtrAnswer, BtrRule, DirEntry, Key, MapRange, Notes, Tree, TreeWalker,
+};
 use btrfs_format::key::DIR_INDEX;
 use btrfs_format::object::FIRST_FREE_OBJECTID;
 use indexmap::IndexSet;
@@ -89,21 +91,25 @@ fn seek_entry(
 }
 
 /// The location of the first entry of inode 256 of a tree that is called so. The entries of that directory keep the rules
-/// of names: each has a name, its location is an inode or another tree, and no name is there twice.
-pub fn find_entry<S: BlockSource>(
+/// of names: each has a name, its location is an inode or another tree, and no name is there twice. All items of the tree
+/// are noted by the way.
+pub fn find_entry<S: BlockSource, N: Notes>(
     alloc: Global,
     src: &mut S,
     tree: Tree,
     ranges: &[MapRange],
     name: &[u8],
+    notes: &mut N,
 ) -> Result<Option<Key>, BtrAnswer>
     requires size { IsNodeSize tree.form.nodesize }
     requires high { tree.root.level ≤ 7 }
     requires inside { LieOn (S.size src.old) ranges.now }
+    requires begun { N.holds notes.old notes.old [] }
     ensures kept { S.kept src.old src.new }
     ensures cause { HasCauseOf BtrAnswer.Fault (S.faults src.old) (S.faults src.new) result }
     ensures known { IfErr result NamesNoLogTree }
     ensures entry { OverTold S.tells (S.blocks src.old) (λ image. IfOk result (λ o. o ≡ entry_named (is_called name.now) (dir_indexes (found image ranges.now tree)))) }
+    ensures noted { OverTold S.tells (S.blocks src.old) (λ image. OnOk result (N.holds notes.old notes.new (found image ranges.now tree))) }
     ensures ok { OverTold S.tells (S.blocks src.old) (λ image. OnOk result (entry_refusals image ranges.now tree ≡ [])) }
     ensures err { OverTold S.tells (S.blocks src.old) (λ image. IfErr result (IsAmong (entry_refusals image ranges.now tree))) }
 {
@@ -120,6 +126,7 @@ pub fn find_entry<S: BlockSource>(
             walker.body(),
             walker.leaf(),
         )?;
+        notes.note(alloc, &walker.key(), walker.body(), walker.leaf())?;
     }
     Ok(first)
 }

@@ -1,4 +1,4 @@
-ghost use Rattle.std.specs.Prelude.{◌≡◌, ◌≢◌, [], Option, Some, None, Err, true, IfOk, IfErr, IfSome, List};
+ghost use Rattle.std.specs.Prelude.{◌≡◌, ◌≢◌, [], Option, Some, None, Err, true, IfOk, IfErr, IfSome, List, OnOk};
 ghost use Rattle.std.specs.Option.{option_and_then};
 ghost use Rattle.btr_reader_walk.specs.outside.Fault.{HasCauseOf};
 ghost use Rattle.btr_reader_walk.specs.outside.History.{OverTold};
@@ -25,7 +25,7 @@ use crate::inodes::find_inode;
 use crate::refusal::refused;
 use crate::volume::Btrfs;
 use btr_reader_names::InodeFound;
-use btr_reader_walk::{BlockSource, BtrAnswer, BtrRule, Inode, Key, MapRange, Memory, Tree};
+use btr_reader_walk::{BlockSource, BtrAnswer, BtrRule, Inode, Key, MapRange, Memory, Notes, Tree};
 use btrfs_format::block::SUPER_INFO_OFFSET;
 use btrfs_format::key::INODE_ITEM;
 use btrfs_format::object::FS_TREE;
@@ -92,6 +92,18 @@ fn map_of(
     }))
 }
 
+/// Notes nothing of a tree's items.
+#[derive(Drop)]
+struct NoNotes;
+
+impl Notes for NoNotes {
+    ghost holds = { λ begun noted items. Unit {0} };
+
+    fn note(&mut self, _: Global, _: &Key, _: &[u8], _: u64) -> Result<(), Memory> {
+        Ok(())
+    }
+}
+
 impl Btrfs {
     /// The map of a file in a tree with which nothing is wrong.
     fn read_file<S: BlockSource>(
@@ -120,22 +132,27 @@ impl Btrfs {
         Ok(map_of(alloc, &own, gathered, ranges, self.device)?)
     }
 
-    /// The map of the image in the tree of the saved image.
-    fn read_saved<S: BlockSource>(
+    /// The map of the image in the tree of the saved image; None exactly where the entry `image` or the file is not there,
+    /// or the file has not the form of an image. It is refused exactly where something is wrong with the tree, the entries
+    /// of its root directory or the file, by one of the things that are. All items of the tree are noted by the way.
+    pub fn read_saved<S: BlockSource, N: Notes>(
         &self,
         alloc: Global,
         src: &mut S,
         tree: Tree,
+        notes: &mut N,
     ) -> Result<Option<ImageMap>, BtrAnswer>
         requires inside { LieOn (S.size src.old) self.now.ranges.items }
         requires walkable { IsWalkable tree }
+        requires begun { N.holds notes.old notes.old [] }
         ensures kept { S.kept src.old src.new }
         ensures cause { HasCauseOf BtrAnswer.Fault (S.faults src.old) (S.faults src.new) result }
         ensures known { IfErr result NamesNoLogTree }
         ensures device { IfOk result (λ o. IfSome o (λ m. m.device ≡ self.now.device)) }
         ensures reads { OverTold S.tells (S.blocks src.old) (λ image. ReadsImage self.now.ranges.items (image_in (found image self.now.ranges.items tree)) (saved_refusals image self.now.ranges.items tree) result) }
+        ensures noted { OverTold S.tells (S.blocks src.old) (λ image. OnOk result (N.holds notes.old notes.new (found image self.now.ranges.items tree))) }
     {
-        let key = find_entry(alloc, src, tree, self.ranges.as_slice(), b"image")?;
+        let key = find_entry(alloc, src, tree, self.ranges.as_slice(), b"image", notes)?;
         let inode = match inode_number(key) {
             Some(inode) => inode,
             None => return Ok(None),
@@ -161,11 +178,11 @@ impl Btrfs {
             Some(file) => file,
             None => return Ok(None),
         };
-        let saved = match self.saved_tree(alloc, src, file)? {
+        let saved = match self.saved_tree(alloc, src, file, &mut NoNotes)? {
             Some(saved) => saved,
             None => return Ok(None),
         };
-        self.read_saved(alloc, src, saved)
+        self.read_saved(alloc, src, saved, &mut NoNotes)
     }
 
     /// Where the blocks of the saved image lie; None exactly where it is missing: where the entry `reiserfs_saved` of the

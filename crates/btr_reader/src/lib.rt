@@ -25,7 +25,8 @@ mod rows;
 mod trees;
 mod volume;
 
-pub use chunk::ChunkAt;
+pub use bootstrap::array_chunks;
+pub use chunk::{ChunkAt, is_among, is_chunk_key};
 pub use entries::find_entry;
 pub use image_map::ImageMap;
 pub use inodes::find_inode;

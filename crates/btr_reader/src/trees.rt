@@ -1,5 +1,5 @@
 // The trees of an opened volume.
-ghost use Rattle.std.specs.Prelude.{◌≡◌, Option, List, IfOk, IfErr, IfSome, IsSome};
+ghost use Rattle.std.specs.Prelude.{◌≡◌, [], Option, List, IfOk, IfErr, IfSome, IsSome, OnOk};
 ghost use Rattle.std.specs.Option.{option_and_then};
 ghost use Rattle.btr_reader_walk.specs.outside.Fault.{HasCauseOf};
 ghost use Rattle.btr_reader_walk.specs.outside.History.{OverTold};
@@ -16,7 +16,7 @@ use crate::entries::find_entry;
 use crate::refusal::refused;
 use crate::roots::RootFound;
 use crate::volume::Btrfs;
-use btr_reader_walk::{BlockSource, BtrAnswer, BtrRule, Form, Key, NodePointer, Tree};
+use btr_reader_walk::{BlockSource, BtrAnswer, BtrRule, Form, Key, NodePointer, Notes, Tree};
 use btr_super::{Super, sum_kind};
 use btrfs_format::key::ROOT_ITEM;
 use btrfs_format::object::{CHUNK_TREE, ROOT_TREE};
@@ -140,23 +140,34 @@ impl Btrfs {
     /// The tree that the entry `reiserfs_saved` of a file tree names, if the entry and that tree's root item are there.
     ///
     /// All nodes of the file tree are looked at, and of the bodies in them the directory indexes of inode 256. It is
-    /// refused exactly where something is wrong with them, or with the root item, by one of the things that are.
-    pub fn saved_tree<S: BlockSource>(
+    /// refused exactly where something is wrong with them, or with the root item, by one of the things that are. All
+    /// items of the file tree are noted by the way.
+    pub fn saved_tree<S: BlockSource, N: Notes>(
         &self,
         alloc: Global,
         src: &mut S,
         file: Tree,
+        notes: &mut N,
     ) -> Result<Option<Tree>, BtrAnswer>
         requires walkable { IsWalkable file }
         requires inside { LieOn (S.size src.old) self.now.ranges.items }
+        requires begun { N.holds notes.old notes.old [] }
         ensures kept { S.kept src.old src.new }
         ensures cause { HasCauseOf BtrAnswer.Fault (S.faults src.old) (S.faults src.new) result }
         ensures walkable { IfOk result (λ o. IfSome o IsWalkable) }
         ensures known { IfErr result NamesNoLogTree }
         ensures finds { OverTold S.tells (S.blocks src.old) (λ image. (roots : List TreeItem) → HasRoots self.now.roots roots →
             FindsSaved self.now.sup roots (entry_refusals image self.now.ranges.items file) (found image self.now.ranges.items file) result) }
+        ensures noted { OverTold S.tells (S.blocks src.old) (λ image. OnOk result (N.holds notes.old notes.new (found image self.now.ranges.items file))) }
     {
-        let entry = find_entry(alloc, src, file, self.ranges.as_slice(), b"reiserfs_saved")?;
+        let entry = find_entry(
+            alloc,
+            src,
+            file,
+            self.ranges.as_slice(),
+            b"reiserfs_saved",
+            notes,
+        )?;
         match tree_number(entry) {
             Some(number) => self.find_tree(number),
             None => Ok(None),

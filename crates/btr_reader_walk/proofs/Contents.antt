@@ -1,5 +1,5 @@
 -- What a node that was read breaks, and its children on the stack.
-use Rattle.btr_reader_walk.proofs.Imports.{◌≡◌, ℕ, ◌+◌, ◌-◌, ◌≤◌, ◌<◌, eqb, nat_lt, Bool, true, false, ◌||◌, List, [], ◌∷◌, ◌++◌, length, drop, get_or, map, reverse, Contains, if◌then◌else◌, ◌⊎◌, inl, inr, refl, sym, ◌∙◌, ap, subst, arith, append_assoc, drop_more, reverse-append, length-map, Contains-append_left, Contains-append_right, nat_tests, BtrRule, NodeHead, nritems, behind_head, items_in, heads_in, item_of, item_layout, HasInnerLayout, children_in, child_layout, broken, leaf_damages, inner_damages, Child, Expect, length-records_in, NodePointer, child_pointer, content_damages, fan_out}
+use Rattle.btr_reader_walk.proofs.Imports.{◌≡◌, ℕ, zero, suc, ◌+◌, ◌-◌, ◌≤◌, ◌<◌, eqb, nat_lt, Bool, true, false, ◌||◌, List, [], ◌∷◌, ◌++◌, length, drop, get_or, map, reverse, Contains, if◌then◌else◌, ◌⊎◌, inl, inr, refl, sym, ◌∙◌, ap, subst, arith, append_assoc, drop_more, reverse-append, length-map, Contains-append_left, Contains-append_right, nat_tests, BtrRule, NodeHead, nritems, behind_head, items_in, heads_in, item_of, item_layout, HasInnerLayout, children_in, child_layout, broken, leaf_damages, inner_damages, Child, Expect, length-records_in, NodeEntry, child_entries, child_entry, content_damages, fan_out}
 use Rattle.btrfs_format.specs.declared.size.TheConstants.{ITEM_SIZE, KEY_PTR_SIZE}
 use Rattle.btr_reader_walk.proofs.Events.{none_both}
 
@@ -66,15 +66,22 @@ leaf_right want bare bytes leaf none (inr h) =
     ∙ none_both (leaf_damages want bytes) _ none (ap (λ t. broken t NodeHead) (or_right bare (nat_lt 0 (nritems bytes)) (some_test (length (items_in bytes)) (nritems bytes) (count_items bytes) h)))
 
 -- a child more on the stack
-pub pushed_more : (node : List Child) (left level : ℕ) (child : Child) (before pending : List NodePointer) → 0 < left → left ≤ length node → child ≡ get_or node (left - 1) child
-    → pending ≡ before ++ reverse (map (child_pointer level) (drop left node))
-    → pending ++ child_pointer level child ∷ [] ≡ before ++ reverse (map (child_pointer level) (drop (left - 1) node))
+pub pushed_more : (node : List Child) (left level : ℕ) (child : Child) (before pending : List NodeEntry) → 0 < left → left ≤ length node → child ≡ get_or node (left - 1) child
+    → pending ≡ before ++ reverse (map (child_entry level) (drop left node))
+    → pending ++ child_entry level child ∷ [] ≡ before ++ reverse (map (child_entry level) (drop (left - 1) node))
 pushed_more node left level child before pending some few is are =
     let here : left - 1 + 1 ≡ left = omega arith in
     let next : drop (left - 1) node ≡ child ∷ drop left node =
     drop_more node (left - 1) child (omega arith) ∙ (ap (λ c. c ∷ drop (left - 1 + 1) node) (sym is) ∙ ap (λ k. child ∷ drop k node) here) in
-    let later : List NodePointer = map (child_pointer level) (drop left node) in
-    let turned : reverse (child_pointer level child ∷ later) ≡ reverse later ++ child_pointer level child ∷ [] = reverse-append (child_pointer level child ∷ []) later in
-    ap (λ z. z ++ child_pointer level child ∷ []) are
-    ∙ (append_assoc before (reverse later) (child_pointer level child ∷ [])
-    ∙ ap (λ (z : List NodePointer). before ++ z) (sym turned ∙ ap (λ cs. reverse (map (child_pointer level) cs)) (sym next)))
+    let later : List NodeEntry = map (child_entry level) (drop left node) in
+    let turned : reverse (child_entry level child ∷ later) ≡ reverse later ++ child_entry level child ∷ [] = reverse-append (child_entry level child ∷ []) later in
+    ap (λ z. z ++ child_entry level child ∷ []) are
+    ∙ (append_assoc before (reverse later) (child_entry level child ∷ [])
+    ∙ ap (λ (z : List NodeEntry). before ++ z) (sym turned ∙ ap (λ cs. reverse (map (child_entry level) cs)) (sym next)))
+
+-- the children of an inner node
+pub inner_entries : (level : ℕ) (bytes : List ℕ) → 1 ≤ level → child_entries level bytes ≡ map (child_entry (level - 1)) (children_in bytes)
+inner_entries zero bytes inner = absurd (omega arith)
+inner_entries (suc level) bytes inner =
+    let e : level ≡ suc level - 1 = omega arith in
+    ap (λ (l : ℕ). map (child_entry l) (children_in bytes)) e

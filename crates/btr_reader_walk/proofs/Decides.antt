@@ -1,6 +1,7 @@
--- The bytes of the nodes that are met decide what is met.
-use Rattle.btr_reader_walk.proofs.Imports.{◌≡◌, ℕ, zero, suc, Bool, List, [], ◌∷◌, ◌++◌, if◌then◌else◌, refl, ◌∙◌, ap, subst, All, flat_map, All-nil, All-cons, All-head, All-tail, Image, BtrRule, Unmapped, items_in, children_in, Child, Form, NodePointer, MapRange, is_mapped, node_at, want, content_damages, node_damages, TreeEvent, node, leaf_events, unless_damaged, node_events, nodes_in, NodesDecide}
-use Rattle.btr_reader_walk.proofs.Events.{nodes_in-append}
+-- The bytes of the nodes that are met decide what is met; and a walk over nodes meets the same as one over items.
+use Rattle.btr_reader_walk.proofs.Imports.{◌≡◌, ℕ, zero, suc, Bool, List, [], ◌∷◌, ◌++◌, map, Option, Some, None, if◌then◌else◌, refl, sym, ◌∙◌, ap, subst, map-append, All, flat_map, All-nil, All-cons, All-head, All-tail, Image, BtrRule, Unmapped, Key, Item, items_in, children_in, Child, Form, NodeEntry, NodePointer, Tree, MapRange, is_mapped, node_at, want, content_damages, node_damages, TreeEvent, node, leaf_events, unless_damaged, node_events, nodes_in, may_be_bare, nodes_under, NodesAreMet, NodesDecide}
+use Rattle.btr_reader_walk.specs.declared.tree.Owners.TheVariants.{Own}
+use Rattle.btr_reader_walk.proofs.Events.{leaf_nodes, nodes_in-append}
 use Rattle.btr_reader_walk.proofs.Subtrees.{to}
 
 all_first : {X : Type 0} (P : X → Type 0) (xs ys : List X) → All P (xs ++ ys) → All P xs
@@ -59,3 +60,38 @@ same_events image other ranges form owner bare (suc level) a g all =
 
 pub nodes_decide : NodesDecide
 nodes_decide = λ image other ranges form owner bare p all. same_events image other ranges form owner bare p.level p.address p.generation all
+
+-- ---- the nodes of a walk over nodes
+leaf_met : (d : List BtrRule) (address : ℕ) (items : List Item) → nodes_in (unless_damaged d (leaf_events address items)) ≡ []
+leaf_met [] address items = leaf_nodes address items
+leaf_met (rule ∷ rules) address items = refl
+
+unless_met : (d : List BtrRule) (es : List NodeEntry) (events : List TreeEvent) → map (λ e. e.pointer) es ≡ nodes_in events
+    → map (λ e. e.pointer) (unless_damaged d es) ≡ nodes_in (unless_damaged d events)
+unless_met [] es events same = same
+unless_met (rule ∷ rules) es events same = refl
+
+children_met : (f : Child → List NodeEntry) (g : Child → List TreeEvent) → ((c : Child) → map (λ e. e.pointer) (f c) ≡ nodes_in (g c)) → (cs : List Child)
+    → map (λ e. e.pointer) (flat_map f cs) ≡ nodes_in (flat_map g cs)
+children_met f g each [] = refl
+children_met f g each (c ∷ cs) =
+    map-append (λ e. e.pointer) (f c) (flat_map f cs)
+    ∙ (ap (λ z. z ++ map (λ e. e.pointer) (flat_map f cs)) (each c)
+    ∙ (ap (λ z. nodes_in (g c) ++ z) (children_met f g each cs) ∙ sym (nodes_in-append (g c) (flat_map g cs))))
+
+same_nodes : (image : Image) (ranges : List MapRange) (tree : Tree) (level : ℕ) (key : Option Key) (a g : ℕ)
+    → map (λ e. e.pointer) (nodes_under image ranges tree Own level key a g) ≡ nodes_in (node_events image ranges tree.form tree.owner (may_be_bare tree.root) level a g)
+unfolding nodes_under node_events
+same_nodes image ranges tree zero key a g =
+    ap (λ (z : List NodePointer). to a zero g ∷ z)
+    (sym (leaf_met (node_damages image ranges tree.form tree.owner (may_be_bare tree.root) (to a zero g)) a (items_in (node_at image ranges tree.form.nodesize a))))
+same_nodes image ranges tree (suc level) key a g =
+    let children : List Child = children_in (node_at image ranges tree.form.nodesize a) in
+    ap (λ (z : List NodePointer). to a (suc level) g ∷ z)
+    (unless_met (node_damages image ranges tree.form tree.owner (may_be_bare tree.root) (to a (suc level) g)) _ _
+    (children_met (λ c. nodes_under image ranges tree Own level (Some c.key) c.address c.generation)
+    (λ c. node_events image ranges tree.form tree.owner (may_be_bare tree.root) level c.address c.generation)
+    (λ c. same_nodes image ranges tree level (Some c.key) c.address c.generation) children))
+
+pub nodes_are_met : NodesAreMet
+nodes_are_met = λ image ranges tree. same_nodes image ranges tree tree.root.level None tree.root.address tree.root.generation

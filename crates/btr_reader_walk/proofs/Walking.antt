@@ -1,7 +1,7 @@
 -- Steps of a walk.
-use Rattle.btr_reader_walk.proofs.Imports.{◌≡◌, ℕ, zero, suc, ◌+◌, ◌-◌, ◌≤◌, ◌<◌, Bool, true, false, List, [], ◌∷◌, ◌++◌, length, take, drop, get_or, Option, Some, None, Contains, if◌then◌else◌, refl, sym, ◌∙◌, ap, subst, arith, append_assoc, flat_map, append-nil, take_all, drop_more, get_or-map, length-map, Contains-append_left, Contains-append_right, Image, BtrAnswer, Refused, Fault, Memory, BtrRefusal, BadBtrfs, BtrRule, KeyOrder, Unmapped, Key, Item, items_in, children_in, Child, NodePointer, Tree, MapRange, TreeWalker, is_mapped, node_at, want, child_pointer, content_damages, node_damages, TreeItem, TreeEvent, node, item, in_leaf, leaf_events, unless_damaged, node_events, items_in_events, may_be_bare, at_address, is_above, order_damages, stack_events, met, wrong, found, below, met_faults, hand_events, behind, rest, last_after, Walks, IsAt, IsOver, StandsLast, Blames, IsAmong}
+use Rattle.btr_reader_walk.proofs.Imports.{◌≡◌, ℕ, zero, suc, ◌+◌, ◌-◌, ◌≤◌, ◌<◌, Bool, true, false, List, [], ◌∷◌, ◌++◌, length, reverse, take, drop, get_or, Option, Some, None, Contains, if◌then◌else◌, refl, sym, ◌∙◌, ap, subst, arith, append_assoc, flat_map, append-nil, take_all, drop_more, get_or-map, length-map, Contains-append_left, Contains-append_right, Image, BtrAnswer, Refused, Fault, Memory, BtrRefusal, BadBtrfs, BtrRule, KeyOrder, Unmapped, Key, Item, items_in, children_in, Form, NodeEntry, NodePointer, NodeWalker, Tree, MapRange, TreeWalker, is_mapped, node_at, want, content_damages, node_damages, TreeItem, TreeEvent, node, item, in_leaf, leaf_events, unless_damaged, node_events, items_in_events, may_be_bare, at_address, is_above, order_damages, child_entries, child_entry, own_events, met, wrong, found, below, met_faults, hand_events, behind, rest, last_after, Walks, IsAt, IsIn, IsOver, StandsLast, Blames, IsAmong, stacked}
 use Rattle.btr_reader_walk.proofs.Events.{items_in-append, node_faults-append, last_after-append, order_damages-append, none_both}
-use Rattle.btr_reader_walk.proofs.Stacks.{stack_push, stack_children, turned}
+use Rattle.btr_reader_walk.proofs.Stacks.{stack_push, stack_children}
 
 -- the rules that a node of a tree breaks
 abbrev pub breaks : Image → List MapRange → Tree → NodePointer → List BtrRule
@@ -21,32 +21,38 @@ node_first image ranges tree p = by_level image ranges tree p.address p.level p.
 hand_done : (address next left : ℕ) (bytes : List ℕ) → left ≡ 0 → hand_events address bytes next left ≡ []
 hand_done address next left bytes done = ap (λ k. leaf_events address (take k (drop next (items_in bytes)))) done
 
+-- what is met at a node of a tree and below it
+abbrev at_entry : Image → List MapRange → Tree → NodeEntry → List TreeEvent
+at_entry image ranges tree e = below image ranges tree e.pointer
+
 -- the next node is taken off the stack
-pub taken : (w v : TreeWalker) (image : Image) (ranges : List MapRange) (given : List TreeItem) (ps : List NodePointer) (p : NodePointer) → Walks w image ranges given
-    → w.at.left ≡ 0 → w.pending.items ≡ ps ++ p ∷ [] → v.tree ≡ w.tree → v.pending.items ≡ ps → v.last ≡ w.last
-    → IsAt p v image ranges given
+pub taken : (w v : TreeWalker) (image : Image) (ranges : List MapRange) (given : List TreeItem) (ps : List NodeEntry) (p : NodeEntry) → Walks w image ranges given
+    → w.at.left ≡ 0 → w.nodes.pending.items ≡ ps ++ p ∷ [] → v.tree ≡ w.tree → v.nodes.pending.items ≡ ps → v.last ≡ w.last
+    → IsAt p.pointer v image ranges given
 taken w v image ranges given ps p k done stack tree left last =
-    let next : rest image ranges w ≡ below image ranges w.tree p ++ stack_events (below image ranges w.tree) ps =
-    ap (λ (z : List TreeEvent). z ++ behind image ranges w) (hand_done w.address w.at.next w.at.left w.bytes.items done)
-    ∙ (ap (stack_events (below image ranges w.tree)) stack ∙ stack_push (below image ranges w.tree) ps p) in
-    let here : k.done ++ (below image ranges w.tree p ++ stack_events (below image ranges w.tree) ps) ≡ met image ranges w.tree = ap (λ (z : List TreeEvent). k.done ++ z) (sym next) ∙ k.whole in
+    let next : rest image ranges w ≡ at_entry image ranges w.tree p ++ stacked (at_entry image ranges w.tree) ps =
+    ap (λ (z : List TreeEvent). z ++ behind image ranges w) (hand_done w.address w.at.next w.at.left w.nodes.bytes.items done)
+    ∙ (ap (stacked (at_entry image ranges w.tree)) stack ∙ stack_push (at_entry image ranges w.tree) ps p) in
+    let here : k.done ++ (at_entry image ranges w.tree p ++ stacked (at_entry image ranges w.tree) ps) ≡ met image ranges w.tree = ap (λ (z : List TreeEvent). k.done ++ z) (sym next) ∙ k.whole in
     record {
       done = k.done;
       whole =
-          ap (λ (qs : List NodePointer). k.done ++ (below image ranges v.tree p ++ stack_events (below image ranges v.tree) qs)) left
-          ∙ subst (λ (t : Tree). k.done ++ (below image ranges t p ++ stack_events (below image ranges t) ps) ≡ met image ranges t) (sym tree) here;
+          ap (λ (qs : List NodeEntry). k.done ++ (at_entry image ranges v.tree p ++ stacked (at_entry image ranges v.tree) qs)) left
+          ∙ subst (λ (t : Tree). k.done ++ (at_entry image ranges t p ++ stacked (at_entry image ranges t) ps) ≡ met image ranges t) (sym tree) here;
       items = k.items;
       last = last ∙ k.last;
       nodes = subst (λ (t : Tree). met_faults image ranges t k.done ≡ []) (sym tree) k.nodes;
       order = k.order;
     }
 
--- the stack is empty
-pub over : (w : TreeWalker) (image : Image) (ranges : List MapRange) (given : List TreeItem) → Walks w image ranges given → w.at.left ≡ 0 → w.pending.items ≡ []
+-- nothing is left where the stack is empty
+none_left : (w : TreeWalker) (image : Image) (ranges : List MapRange) → w.at.left ≡ 0 → w.nodes.pending.items ≡ [] → rest image ranges w ≡ []
+none_left w image ranges done stack =
+    ap (λ (z : List TreeEvent). z ++ behind image ranges w) (hand_done w.address w.at.next w.at.left w.nodes.bytes.items done) ∙ ap (stacked (at_entry image ranges w.tree)) stack
+
+over : (w : TreeWalker) (image : Image) (ranges : List MapRange) (given : List TreeItem) → Walks w image ranges given → rest image ranges w ≡ []
     → IsOver w.tree image ranges given
-over w image ranges given k done stack =
-    let none : rest image ranges w ≡ [] =
-    ap (λ (z : List TreeEvent). z ++ behind image ranges w) (hand_done w.address w.at.next w.at.left w.bytes.items done) ∙ ap (stack_events (below image ranges w.tree)) stack in
+over w image ranges given k none =
     let all : k.done ≡ met image ranges w.tree = sym (append-nil k.done) ∙ (ap (λ (z : List TreeEvent). k.done ++ z) (sym none) ∙ k.whole) in
     let items : given ≡ found image ranges w.tree = sym k.items ∙ ap items_in_events all in
     record {
@@ -57,67 +63,104 @@ over w image ranges given k done stack =
           (ap (order_damages None) (sym items) ∙ k.order);
     }
 
-rule_at : (address : ℕ) (rules : List BtrRule) (rule : BtrRule) → Contains rules rule → Contains (at_address address rules) (BadBtrfs address rule)
+-- there is no next node
+pub ended : (w v : TreeWalker) (image : Image) (ranges : List MapRange) (given : List TreeItem) → Walks w image ranges given → w.at.left ≡ 0 → w.nodes.pending.items ≡ []
+    → v.tree ≡ w.tree → v.last ≡ w.last → v.at.left ≡ 0 → v.nodes.pending.items ≡ []
+    → Walks v image ranges given × IsOver w.tree image ranges given
+ended w v image ranges given k done stack tree last after empty =
+    let none : rest image ranges w ≡ [] = none_left w image ranges done stack in (
+      record {
+        done = k.done;
+        whole = ap (λ (z : List TreeEvent). k.done ++ z) (none_left v image ranges after empty ∙ sym none) ∙ (k.whole ∙ ap (met image ranges) (sym tree));
+        items = k.items;
+        last = last ∙ k.last;
+        nodes = subst (λ (t : Tree). met_faults image ranges t k.done ≡ []) (sym tree) k.nodes;
+        order = k.order;
+      },
+      over w image ranges given k none,
+    )
+
+pub rule_at : (address : ℕ) (rules : List BtrRule) (rule : BtrRule) → Contains rules rule → Contains (at_address address rules) (BadBtrfs address rule)
 rule_at address rules rule (i, lt, is) =
     (i, omega (arith, lt, length-map rules (BadBtrfs address)), get_or-map (BadBtrfs address) rules i rule (BadBtrfs address rule) lt ∙ ap (BadBtrfs address) is)
 
 -- a rule that a node breaks is among what is wrong
-pub node_blamed : (w : TreeWalker) (image : Image) (ranges : List MapRange) (given : List TreeItem) (p : NodePointer) (rule : BtrRule) → IsAt p w image ranges given
-    → Contains (breaks image ranges w.tree p) rule → Contains (wrong image ranges w.tree) (BadBtrfs p.address rule)
-node_blamed w image ranges given p rule k bad =
+pub node_blamed : (w : TreeWalker) (image : Image) (ranges : List MapRange) (given : List TreeItem) (p : NodePointer) (r : BtrRefusal) → IsAt p w image ranges given
+    → Contains (at_address p.address (breaks image ranges w.tree p)) r → Contains (wrong image ranges w.tree) r
+node_blamed w image ranges given p r k bad =
     let first = node_first image ranges w.tree p in
     let others : List TreeEvent = first.0 ++ behind image ranges w in
     let all : k.done ++ node p ∷ others ≡ met image ranges w.tree = ap (λ (z : List TreeEvent). k.done ++ (z ++ behind image ranges w)) (sym first.1) ∙ k.whole in
     let faults : List TreeEvent → List BtrRefusal = met_faults image ranges w.tree in
-    let here : Contains (faults (k.done ++ node p ∷ others)) (BadBtrfs p.address rule) =
-    subst (λ (z : List BtrRefusal). Contains z (BadBtrfs p.address rule)) (sym (node_faults-append image ranges w.tree.form w.tree.owner (may_be_bare w.tree.root) k.done (node p ∷ others)))
-    (Contains-append_right (faults k.done) _ _ (Contains-append_left (at_address p.address (breaks image ranges w.tree p)) (faults others) _ (rule_at p.address (breaks image ranges w.tree p) rule bad))) in
-    Contains-append_left _ _ _ (subst (λ (z : List TreeEvent). Contains (faults z) (BadBtrfs p.address rule)) all here)
+    let here : Contains (faults (k.done ++ node p ∷ others)) r =
+    subst (λ (z : List BtrRefusal). Contains z r) (sym (node_faults-append image ranges w.tree.form w.tree.owner (may_be_bare w.tree.root) k.done (node p ∷ others)))
+    (Contains-append_right (faults k.done) _ _ (Contains-append_left (at_address p.address (breaks image ranges w.tree p)) (faults others) _ bad)) in
+    Contains-append_left _ _ _ (subst (λ (z : List TreeEvent). Contains (faults z) r) all here)
 
 -- where the blocks of a node lie in the map, it breaks what its bytes break
+pub mapped_node : (image : Image) (ranges : List MapRange) (form : Form) (owner : ℕ) (bare : Bool) (p : NodePointer) → is_mapped ranges form.nodesize p.address ≡ true
+    → content_damages (want form owner p) bare (node_at image ranges form.nodesize p.address) ≡ node_damages image ranges form owner bare p
+unfolding node_damages
+mapped_node image ranges form owner bare p mapped =
+    ap (λ t. if t then content_damages (want form owner p) bare (node_at image ranges form.nodesize p.address) else Unmapped ∷ []) (sym mapped)
+
+pub unmapped_node : (image : Image) (ranges : List MapRange) (form : Form) (owner : ℕ) (bare : Bool) (p : NodePointer) → is_mapped ranges form.nodesize p.address ≡ false
+    → Contains (node_damages image ranges form owner bare p) Unmapped
+unfolding node_damages
+unmapped_node image ranges form owner bare p off =
+    subst (λ t. Contains (if t then content_damages (want form owner p) bare (node_at image ranges form.nodesize p.address) else Unmapped ∷ []) Unmapped) (sym off)
+    (0, omega arith, refl)
+
+-- the same of a tree
 pub mapped_breaks : (image : Image) (ranges : List MapRange) (tree : Tree) (p : NodePointer) (bytes : List ℕ) → is_mapped ranges tree.form.nodesize p.address ≡ true
     → bytes ≡ node_at image ranges tree.form.nodesize p.address
     → content_damages (want tree.form tree.owner p) (may_be_bare tree.root) bytes ≡ breaks image ranges tree p
-unfolding node_damages
 mapped_breaks image ranges tree p bytes mapped is =
-    ap (content_damages (want tree.form tree.owner p) (may_be_bare tree.root)) is
-    ∙ ap (λ t. if t then content_damages (want tree.form tree.owner p) (may_be_bare tree.root) (node_at image ranges tree.form.nodesize p.address) else Unmapped ∷ []) (sym mapped)
+    ap (content_damages (want tree.form tree.owner p) (may_be_bare tree.root)) is ∙ mapped_node image ranges tree.form tree.owner (may_be_bare tree.root) p mapped
 
 pub unmapped_breaks : (image : Image) (ranges : List MapRange) (tree : Tree) (p : NodePointer) → is_mapped ranges tree.form.nodesize p.address ≡ false
     → Contains (breaks image ranges tree p) Unmapped
-unfolding node_damages
-unmapped_breaks image ranges tree p off =
-    subst (λ t. Contains (if t then content_damages (want tree.form tree.owner p) (may_be_bare tree.root) (node_at image ranges tree.form.nodesize p.address) else Unmapped ∷ []) Unmapped) (sym off)
-    (0, omega arith, refl)
+unmapped_breaks image ranges tree p off = unmapped_node image ranges tree.form tree.owner (may_be_bare tree.root) p off
 
-leaf_below_at : (image : Image) (ranges : List MapRange) (tree : Tree) (a l g : ℕ) → l ≡ 0 → breaks image ranges tree (record { address = a; level = l; generation = g }) ≡ []
-    → below image ranges tree (record { address = a; level = l; generation = g }) ≡ node (record { address = a; level = l; generation = g }) ∷ leaf_events a (items_in (node_at image ranges tree.form.nodesize a))
+-- a node that breaks no rule, on top of a stack, and what it gives before and by its children
+lower_at : (image : Image) (ranges : List MapRange) (tree : Tree) (a l g : ℕ) (bytes : List ℕ) (es : List NodeEntry)
+    → breaks image ranges tree (record { address = a; level = l; generation = g }) ≡ [] → bytes ≡ node_at image ranges tree.form.nodesize a
+    → (lower : List TreeEvent)
+    × (below image ranges tree (record { address = a; level = l; generation = g }) ≡ node (record { address = a; level = l; generation = g }) ∷ lower)
+    × (own_events l a bytes ++ stacked (at_entry image ranges tree) (es ++ reverse (child_entries l bytes)) ≡ lower ++ stacked (at_entry image ranges tree) es)
 unfolding node_events
-leaf_below_at image ranges tree a zero g leaf none =
-    ap (λ (d : List BtrRule). node (record { address = a; level = 0; generation = g }) ∷ unless_damaged d (leaf_events a (items_in (node_at image ranges tree.form.nodesize a)))) none
-leaf_below_at image ranges tree a (suc l) g leaf none = absurd (omega arith)
-
-inner_below_at : (image : Image) (ranges : List MapRange) (tree : Tree) (a l g : ℕ) → 1 ≤ l → breaks image ranges tree (record { address = a; level = l; generation = g }) ≡ []
-    → below image ranges tree (record { address = a; level = l; generation = g })
-    ≡ node (record { address = a; level = l; generation = g }) ∷ flat_map (λ c. below image ranges tree (child_pointer (l - 1) c)) (children_in (node_at image ranges tree.form.nodesize a))
-unfolding node_events
-inner_below_at image ranges tree a zero g inner none = absurd (omega arith)
-inner_below_at image ranges tree a (suc l) g inner none =
+lower_at image ranges tree a zero g bytes es none is =
+    let f : NodeEntry → List TreeEvent = at_entry image ranges tree in
+    let p : NodePointer = record { address = a; level = 0; generation = g } in
+    let own : List ℕ → List TreeEvent = λ b. leaf_events a (items_in b) in (
+      own (node_at image ranges tree.form.nodesize a),
+      ap (λ (d : List BtrRule). node p ∷ unless_damaged d (own (node_at image ranges tree.form.nodesize a))) none,
+      ap (λ (es : List NodeEntry). own bytes ++ stacked f es) (append-nil es) ∙ ap (λ (b : List ℕ). own b ++ stacked f es) is,
+    )
+lower_at image ranges tree a (suc l) g bytes es none is =
+    let f : NodeEntry → List TreeEvent = at_entry image ranges tree in
     let p : NodePointer = record { address = a; level = suc l; generation = g } in
-    let e : l ≡ suc l - 1 = omega arith in
-    let children : List Child = children_in (node_at image ranges tree.form.nodesize a) in
-    ap (λ (d : List BtrRule). node p ∷ unless_damaged d (flat_map (λ c. below image ranges tree (child_pointer l c)) children)) none
-    ∙ ap (λ (k : ℕ). node p ∷ flat_map (λ c. below image ranges tree (child_pointer k c)) children) e
+    let lower : List ℕ → List TreeEvent = λ b. flat_map (λ c. f (child_entry l c)) (children_in b) in (
+      lower (node_at image ranges tree.form.nodesize a),
+      ap (λ (d : List BtrRule). node p ∷ unless_damaged d (lower (node_at image ranges tree.form.nodesize a))) none,
+      stack_children f es l (children_in bytes) ∙ ap (λ (b : List ℕ). lower b ++ stacked f es) is,
+    )
 
 -- a node that breaks no rule was opened, and what is below it comes next
-opened : (w v : TreeWalker) (image : Image) (ranges : List MapRange) (given : List TreeItem) (p : NodePointer) (lower : List TreeEvent) → IsAt p w image ranges given
-    → v.tree ≡ w.tree → v.last ≡ w.last → breaks image ranges w.tree p ≡ [] → below image ranges w.tree p ≡ node p ∷ lower → rest image ranges v ≡ lower ++ behind image ranges w
-    → Walks v image ranges given
-opened w v image ranges given p lower k tree last none is next =
-    let all : (k.done ++ node p ∷ []) ++ rest image ranges v ≡ met image ranges w.tree =
-    append_assoc k.done (node p ∷ []) (rest image ranges v)
+pub opened : (w v : TreeWalker) (image : Image) (ranges : List MapRange) (given : List TreeItem) (p : NodePointer) → IsAt p w image ranges given
+    → v.tree ≡ w.tree → v.last ≡ w.last → breaks image ranges w.tree p ≡ [] → v.nodes.bytes.items ≡ node_at image ranges w.tree.form.nodesize p.address
+    → v.nodes.pending.items ≡ w.nodes.pending.items ++ reverse (child_entries p.level v.nodes.bytes.items)
+    → IsIn p v image ranges given
+opened w v image ranges given p k tree last none is pushed =
+    let f : Tree → NodeEntry → List TreeEvent = at_entry image ranges in
+    let own : List TreeEvent = own_events p.level p.address v.nodes.bytes.items in
+    let (lower, first, next) = lower_at image ranges w.tree p.address p.level p.generation v.nodes.bytes.items w.nodes.pending.items none is in
+    let all : (k.done ++ node p ∷ []) ++ (own ++ behind image ranges v) ≡ met image ranges w.tree =
+    append_assoc k.done (node p ∷ []) (own ++ behind image ranges v)
+    ∙ (ap (λ (t : Tree). k.done ++ node p ∷ (own ++ stacked (f t) v.nodes.pending.items)) tree
+    ∙ (ap (λ (es : List NodeEntry). k.done ++ node p ∷ (own ++ stacked (f w.tree) es)) pushed
     ∙ (ap (λ (z : List TreeEvent). k.done ++ node p ∷ z) next
-    ∙ (ap (λ (z : List TreeEvent). k.done ++ (z ++ behind image ranges w)) (sym is) ∙ k.whole)) in
+    ∙ (ap (λ (z : List TreeEvent). k.done ++ (z ++ behind image ranges w)) (sym first) ∙ k.whole)))) in
     let nodes : met_faults image ranges w.tree (k.done ++ node p ∷ []) ≡ [] =
     node_faults-append image ranges w.tree.form w.tree.owner (may_be_bare w.tree.root) k.done (node p ∷ [])
     ∙ none_both (met_faults image ranges w.tree k.done) _ k.nodes (ap (λ (d : List BtrRule). at_address p.address d ++ []) none) in
@@ -130,38 +173,32 @@ opened w v image ranges given p lower k tree last none is next =
       order = k.order;
     }
 
-pub leaf_opened : (w v : TreeWalker) (image : Image) (ranges : List MapRange) (given : List TreeItem) (p : NodePointer) → IsAt p w image ranges given
-    → v.tree ≡ w.tree → v.last ≡ w.last → v.pending.items ≡ w.pending.items → breaks image ranges w.tree p ≡ [] → p.level ≡ 0
-    → v.address ≡ p.address → v.bytes.items ≡ node_at image ranges w.tree.form.nodesize p.address → v.at.next ≡ 0 → v.at.left ≡ length (items_in v.bytes.items)
+-- its own items are in hand
+pub entered : (w v : TreeWalker) (image : Image) (ranges : List MapRange) (given : List TreeItem) (p : NodePointer) → IsIn p w image ranges given
+    → v.tree ≡ w.tree → v.last ≡ w.last → v.nodes ≡ w.nodes
+    → hand_events v.address w.nodes.bytes.items v.at.next v.at.left ≡ own_events p.level p.address w.nodes.bytes.items
     → Walks v image ranges given
-leaf_opened w v image ranges given p k tree last stack none leaf address bytes next left =
-    let own : List Item = items_in (node_at image ranges w.tree.form.nodesize p.address) in
-    let all : take v.at.left (drop v.at.next (items_in v.bytes.items)) ≡ own =
-    ap (λ (n : ℕ). take v.at.left (drop n (items_in v.bytes.items))) next
-    ∙ (take_all v.at.left (items_in v.bytes.items) (omega (arith, left)) ∙ ap (λ (b : List ℕ). items_in b) bytes) in
-    let hand : hand_events v.address v.bytes.items v.at.next v.at.left ≡ leaf_events p.address own =
-    ap (λ (a : ℕ). leaf_events a (take v.at.left (drop v.at.next (items_in v.bytes.items)))) address ∙ ap (leaf_events p.address) all in
-    let same : behind image ranges v ≡ behind image ranges w =
-    ap (λ (t : Tree). stack_events (below image ranges t) v.pending.items) tree ∙ ap (stack_events (below image ranges w.tree)) stack in
-    opened w v image ranges given p (leaf_events p.address own) k tree last none (leaf_below_at image ranges w.tree p.address p.level p.generation leaf none)
-    (ap (λ (z : List TreeEvent). z ++ behind image ranges v) hand ∙ ap (λ (z : List TreeEvent). leaf_events p.address own ++ z) same)
+entered w v image ranges given p k tree last nodes hand = record {
+  done = k.done;
+  whole = rw (tree, nodes) (ap (λ (z : List TreeEvent). k.done ++ (z ++ behind image ranges w)) hand ∙ k.whole);
+  items = k.items;
+  last = last ∙ k.last;
+  nodes = rw tree k.nodes;
+  order = k.order;
+}
 
-pub inner_opened : (w v : TreeWalker) (image : Image) (ranges : List MapRange) (given : List TreeItem) (p : NodePointer) (bytes : List ℕ) → IsAt p w image ranges given
-    → v.tree ≡ w.tree → v.last ≡ w.last → v.pending.items ≡ w.pending.items ++ turned (p.level - 1) (children_in bytes) → breaks image ranges w.tree p ≡ [] → 1 ≤ p.level
-    → bytes ≡ node_at image ranges w.tree.form.nodesize p.address → v.at.left ≡ 0
-    → Walks v image ranges given
-inner_opened w v image ranges given p bytes k tree last stack none inner is left =
-    let f : NodePointer → List TreeEvent = below image ranges w.tree in
-    let children : List Child = children_in bytes in
-    let lower : List TreeEvent = flat_map (λ c. f (child_pointer (p.level - 1) c)) children in
-    let next : rest image ranges v ≡ lower ++ behind image ranges w =
-    ap (λ (z : List TreeEvent). z ++ behind image ranges v) (hand_done v.address v.at.next v.at.left v.bytes.items left)
-    ∙ (ap (λ (t : Tree). stack_events (below image ranges t) v.pending.items) tree
-    ∙ (ap (stack_events f) stack ∙ stack_children f w.pending.items (p.level - 1) children)) in
-    opened w v image ranges given p lower k tree last none
-    (inner_below_at image ranges w.tree p.address p.level p.generation inner none
-    ∙ ap (λ (b : List ℕ). node p ∷ flat_map (λ c. f (child_pointer (p.level - 1) c)) (children_in b)) (sym is))
-    next
+-- all items of a leaf
+pub leaf_hand : (address level next left : ℕ) (bytes : List ℕ) → level ≡ 0 → next ≡ 0 → left ≡ length (items_in bytes)
+    → hand_events address bytes next left ≡ own_events level address bytes
+leaf_hand address zero next left bytes leaf first all =
+    ap (λ (n : ℕ). leaf_events address (take left (drop n (items_in bytes)))) first
+    ∙ ap (leaf_events address) (take_all left (items_in bytes) (omega (arith, all)))
+leaf_hand address (suc level) next left bytes leaf first all = absurd (omega arith)
+
+-- an inner node has none
+pub inner_hand : (address other level next left : ℕ) (bytes : List ℕ) → 1 ≤ level → left ≡ 0 → hand_events other bytes next left ≡ own_events level address bytes
+inner_hand address other zero next left bytes inner done = absurd (omega arith)
+inner_hand address other (suc level) next left bytes inner done = hand_done other next left bytes done
 
 -- the next item in hand, and what is behind it
 hand_next : (address next left : ℕ) (bytes : List ℕ) (i : Item) → next < length (items_in bytes) → left ≡ suc (left - 1) → get_or (items_in bytes) next i ≡ i
@@ -172,18 +209,18 @@ hand_next address next left bytes i lt some is =
 
 -- what is met, in three parts: before the next item, the item, and after it
 met_parts : (w : TreeWalker) (image : Image) (ranges : List MapRange) (given : List TreeItem) (i : Item) → (k : Walks w image ranges given)
-    → w.at.next < length (items_in w.bytes.items) → w.at.left ≡ suc (w.at.left - 1) → get_or (items_in w.bytes.items) w.at.next i ≡ i
-    → k.done ++ item (in_leaf w.address i) ∷ (hand_events w.address w.bytes.items (w.at.next + 1) (w.at.left - 1) ++ behind image ranges w) ≡ met image ranges w.tree
+    → w.at.next < length (items_in w.nodes.bytes.items) → w.at.left ≡ suc (w.at.left - 1) → get_or (items_in w.nodes.bytes.items) w.at.next i ≡ i
+    → k.done ++ item (in_leaf w.address i) ∷ (hand_events w.address w.nodes.bytes.items (w.at.next + 1) (w.at.left - 1) ++ behind image ranges w) ≡ met image ranges w.tree
 met_parts w image ranges given i k lt some is =
-    ap (λ (z : List TreeEvent). k.done ++ (z ++ behind image ranges w)) (sym (hand_next w.address w.at.next w.at.left w.bytes.items i lt some is)) ∙ k.whole
+    ap (λ (z : List TreeEvent). k.done ++ (z ++ behind image ranges w)) (sym (hand_next w.address w.at.next w.at.left w.nodes.bytes.items i lt some is)) ∙ k.whole
 
 -- an item whose key is not above the last one is among what is wrong
 pub order_blamed : (w : TreeWalker) (image : Image) (ranges : List MapRange) (given : List TreeItem) (i : Item) → Walks w image ranges given
-    → w.at.next < length (items_in w.bytes.items) → w.at.left ≡ suc (w.at.left - 1) → get_or (items_in w.bytes.items) w.at.next i ≡ i → is_above w.last i.0 ≡ false
+    → w.at.next < length (items_in w.nodes.bytes.items) → w.at.left ≡ suc (w.at.left - 1) → get_or (items_in w.nodes.bytes.items) w.at.next i ≡ i → is_above w.last i.0 ≡ false
     → Contains (wrong image ranges w.tree) (BadBtrfs w.address KeyOrder)
 order_blamed w image ranges given i k lt some is low =
     let t : TreeItem = in_leaf w.address i in
-    let later : List TreeEvent = hand_events w.address w.bytes.items (w.at.next + 1) (w.at.left - 1) ++ behind image ranges w in
+    let later : List TreeEvent = hand_events w.address w.nodes.bytes.items (w.at.next + 1) (w.at.left - 1) ++ behind image ranges w in
     let r : BtrRefusal = BadBtrfs w.address KeyOrder in
     let items : found image ranges w.tree ≡ given ++ t ∷ items_in_events later =
     ap items_in_events (sym (met_parts w image ranges given i k lt some is))
@@ -198,19 +235,19 @@ order_blamed w image ranges given i k lt some is low =
 
 -- the next item was given
 pub item_taken : (w v : TreeWalker) (image : Image) (ranges : List MapRange) (given : List TreeItem) (i : Item) → Walks w image ranges given
-    → w.at.next < length (items_in w.bytes.items) → w.at.left ≡ suc (w.at.left - 1) → ((other : Item) → get_or (items_in w.bytes.items) w.at.next other ≡ i) → is_above w.last i.0 ≡ true
-    → v.tree ≡ w.tree → v.pending ≡ w.pending → v.address ≡ w.address → v.bytes ≡ w.bytes → v.at.next ≡ w.at.next + 1 → v.at.left ≡ w.at.left - 1 → v.last ≡ Some i.0
+    → w.at.next < length (items_in w.nodes.bytes.items) → w.at.left ≡ suc (w.at.left - 1) → ((other : Item) → get_or (items_in w.nodes.bytes.items) w.at.next other ≡ i) → is_above w.last i.0 ≡ true
+    → v.tree ≡ w.tree → v.nodes ≡ w.nodes → v.address ≡ w.address → v.at.next ≡ w.at.next + 1 → v.at.left ≡ w.at.left - 1 → v.last ≡ Some i.0
     → (t : TreeItem) × Walks v image ranges (given ++ t ∷ []) × StandsLast v t
-item_taken w v image ranges given i k lt some is high tree pending address bytes next left last =
+item_taken w v image ranges given i k lt some is high tree nodes address next left last =
     let t : TreeItem = in_leaf w.address i in
     let parts = met_parts w image ranges given i k lt some (is i) in
     let above : is_above (last_after None given) t.key ≡ true = ap (λ (l : Option Key). is_above l t.key) (sym k.last) ∙ high in
-    let nodes : met_faults image ranges w.tree (k.done ++ item t ∷ []) ≡ [] =
+    let sound : met_faults image ranges w.tree (k.done ++ item t ∷ []) ≡ [] =
     node_faults-append image ranges w.tree.form w.tree.owner (may_be_bare w.tree.root) k.done (item t ∷ []) ∙ none_both (met_faults image ranges w.tree k.done) [] k.nodes refl in
-    let hand : hand_events v.address v.bytes.items v.at.next v.at.left ≡ hand_events w.address w.bytes.items (w.at.next + 1) (w.at.left - 1) = rw (address, bytes, next, left) refl in
-    let same : behind image ranges v ≡ behind image ranges w = rw (tree, pending) refl in
-    let moved : rest image ranges v ≡ hand_events w.address w.bytes.items (w.at.next + 1) (w.at.left - 1) ++ behind image ranges w =
-    ap (λ (z : List TreeEvent). z ++ behind image ranges v) hand ∙ ap (λ (z : List TreeEvent). hand_events w.address w.bytes.items (w.at.next + 1) (w.at.left - 1) ++ z) same in
+    let hand : hand_events v.address v.nodes.bytes.items v.at.next v.at.left ≡ hand_events w.address w.nodes.bytes.items (w.at.next + 1) (w.at.left - 1) = rw (address, nodes, next, left) refl in
+    let same : behind image ranges v ≡ behind image ranges w = rw (tree, nodes) refl in
+    let moved : rest image ranges v ≡ hand_events w.address w.nodes.bytes.items (w.at.next + 1) (w.at.left - 1) ++ behind image ranges w =
+    ap (λ (z : List TreeEvent). z ++ behind image ranges v) hand ∙ ap (λ (z : List TreeEvent). hand_events w.address w.nodes.bytes.items (w.at.next + 1) (w.at.left - 1) ++ z) same in
     let here : w.at.next ≡ v.at.next - 1 = omega (arith, next) in (
       t,
       record {
@@ -220,14 +257,14 @@ item_taken w v image ranges given i k lt some is high tree pending address bytes
             ∙ (ap (λ (z : List TreeEvent). k.done ++ item t ∷ z) moved ∙ (parts ∙ ap (met image ranges) (sym tree)));
         items = items_in-append k.done (item t ∷ []) ∙ ap (λ (z : List TreeItem). z ++ t ∷ []) k.items;
         last = last ∙ sym (last_after-append None given (t ∷ []));
-        nodes = subst (λ (z : Tree). met_faults image ranges z (k.done ++ item t ∷ []) ≡ []) (sym tree) nodes;
+        nodes = subst (λ (z : Tree). met_faults image ranges z (k.done ++ item t ∷ []) ≡ []) (sym tree) sound;
         order =
             order_damages-append None given (t ∷ [])
             ∙ none_both (order_damages None given) _ k.order (ap (λ (b : Bool). at_address t.leaf (if b then [] else KeyOrder ∷ []) ++ []) above);
       },
       record {
         leaf = sym address;
-        item = λ other. ap (λ (n : ℕ). get_or (items_in v.bytes.items) n other) (sym here) ∙ (ap (λ (b : List ℕ). get_or (items_in b) w.at.next other) (ap (λ z. z.items) bytes) ∙ is other);
+        item = λ other. ap (λ (n : ℕ). get_or (items_in v.nodes.bytes.items) n other) (sym here) ∙ (ap (λ (b : List ℕ). get_or (items_in b) w.at.next other) (ap (λ (n : NodeWalker). n.bytes.items) nodes) ∙ is other);
       },
     )
 

@@ -31,7 +31,7 @@ abbrev pub leaf_events : ℕ → List Item → List TreeEvent
 leaf_events address items = map (λ i. item (in_leaf address i)) items
 
 -- what is met where no rule is broken
-abbrev pub unless_damaged : List BtrRule → List TreeEvent → List TreeEvent
+abbrev pub unless_damaged : {A : Type 0} → List BtrRule → List A → List A
 unless_damaged [] events = events
 unless_damaged (rule ∷ rules) events = []
 

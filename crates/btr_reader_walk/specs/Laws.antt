@@ -9,10 +9,13 @@ use Rattle.btr_node.specs.Inner.{IsBtrfsInner, children_in}
 use Rattle.btr_node.specs.Order.{Ascends}
 use Rattle.btr_reader_walk.specs.declared.tree.Form.{Form}
 use Rattle.btr_reader_walk.specs.declared.tree.NodePointer.{NodePointer}
+use Rattle.btr_reader_walk.specs.declared.tree.Owners.TheVariants.{Own}
+use Rattle.btr_reader_walk.specs.declared.tree.Tree.{Tree}
 use Rattle.btr_reader_walk.specs.declared.map.MapRange.{MapRange}
 use Rattle.btr_reader_walk.specs.Map.{is_mapped, node_at}
 use Rattle.btr_reader_walk.specs.Node.{want, child_pointer}
-use Rattle.btr_reader_walk.specs.Events.{pointer_events, nodes_in, items_in_events, may_be_bare}
+use Rattle.btr_reader_walk.specs.Nodes.{tree_nodes}
+use Rattle.btr_reader_walk.specs.Events.{pointer_events, walk_events, nodes_in, items_in_events, may_be_bare}
 use Rattle.btr_reader_walk.specs.Tree.{node_faults, bare_item, tree_items}
 
 -- the items at a node and below it
@@ -69,3 +72,9 @@ NodesDecide =
     → All (λ q. node_at other ranges form.nodesize q.address ≡ node_at image ranges form.nodesize q.address)
     (nodes_in (pointer_events image ranges form owner bare p))
     → pointer_events other ranges form owner bare p ≡ pointer_events image ranges form owner bare p
+
+-- Where a tree has its own nodes alone, its nodes are those that a walk over its items meets.
+abbrev pub NodesAreMet : Type 0
+NodesAreMet =
+    (image : Image) (ranges : List MapRange) (tree : Tree)
+    → map (λ e. e.pointer) (tree_nodes image ranges tree Own) ≡ nodes_in (walk_events image ranges tree.form tree.root tree.owner)

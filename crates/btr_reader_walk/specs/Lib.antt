@@ -9,6 +9,8 @@ pub mod Events
 pub mod Laws
 pub mod Map
 pub mod Node
+pub mod Nodes
 pub mod Stack
 pub mod Tree
+pub mod Visits
 pub mod Walks

@@ -1,22 +1,21 @@
--- The nodes that a walk has still to meet, as a stack of pointers: the next one stands last.
+-- The nodes that a walk has still to meet, as a stack: the next one stands last.
 use Rattle.std.specs.Prelude.{ℕ, zero, suc, ◌+◌, ◌*◌, ◌/◌, ◌==◌, nat_le, Bool, true, ◌&&◌, ◌||◌, List, [], ◌∷◌, ◌++◌}
 use Rattle.btrfs_format.specs.declared.size.TheConstants.{KEY_PTR_SIZE}
-use Rattle.btr_reader_walk.specs.declared.tree.NodePointer.{NodePointer}
-use Rattle.btr_reader_walk.specs.Events.{TreeEvent}
+use Rattle.btr_reader_walk.specs.declared.tree.NodeEntry.{NodeEntry}
 
 -- what is met at them, where this is what is met at one
-abbrev pub stack_events : (NodePointer → List TreeEvent) → List NodePointer → List TreeEvent
-stack_events below [] = []
-stack_events below (p ∷ ps) = stack_events below ps ++ below p
+abbrev pub stacked : {A : Type 0} → (NodeEntry → List A) → List NodeEntry → List A
+stacked below [] = []
+stacked below (e ∷ es) = stacked below es ++ below e
 
 -- at most how many children a node of this size has; a child takes 33 bytes
 abbrev pub fan_out : ℕ → ℕ
 fan_out nodesize = nodesize / KEY_PTR_SIZE
 
--- What bounds the stack: the pointers are counted from i on, and one of a lower level may stand a node's children higher.
-abbrev pub is_stack : ℕ → ℕ → ℕ → List NodePointer → Bool
+-- What bounds the stack: its nodes are counted from i on, and one of a lower level may stand a node's children higher.
+abbrev pub is_stack : ℕ → ℕ → ℕ → List NodeEntry → Bool
 is_stack limit fan i [] = true
-is_stack limit fan i (p ∷ ps) = nat_le (i + p.level * fan) limit && is_stack limit fan (suc i) ps
+is_stack limit fan i (e ∷ es) = nat_le (i + e.pointer.level * fan) limit && is_stack limit fan (suc i) es
 
 -- one of the sizes of nodes
 abbrev pub is_node_size : ℕ → Bool
@@ -27,6 +26,6 @@ abbrev pub weight : ℕ → ℕ → ℕ
 weight n zero = suc n
 weight n (suc level) = suc (n * weight n level)
 
-abbrev pub stack_weight : ℕ → List NodePointer → ℕ
+abbrev pub stack_weight : ℕ → List NodeEntry → ℕ
 stack_weight n [] = 0
-stack_weight n (p ∷ ps) = weight n p.level + stack_weight n ps
+stack_weight n (e ∷ es) = weight n e.pointer.level + stack_weight n es

@@ -1,5 +1,5 @@
 -- Where a walker stands in its tree.
-use Rattle.std.specs.Prelude.{◌≡◌, ◌<◌, ℕ, ◌+◌, ◌-◌, ◌*◌, ◌≤◌, Bool, true, false, List, [], ◌∷◌, ◌++◌, take, drop, Option, Some, None, Contains, slice_index_or}
+use Rattle.std.specs.Prelude.{◌≡◌, ◌<◌, ℕ, zero, suc, ◌+◌, ◌-◌, ◌*◌, ◌≤◌, Bool, true, false, List, [], ◌∷◌, ◌++◌, take, drop, Option, Some, None, Contains, slice_index_or}
 use Rattle.std.specs.List.{All}
 use Rattle.btr_node.specs.outside.History.{Image}
 use Rattle.btr_node.specs.refusals.declared.answer.BtrAnswer.{BtrAnswer}
@@ -9,6 +9,7 @@ use Rattle.btr_node.specs.refusals.declared.refusal.BtrRefusal.TheVariants.{BadB
 use Rattle.btr_node.specs.refusals.declared.rule.BtrRule.TheVariants.{Unmapped}
 use Rattle.btr_node.specs.btr_keys.declared.key.Key.{Key}
 use Rattle.btr_node.specs.Leaf.{Item, items_in}
+use Rattle.btr_reader_walk.specs.declared.tree.NodeEntry.{NodeEntry}
 use Rattle.btr_reader_walk.specs.declared.tree.NodePointer.{NodePointer}
 use Rattle.btr_reader_walk.specs.declared.tree.Tree.{Tree}
 use Rattle.btr_reader_walk.specs.declared.map.MapRange.{MapRange}
@@ -16,7 +17,8 @@ use Rattle.btr_reader_walk.specs.declared.walker.TreeWalker.{TreeWalker}
 use Rattle.btr_reader_walk.specs.Map.{is_mapped}
 use Rattle.btr_reader_walk.specs.Events.{TreeItem, TreeEvent, leaf_events, pointer_events, walk_events, items_in_events, may_be_bare}
 use Rattle.btr_reader_walk.specs.Tree.{node_faults, order_damages, tree_refusals, leaf_items}
-use Rattle.btr_reader_walk.specs.Stack.{stack_events, stack_weight}
+use Rattle.btr_reader_walk.specs.Stack.{stacked}
+use Rattle.btr_reader_walk.specs.Visits.{nodes_fuel}
 
 -- each range ends within a device of so many blocks
 abbrev pub LieOn : ℕ → List MapRange → Type 0
@@ -53,11 +55,11 @@ hand_events address bytes next left = leaf_events address (take left (drop next 
 
 -- what a walker has still to meet behind the leaf in hand
 abbrev pub behind : Image → List MapRange → TreeWalker → List TreeEvent
-behind image ranges w = stack_events (below image ranges w.tree) w.pending.items
+behind image ranges w = stacked (λ e. below image ranges w.tree e.pointer) w.nodes.pending.items
 
 -- what it has still to meet
 abbrev pub rest : Image → List MapRange → TreeWalker → List TreeEvent
-rest image ranges w = hand_events w.address w.bytes.items w.at.next w.at.left ++ behind image ranges w
+rest image ranges w = hand_events w.address w.nodes.bytes.items w.at.next w.at.left ++ behind image ranges w
 
 -- the key of the last item, after one before
 abbrev pub last_after : Option Key → List TreeItem → Option Key
@@ -73,10 +75,24 @@ pub record Walks (w : TreeWalker) (image : Image) (ranges : List MapRange) (give
   pub nodes : met_faults image ranges w.tree done ≡ []
   pub order : order_damages None given ≡ []
 
--- The same, but for a node that was taken off the stack and is still to be read.
+-- The same, but for a node that was taken and is still to be read.
 pub record IsAt (p : NodePointer) (w : TreeWalker) (image : Image) (ranges : List MapRange) (given : List TreeItem) : Type 0 where
   pub done : List TreeEvent
   pub whole : done ++ (below image ranges w.tree p ++ behind image ranges w) ≡ met image ranges w.tree
+  pub items : items_in_events done ≡ given
+  pub last : w.last ≡ last_after None given
+  pub nodes : met_faults image ranges w.tree done ≡ []
+  pub order : order_damages None given ≡ []
+
+-- what a node of this level with these bytes gives before its children do
+abbrev pub own_events : ℕ → ℕ → List ℕ → List TreeEvent
+own_events zero address bytes = leaf_events address (items_in bytes)
+own_events (suc level) address bytes = []
+
+-- The same, but for a node that was opened and whose items are not yet in hand.
+pub record IsIn (p : NodePointer) (w : TreeWalker) (image : Image) (ranges : List MapRange) (given : List TreeItem) : Type 0 where
+  pub done : List TreeEvent
+  pub whole : done ++ (own_events p.level p.address w.nodes.bytes.items ++ behind image ranges w) ≡ met image ranges w.tree
   pub items : items_in_events done ≡ given
   pub last : w.last ≡ last_after None given
   pub nodes : met_faults image ranges w.tree done ≡ []
@@ -88,8 +104,8 @@ pub record IsOver (tree : Tree) (image : Image) (ranges : List MapRange) (given 
   pub sound : wrong image ranges tree ≡ []
 
 -- a node was taken, or there is none
-abbrev pub TakesNode : Option NodePointer → Tree → TreeWalker → Image → List MapRange → List TreeItem → Type 0
-TakesNode (Some p) tree w image ranges given = IsAt p w image ranges given
+abbrev pub TakesNode : Option NodeEntry → Tree → TreeWalker → Image → List MapRange → List TreeItem → Type 0
+TakesNode (Some e) tree w image ranges given = IsAt e.pointer w image ranges given
 TakesNode None tree w image ranges given = Walks w image ranges given × IsOver tree image ranges given
 
 -- a node was opened and no item given, or there is nothing more
@@ -104,7 +120,7 @@ HasItem w = 0 < w.at.next
 -- the item that was given last
 pub record StandsLast (w : TreeWalker) (i : TreeItem) : Type 0 where
   pub leaf : i.leaf ≡ w.address
-  pub item : (other : Item) → slice_index_or (items_in w.bytes.items) (w.at.next - 1) other ≡ (i.key, i.body)
+  pub item : (other : Item) → slice_index_or (items_in w.nodes.bytes.items) (w.at.next - 1) other ≡ (i.key, i.body)
 
 -- one more item was given and stands, or there is none more
 abbrev pub Comes : Bool → Tree → TreeWalker → Image → List MapRange → List TreeItem → Type 0
@@ -142,4 +158,4 @@ IsBadOrFailed Memory = Unit {0}
 
 -- at most how many items may still come, whatever the source gives
 abbrev pub fuel : TreeWalker → ℕ
-fuel w = stack_weight w.tree.form.nodesize w.pending.items + w.at.left
+fuel w = nodes_fuel w.nodes + w.at.left

@@ -1,26 +1,26 @@
-ghost use Rattle.std.specs.Prelude.{◌≡◌, ◌≤◌, ◌<◌, ◌+◌, ◌*◌, ◌++◌, ◌∷◌, [], List, Bool, true, false, length, is_err, vec_capacity, IsTrue, IfOk, IfErr, IfSome, OnOk, Contains};
+ghost use Rattle.std.specs.Prelude.{◌≡◌, ◌≤◌, ◌<◌, ◌+◌, [], List, true, false, is_err, IsTrue, IfOk, IfErr, IfSome, OnOk, Contains};
 ghost use Rattle.std.specs.Result.{MatchResult};
 ghost use Rattle.btr_node.specs.outside.Fault.{HasCauseOf};
 ghost use Rattle.btr_node.specs.outside.History.{Image, OverTold};
+ghost use Rattle.btr_node.specs.Leaf.{HasLeafLayout};
 ghost use Rattle.btr_node.specs.NodeSize.{IsNodeSize};
 ghost use Rattle.btr_reader_walk.specs.declared.map.MapRange.{MapRange as RangeOf};
 ghost use Rattle.btr_reader_walk.specs.Events.{TreeItem};
-ghost use Rattle.btr_reader_walk.specs.Map.{is_mapped, node_at};
 ghost use Rattle.btr_reader_walk.specs.Tree.{is_above};
-ghost use Rattle.btr_reader_walk.specs.Stack.{fan_out, weight, stack_weight};
-ghost use Rattle.btr_reader_walk.specs.Walks.{Walks, IsAt, TakesNode, Moves, Comes, StandsLast, HasItem, Blames, IsBad, IsBadOrFault, LieOn, wrong, fuel};
+ghost use Rattle.btr_reader_walk.specs.Stack.{weight};
+ghost use Rattle.btr_reader_walk.specs.Visits.{HasRoom};
+ghost use Rattle.btr_reader_walk.specs.Walks.{Walks, IsIn, TakesNode, Moves, Comes, StandsLast, HasItem, Blames, IsBad, IsBadOrFault, LieOn, wrong, fuel};
 
-use crate::blocks::read_node;
 use crate::map::MapRange;
-use crate::node::{open_inner, open_leaf};
-use crate::tree::{NodePointer, Tree};
+use crate::node_walker::NodeWalker;
+use crate::tree::{NodeEntry, NodePointer, Owners, Tree};
 use crate::walker::{LeafCursor, TreeWalker};
 use btr_node::{BlockSource, BtrAnswer, BtrRefusal, BtrRule, Key, LeafView, Memory};
 use std::alloc::Global;
 
 impl TreeWalker {
-    /// A walk that has not begun. Memory is taken here alone: a buffer for one node, and a stack of pointers with room for
-    /// all children of one node on each level.
+    /// A walk that has not begun. Memory is taken here alone: a buffer for one node, and a stack with room for all children
+    /// of one node on each level.
     pub fn new(alloc: Global, tree: Tree) -> Result<TreeWalker, Memory>
         requires size { IsNodeSize tree.form.nodesize }
         requires high { tree.root.level ≤ 7 }
@@ -28,16 +28,10 @@ impl TreeWalker {
         ensures tree { IfOk result (λ w. w.tree ≡ tree) }
         ensures fresh { IfOk result (λ w. w.spent ≡ false) }
     {
-        let nodesize = tree.form.nodesize as usize;
         Ok(TreeWalker {
             tree,
-            pending: stack_of(
-                alloc,
-                tree.root,
-                tree.root.level as usize * (nodesize / 33) + 1,
-            )?,
+            nodes: NodeWalker::new(alloc, tree, Owners::Own)?,
             address: 0,
-            bytes: zeroed(alloc, nodesize)?,
             at: LeafCursor { next: 0, left: 0 },
             last: None,
             spent: false,
@@ -51,90 +45,38 @@ impl TreeWalker {
         self.spent
     }
 
-    /// Takes the next node off the stack.
-    fn take_pointer(&mut self) -> Option<NodePointer>
+    /// Takes the next node.
+    fn take_node(&mut self) -> Option<NodeEntry>
         requires done { self.old.at.left ≡ 0 }
         ensures takes { (image : Image) (ranges : List RangeOf) (given : List TreeItem) → Walks self.old image ranges given →
             TakesNode result self.old.tree self.new image ranges given }
         ensures tree { self.new.tree ≡ self.old.tree }
         ensures kept_on { self.new.spent ≡ self.old.spent }
         ensures emptied { IfSome result (λ _. (self.new.at.next ≡ 0) × (self.new.at.left ≡ 0)) }
-        ensures room { IfSome result (λ p. length self.new.pending.items + p.level * fan_out self.new.tree.form.nodesize ≤ self.new.tree.root.level * fan_out self.new.tree.form.nodesize) }
-        ensures weight { IfSome result (λ p. weight self.new.tree.form.nodesize p.level + fuel self.new ≡ fuel self.old) }
+        ensures room { IfSome result (HasRoom self.new.nodes) }
+        ensures weight { IfSome result (λ e. weight self.new.nodes.tree.form.nodesize e.pointer.level + fuel self.new ≡ fuel self.old) }
     {
-        let pointer = self.pending.pop()?;
+        let entry = self.nodes.take()?;
         self.at = LeafCursor { next: 0, left: 0 };
-        Some(pointer)
+        Some(entry)
     }
 
-    /// Goes into the leaf that was read into the buffer.
-    fn put_leaf(&mut self, p: NodePointer) -> Result<(), BtrRefusal>
-        requires level { p.level ≡ 0 }
+    /// Takes the items of the node that was opened in hand, if it is a leaf.
+    fn enter(&mut self, p: &NodePointer)
         requires next { self.old.at.next ≡ 0 }
         requires left { self.old.at.left ≡ 0 }
-        ensures opens { (image : Image) (ranges : List RangeOf) (given : List TreeItem) → IsAt p self.old image ranges given →
-            is_mapped ranges self.old.tree.form.nodesize p.address ≡ true → self.old.bytes.items ≡ node_at image ranges self.old.tree.form.nodesize p.address →
-            MatchResult result (λ _. Walks self.new image ranges given) (λ r. Contains (wrong image ranges self.old.tree) r) }
+        requires layout { p.now.level ≡ 0 → HasLeafLayout self.old.nodes.bytes.items }
+        ensures enters { (image : Image) (ranges : List RangeOf) (given : List TreeItem) → IsIn p.now self.old image ranges given → Walks self.new image ranges given }
         ensures tree { self.new.tree ≡ self.old.tree }
         ensures kept_on { self.new.spent ≡ self.old.spent }
-        ensures bad { IfErr result IsBad }
-        ensures ends { OnOk result (fuel self.new < weight self.old.tree.form.nodesize p.level + fuel self.old) }
-    {
-        let want = self.tree.want(&p);
-        match open_leaf(self.bytes.as_slice(), &want, self.tree.may_be_bare()) {
-            Ok(left) => {
-                self.address = p.address;
-                self.at = LeafCursor { next: 0, left };
-                Ok(())
-            }
-            Err(rule) => Err(BtrRefusal::BadBtrfs {
-                address: p.address,
-                rule,
-            }),
-        }
-    }
-
-    /// Puts the children of the inner node that was read into the buffer onto the stack.
-    fn put_children(&mut self, p: NodePointer) -> Result<(), BtrRefusal>
-        requires level { 1 ≤ p.level }
-        requires next { self.old.at.next ≡ 0 }
-        requires left { self.old.at.left ≡ 0 }
-        requires room { length self.old.pending.items + p.level * fan_out self.old.tree.form.nodesize ≤ self.old.tree.root.level * fan_out self.old.tree.form.nodesize }
-        ensures opens { (image : Image) (ranges : List RangeOf) (given : List TreeItem) → IsAt p self.old image ranges given →
-            is_mapped ranges self.old.tree.form.nodesize p.address ≡ true → self.old.bytes.items ≡ node_at image ranges self.old.tree.form.nodesize p.address →
-            MatchResult result (λ _. Walks self.new image ranges given) (λ r. Contains (wrong image ranges self.old.tree) r) }
-        ensures tree { self.new.tree ≡ self.old.tree }
-        ensures kept_on { self.new.spent ≡ self.old.spent }
-        ensures bad { IfErr result IsBad }
-        ensures ends { OnOk result (fuel self.new < weight self.old.tree.form.nodesize p.level + fuel self.old) }
-    {
-        let want = self.tree.want(&p);
-        match open_inner(self.bytes.as_slice(), &want, &mut self.pending) {
-            Ok(()) => Ok(()),
-            Err(rule) => Err(BtrRefusal::BadBtrfs {
-                address: p.address,
-                rule,
-            }),
-        }
-    }
-
-    /// Opens the node that was read into the buffer.
-    fn open(&mut self, p: NodePointer) -> Result<(), BtrRefusal>
-        requires next { self.old.at.next ≡ 0 }
-        requires left { self.old.at.left ≡ 0 }
-        requires room { length self.old.pending.items + p.level * fan_out self.old.tree.form.nodesize ≤ self.old.tree.root.level * fan_out self.old.tree.form.nodesize }
-        ensures opens { (image : Image) (ranges : List RangeOf) (given : List TreeItem) → IsAt p self.old image ranges given →
-            is_mapped ranges self.old.tree.form.nodesize p.address ≡ true → self.old.bytes.items ≡ node_at image ranges self.old.tree.form.nodesize p.address →
-            MatchResult result (λ _. Walks self.new image ranges given) (λ r. Contains (wrong image ranges self.old.tree) r) }
-        ensures tree { self.new.tree ≡ self.old.tree }
-        ensures kept_on { self.new.spent ≡ self.old.spent }
-        ensures bad { IfErr result IsBad }
-        ensures ends { OnOk result (fuel self.new < weight self.old.tree.form.nodesize p.level + fuel self.old) }
+        ensures nodes { self.new.nodes ≡ self.old.nodes }
+        ensures few { p.now.level ≡ 0 → self.new.at.left ≤ self.old.nodes.tree.form.nodesize }
+        ensures none { 1 ≤ p.now.level → self.new.at.left ≡ 0 }
     {
         if p.level == 0 {
-            self.put_leaf(p)
-        } else {
-            self.put_children(p)
+            let left = LeafView::of(self.nodes.bytes()).count();
+            self.address = p.address;
+            self.at = LeafCursor { next: 0, left };
         }
     }
 
@@ -155,15 +97,13 @@ impl TreeWalker {
             MatchResult result (λ more. Moves more self.old.tree self.new (S.blocks src.old) ranges.now given) (Blames (wrong (S.blocks src.old) ranges.now self.old.tree)) }
         ensures ends { IfOk result (λ more. IsTrue more → fuel self.new < fuel self.old) }
     {
-        let p = match self.take_pointer() {
-            Some(p) => p,
+        let entry = match self.take_node() {
+            Some(entry) => entry,
             None => return Ok(false),
         };
-        read_node(src, ranges, p.address, &mut self.bytes)?;
-        match self.open(p) {
-            Ok(()) => Ok(true),
-            Err(refusal) => Err(BtrAnswer::Refused(refusal)),
-        }
+        self.nodes.open(src, ranges, &entry)?;
+        self.enter(&entry.pointer);
+        Ok(true)
     }
 
     /// Takes the next item of the leaf in hand.
@@ -177,7 +117,7 @@ impl TreeWalker {
         ensures kept_on { self.new.spent ≡ self.old.spent }
         ensures ends { OnOk result (fuel self.new < fuel self.old) }
     {
-        let key = LeafView::of(self.bytes.as_slice()).key(self.at.next);
+        let key = LeafView::of(self.nodes.bytes()).key(self.at.next);
         if !is_above(&self.last, &key) {
             return Err(BtrRefusal::BadBtrfs {
                 address: self.address,
@@ -250,7 +190,7 @@ impl TreeWalker {
         requires { HasItem self.now }
         ensures { (i : TreeItem) → StandsLast self.now i → result ≡ i.key }
     {
-        LeafView::of(self.bytes.as_slice()).key(self.at.next - 1)
+        LeafView::of(self.nodes.bytes()).key(self.at.next - 1)
     }
 
     /// The data of the item that stands, in bytes.
@@ -258,7 +198,7 @@ impl TreeWalker {
         requires { HasItem self.now }
         ensures { (i : TreeItem) → StandsLast self.now i → result.now ≡ i.body }
     {
-        LeafView::of(self.bytes.as_slice()).body(self.at.next - 1)
+        LeafView::of(self.nodes.bytes()).body(self.at.next - 1)
     }
 
     /// The address of the leaf of the item that stands.
@@ -278,23 +218,4 @@ fn is_above(last: &Option<Key>, key: &Key) -> bool
         Some(last) => last.is_before(key),
         None => true,
     }
-}
-
-/// A stack with one pointer and room for so many.
-fn stack_of(alloc: Global, root: NodePointer, room: usize) -> Result<Vec<NodePointer>, Memory>
-    ensures items { IfOk result (λ stack. stack.items ≡ root ∷ []) }
-    ensures capacity { IfOk result (λ stack. room ≤ vec_capacity stack) }
-{
-    let mut stack = Vec::with_capacity(alloc, room)?;
-    stack.push(root)?;
-    Ok(stack)
-}
-
-/// A buffer of so many zeros.
-fn zeroed(alloc: Global, n: usize) -> Result<Vec<u8>, Memory>
-    ensures { IfOk result (λ bytes. length bytes.items ≡ n) }
-{
-    let mut bytes = Vec::new(alloc);
-    bytes.resize(n, 0)?;
-    Ok(bytes)
 }

@@ -1,5 +1,5 @@
 // Each law is the contract of a function that does nothing.
-ghost use Rattle.btr_reader_walk.specs.Laws.{ChildrenGiveItems, LeavesGiveItems, NodesDecide, SubtreesAreTrees};
+ghost use Rattle.btr_reader_walk.specs.Laws.{ChildrenGiveItems, LeavesGiveItems, NodesAreMet, NodesDecide, SubtreesAreTrees};
 
 use btr_node::damages_tell;
 
@@ -25,4 +25,9 @@ pub fn subtrees_are_trees()
 /// Where two disks have the same bytes in the nodes that are met, the same is met.
 pub fn nodes_decide()
     ensures { NodesDecide }
+{}
+
+/// Where a tree has its own nodes alone, its nodes are those that a walk over its items meets.
+pub fn nodes_are_met()
+    ensures { NodesAreMet }
 {}

@@ -1,4 +1,4 @@
-//! The items of a Btrfs tree, one after the other, or what is wrong with the tree.
+//! The items of a Btrfs tree, one after the other, or its nodes, and what is wrong with the tree.
 #![tactic(auto)]
 
 mod advance;
@@ -6,17 +6,22 @@ mod blocks;
 mod laws;
 mod map;
 mod node;
+mod node_walker;
 mod note;
 mod tree;
+mod visit;
 mod walker;
 
 pub use blocks::read_node;
 pub use btr_node::{
     Block, BlockNo, BlockSource, BtrAnswer, BtrRefusal, BtrRule, DirEntry, DirItems, DiskRange,
-    ExtentContent, Fault, Feature, FileExtent, Inode, Key, Memory, Stamp, SumKind, u16_at,
+    ExtentContent, Fault, Feature, FileExtent, Head, Inode, Key, Memory, Stamp, SumKind, u16_at,
 };
-pub use laws::{children_give_items, leaves_give_items, nodes_decide, subtrees_are_trees};
+pub use laws::{
+    children_give_items, leaves_give_items, nodes_are_met, nodes_decide, subtrees_are_trees,
+};
 pub use map::{MapRange, is_mapped, place};
+pub use node_walker::NodeWalker;
 pub use note::{Notes, note_items};
-pub use tree::{Form, NodePointer, Tree};
+pub use tree::{Form, NodeEntry, NodePointer, Owners, Tree, is_file_tree};
 pub use walker::{LeafCursor, TreeWalker};

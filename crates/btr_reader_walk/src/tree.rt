@@ -1,8 +1,10 @@
 ghost use Rattle.std.specs.Prelude.{◌≡◌};
 ghost use Rattle.btr_reader_walk.specs.Events.{may_be_bare};
 ghost use Rattle.btr_reader_walk.specs.Node.{want};
+ghost use Rattle.btr_reader_walk.specs.Nodes.{is_file_tree, owner_asked};
 
-use btr_node::{Expect, SumKind};
+use btr_node::{Expect, Key, SumKind};
+use btrfs_format::object::{FIRST_FREE_OBJECTID, FS_TREE};
 
 /// What the nodes of a volume share.
 #[derive(Clone, Copy, Debug, PartialEq, Eq)]
@@ -24,6 +26,43 @@ pub struct NodePointer {
     pub level: u8,
     /// The transaction that wrote the node.
     pub generation: u64,
+}
+
+/// A node as its tree tells it.
+#[derive(Clone, Copy, Debug, PartialEq, Eq)]
+pub struct NodeEntry {
+    /// The pointer to it.
+    pub pointer: NodePointer,
+    /// The key that its parent has for it. The root has no parent.
+    pub key: Option<Key>,
+}
+
+/// Whose nodes a tree may have.
+#[derive(Clone, Copy, Debug, PartialEq, Eq)]
+pub enum Owners {
+    /// Its own alone.
+    Own,
+    /// Its own, and those of any tree of files: trees of files share nodes once there are snapshots.
+    Files,
+}
+
+impl Owners {
+    /// The owner that a node of the tree with this number has to tell, where it tells `told`.
+    pub fn asked(self, number: u64, told: u64) -> u64
+        ensures { result ≡ owner_asked self number told }
+    {
+        match self {
+            Owners::Own => number,
+            Owners::Files => { if is_file_tree(told) { told } else { number } }
+        }
+    }
+}
+
+/// Whether a tree with this number is one of files that users see: the first one, or a subvolume.
+pub fn is_file_tree(number: u64) -> bool
+    ensures { result ≡ is_file_tree number }
+{
+    number == FS_TREE || FIRST_FREE_OBJECTID <= number && number < 1 << 48
 }
 
 /// A tree of a volume.

@@ -1,8 +1,9 @@
-ghost use Rattle.std.specs.Prelude.{◌≡◌, ◌≤◌, ◌<◌, ◌+◌, ◌*◌, length, vec_capacity, IsTrue};
+ghost use Rattle.std.specs.Prelude.{◌≡◌, ◌<◌, ◌+◌, length};
 ghost use Rattle.btr_node.specs.Leaf.{HasLeafLayout, items_in};
-ghost use Rattle.btr_reader_walk.specs.Stack.{fan_out, is_node_size, is_stack};
+ghost use Rattle.btr_reader_walk.specs.declared.tree.Owners.TheVariants.{Own};
 
-use crate::tree::{NodePointer, Tree};
+use crate::node_walker::NodeWalker;
+use crate::tree::Tree;
 use btr_node::Key;
 
 /// Which items of the leaf in hand are still to come.
@@ -12,22 +13,18 @@ pub struct LeafCursor {
     pub left: usize,
 }
 
-/// A walk over the items of a tree, in the order of their keys.
-///
-/// It keeps one node in a buffer, and the pointers to the nodes that are still to be met.
+/// A walk over the items of a tree, in the order of their keys: a walk over its nodes that opens each, and goes over the
+/// items of each leaf.
 #[derive(Drop)]
 pub struct TreeWalker {
     pub tree: Tree,
-    pub pending: Vec<NodePointer>,
+    pub nodes: NodeWalker,
     pub address: u64,
-    pub bytes: Vec<u8>,
     pub at: LeafCursor,
     pub last: Option<Key>,
     pub spent: bool,
-    ghost size: { IsTrue (is_node_size tree.form.nodesize) },
-    ghost buffer: { length bytes.items ≡ tree.form.nodesize },
-    ghost leaf: { 0 < at.next + at.left → HasLeafLayout bytes.items },
-    ghost all: { 0 < at.next + at.left → at.next + at.left ≡ length (items_in bytes.items) },
-    ghost stack: { IsTrue (is_stack (tree.root.level * fan_out tree.form.nodesize) (fan_out tree.form.nodesize) 0 pending.items) },
-    ghost room: { tree.root.level * fan_out tree.form.nodesize + 1 ≤ vec_capacity pending },
+    ghost same: { nodes.tree ≡ tree },
+    ghost own: { nodes.owners ≡ Own },
+    ghost leaf: { 0 < at.next + at.left → HasLeafLayout nodes.bytes.items },
+    ghost all: { 0 < at.next + at.left → at.next + at.left ≡ length (items_in nodes.bytes.items) },
 }

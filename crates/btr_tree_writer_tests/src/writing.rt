@@ -4,14 +4,14 @@ ghost use Rattle.btr_tree.specs.Building.{AreSlots};
 
 use btr_item_list::ItemList;
 use btr_keys::Key;
-use btr_reader_walk::{Form, MapRange, NodePointer, Tree, TreeWalker};
+use btr_reader_walk::{Form, MapRange, NodePointer, NodeWalker, Owners, Tree, TreeWalker};
 use btr_tree::{Root, Slots};
 use btr_tree_writer::{ListItems, NodeForm, Trees, WriteAnswer, WrittenTree, write_tree};
 use btrfs_format::block::SUPER_INFO_OFFSET;
 use csum_kinds::SumKind;
 use outside::{Access, BlockSource, Disk, Memory};
 use outside_mem::MemDisk;
-use refusals::BtrAnswer;
+use refusals::{BtrAnswer, BtrRefusal, BtrRule};
 use std::alloc::Global;
 use std::test::Fail;
 use vol_block::Ids;
@@ -61,6 +61,27 @@ fn slots_in_a_row(alloc: Global, count: u64) -> Result<Slots, Memory>
     Ok(slots)
 }
 
+/// The tree with this root.
+fn tree_of(root: &Root) -> Tree
+    ensures form { result.form.nodesize ≡ 4096 }
+    ensures level { result.root.level ≡ root.now.level }
+{
+    let fsid = FORM.ids.fsid;
+    Tree {
+        form: Form {
+            fsid,
+            nodesize: FORM.nodesize,
+            sums: FORM.sums,
+        },
+        root: NodePointer {
+            address: root.address,
+            level: root.level,
+            generation: 1,
+        },
+        owner: OWNER,
+    }
+}
+
 /// Whether the tree with this root has the items of the list, and no more.
 fn has_items<S: BlockSource>(
     alloc: Global,
@@ -74,21 +95,7 @@ fn has_items<S: BlockSource>(
     if root.level > 7 {
         return Ok(false);
     }
-    let fsid = FORM.ids.fsid;
-    let tree = Tree {
-        form: Form {
-            fsid,
-            nodesize: FORM.nodesize,
-            sums: FORM.sums,
-        },
-        root: NodePointer {
-            address: root.address,
-            level: root.level,
-            generation: 1,
-        },
-        owner: OWNER,
-    };
-    let mut walker = TreeWalker::new(alloc, tree)?;
+    let mut walker = TreeWalker::new(alloc, tree_of(root))?;
     for i in 0..list.len() {
         if !walker.advance(src, &ALL)? {
             return Ok(false);
@@ -137,6 +144,90 @@ fn one_leaf(rt: HostRuntime) -> Result<(), Fail> {
     assert_eq!(rt; disk.writes(), 1);
     let is_back = has_items(rt.alloc(), &mut disk, &tree.root, &list)?;
     assert!(rt; is_back);
+    Ok(())
+}
+
+/// The address of the next node of a walk, and the key that its parent has for it; it is opened.
+fn next_node<S: BlockSource>(
+    walker: &mut NodeWalker,
+    src: &mut S,
+) -> Result<Option<(u64, Option<Key>)>, BtrAnswer>
+    requires size { 32 ≤ S.size src.old }
+    ensures size { S.size src.new ≡ S.size src.old }
+{
+    let entry = match walker.take() {
+        Some(entry) => entry,
+        None => return Ok(None),
+    };
+    walker.open(src, &ALL, &entry)?;
+    Ok(Some((entry.pointer.address, entry.key)))
+}
+
+/// Writes a tree of two leaves and their root, and says where the root is.
+fn three_nodes<D: Disk>(alloc: Global, disk: &mut D) -> Result<Root, WriteAnswer>
+    requires open { D.opened disk.old ≡ Some Access.Write }
+    requires size { 32 ≤ D.size disk.old }
+    ensures size { D.size disk.new ≡ D.size disk.old }
+{
+    let mut list = ItemList::new(alloc);
+    list.add(key(256), &[7; 3970])?;
+    list.add(key(257), &[8; 3970])?;
+    let tree = written(alloc, disk, 3, &list)?;
+    Ok(tree.root)
+}
+
+// The root has no parent. A node that is not opened has nothing below it.
+#[test]
+fn nodes_one_by_one(rt: HostRuntime) -> Result<(), Fail> {
+    let alloc = rt.alloc();
+    let mut disk = MemDisk::new(alloc, 32)?;
+    disk.open("", Access::Write)?;
+    let root = three_nodes(alloc, &mut disk)?;
+    if root.level > 7 {
+        return Ok(());
+    }
+    let tree = tree_of(&root);
+    let mut walker = NodeWalker::new(alloc, tree, Owners::Own)?;
+    let top = next_node(&mut walker, &mut disk)?;
+    assert_eq!(rt; top, Some((73728, None)));
+    let first = next_node(&mut walker, &mut disk)?;
+    assert_eq!(rt; first, Some((65536, Some(key(256)))));
+    let second = next_node(&mut walker, &mut disk)?;
+    assert_eq!(rt; second, Some((69632, Some(key(257)))));
+    assert!(rt; walker.take().is_none());
+    let mut skipping = NodeWalker::new(alloc, tree, Owners::Own)?;
+    assert!(rt; skipping.take().is_some());
+    assert!(rt; skipping.take().is_none());
+    Ok(())
+}
+
+// A node of another tree is refused, but where trees share nodes, and then it has nothing below it.
+#[test]
+fn nodes_of_others(rt: HostRuntime) -> Result<(), Fail> {
+    let alloc = rt.alloc();
+    let mut disk = MemDisk::new(alloc, 32)?;
+    disk.open("", Access::Write)?;
+    let root = three_nodes(alloc, &mut disk)?;
+    if root.level > 7 {
+        return Ok(());
+    }
+    let other = Tree {
+        owner: 257,
+        ..tree_of(&root)
+    };
+    let mut stray = NodeWalker::new(alloc, other, Owners::Own)?;
+    let refused = next_node(&mut stray, &mut disk).err();
+    assert_eq!(rt;
+        refused,
+        Some(BtrAnswer::Refused(BtrRefusal::BadBtrfs {
+            address: 73728,
+            rule: BtrRule::NodeHead
+        }))
+    );
+    assert!(rt; stray.take().is_none());
+    let mut shared = NodeWalker::new(alloc, other, Owners::Files)?;
+    let top = next_node(&mut shared, &mut disk)?;
+    assert_eq!(rt; top, Some((73728, None)));
     Ok(())
 }
 

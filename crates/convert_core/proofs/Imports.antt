@@ -9,7 +9,7 @@ pub use Rattle.std.proofs.lemmas.Result.{MatchResult-weaker, err_from_is_err_and
 pub use Rattle.std.specs.List.{AllByRecursion, flat_map, range_with_len}
 pub use Rattle.std.specs.Prelude.{All, AllPairs, Contains, IfErr, IsTrue, MatchOption, Result, codes, if◌then◌else◌, nat_le, slice_get}
 pub use Rattle.btrfs_format.specs.declared.block.TheConstants.{FIRST_MIRROR, SECOND_MIRROR, SUPER_BLOCK}
-pub use Rattle.btrfs_format.specs.declared.object.TheConstants.{CHUNK_TREE, CONV_IMAGE_SUBVOL, CSUM_TREE, DATA_RELOC_TREE, DEV_TREE, EXTENT_CSUM_OBJECTID, EXTENT_TREE, FS_TREE, ROOT_TREE}
+pub use Rattle.btrfs_format.specs.declared.object.TheConstants.{CHUNK_TREE, EXTENT_CSUM_OBJECTID, EXTENT_TREE, ROOT_TREE}
 pub use Rattle.convert_core.specs.Answers.{IsConvertAnswer, RefusesConvert, by_writer}
 pub use Rattle.convert_core.specs.Converted.{DiffersInFree, IsConvertPlace, IsConverted, IsConvertible, IsEither, IsFree, IsHalfConverted, IsLeftByConvert, IsNew, IsPutDown, IsTaken, KeepsOldVolume, StandsConverted}
 pub use Rattle.convert_core.specs.Copied.{begins_with_super, copy_in}
@@ -22,13 +22,12 @@ pub use Rattle.convert_steps.specs.Making.{IsMaking, Making, chunk_slots, label_
 pub use Rattle.convert_steps.specs.Moved.{CanMove, HasOwner, HoldMoved, IsMovedPlace, IsMovedTo}
 pub use Rattle.convert_steps.specs.Prepared.{HasPlanFor, IsPrepareAnswer, IsPrepared, RefusesConversion}
 pub use Rattle.convert_steps.specs.Source.{HasPieces}
-pub use Rattle.convert_steps.specs.Standing.{AllFit, HasTrees, IsFor, SameVolume, device_from, extents_from, file_tree_items, form, image_from, image_tree_items, nodes_from, relocation_from, root_from, root_tree_items, sum_tree_items, sums_from, used_bytes}
+pub use Rattle.convert_steps.specs.Standing.{AllFit, IsFor, SameVolume, TreeRoots, TreesStand, extents_from, form, items_of, nodes_from, placed_trees, root_from, root_tree_items, roots_told, sum_tree_items}
 pub use Rattle.convert_steps.specs.Superblock.{is_system_role, new_super, record_bytes}
 pub use Rattle.convert_steps.specs.Switch.{HasCopies, IsHalfSwitched, IsLeftBySwitch, IsMirror, IsMirrorOf, IsSwitchPart, IsSwitched}
 pub use Rattle.convert_steps.specs.command_answers.declared.answer.Answer.{Answer}
 pub use Rattle.convert_steps.specs.declared.prepared.Prepared.{Prepared}
-pub use Rattle.convert_steps.specs.declared.trees.VolumeTrees.{VolumeTrees}
-pub use Rattle.convert_steps.specs.space_items.Chunks.{chunk_item, chunk_items, device_items}
+pub use Rattle.convert_steps.specs.space_items.Chunks.{chunk_item, chunk_items}
 pub use Rattle.convert_steps.specs.space_items.declared.node.TreeNode.{TreeNode}
 pub use Rattle.convert_trees_laws.proofs.Booting.{boot_fits_by, system_few}
 pub use Rattle.extent_pieces.proofs.Apart.{places_are_apart, plans_have_room}

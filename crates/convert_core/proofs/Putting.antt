@@ -1,6 +1,7 @@
 -- All of a new volume is written but its superblock.
-use Rattle.convert_core.proofs.Imports.{◌≡◌, ◌∙◌, ◌⊎◌, ℕ, ◌+◌, ◌≤◌, ◌<◌, List, length, refl, sym, ap, subst, arith, ⊎_elim, true≢false, Contains, keys, Ids, Image, History, WritesOnly, block_at, reads, writes_length, writes_weaker, reads_outside, IsNodeSize, IsInSlots, IsMaking, Making, label_by, label_field, new_ids, HasPieces, AllFit, HasTrees, IsFor, SameVolume, used_bytes, VolumeTrees, HoldMoved, IsMovedPlace, IsPrepared, new_super, Prepared, all_at, has, links_in, used_of, Volume, TreeNode, AreChunks, node_places, PlannedChunk, Options, Piece, Plan, KeepsOldVolume, IsConvertible, IsFree, IsPutDown, IsTaken, StandsConverted, IsSummary, summary_by, Written, copy_in}
+use Rattle.convert_core.proofs.Imports.{◌≡◌, ◌∙◌, ◌⊎◌, ℕ, ◌+◌, ◌≤◌, ◌<◌, List, length, refl, sym, ap, subst, arith, ⊎_elim, true≢false, Contains, keys, Ids, Image, History, WritesOnly, block_at, reads, writes_length, writes_weaker, reads_outside, IsNodeSize, IsInSlots, IsMaking, Making, label_by, label_field, new_ids, HasPieces, AllFit, IsFor, SameVolume, TreeRoots, TreesStand, roots_told, HoldMoved, IsMovedPlace, IsPrepared, new_super, Prepared, all_at, has, links_in, used_of, Volume, TreeNode, AreChunks, node_places, PlannedChunk, Options, Piece, Plan, KeepsOldVolume, IsConvertible, IsFree, IsPutDown, IsTaken, StandsConverted, IsSummary, summary_by, Written, copy_in}
 use Rattle.std.specs.Prelude.{true}
+use Rattle.convert_steps.specs.declared.fields.NewRoots.{NewRoots}
 use Rattle.convert_steps.specs.btr_super.Super.{super_bytes}
 use Rattle.convert_steps.specs.space_items.Laws.{AreIds}
 use Rattle.convert_trees_laws.specs.Bounds.{PlansSuffice}
@@ -83,8 +84,8 @@ made o ids now p chunks = record {
 }
 
 -- the trees stand, with the checksums of another disk
-abbrev pub TreesStandFor : Image → Image → Image → Making → VolumeTrees → Type 0
-TreesStandFor image mid new m r = (nodes : List TreeNode) × HasTrees image mid new m r nodes × (r.used ≡ used_bytes m nodes)
+abbrev pub TreesStandFor : Image → Image → Image → Making → NewRoots → Type 0
+TreesStandFor image mid new m t = (r : TreeRoots) × (nodes : List TreeNode) × TreesStand image mid new m r nodes × (t ≡ roots_told m r nodes)
 
 module _ (image : Image) (o : Options) (ids : Ids) (p : Prepared) (is : IsPrepared image o ids p) where
   pub summed : IsSummary o image (summary_by p.pieces.counts p.need)
@@ -119,9 +120,9 @@ module _ (image : Image) (o : Options) (ids : Ids) (p : Prepared) (is : IsPrepar
         let before = free_before image h₀ h₁ told (places_only p.volume image o p.plan p.pieces.items.items is.has_pieces h₀ h₁ only) in
         record { as_many = before.size; used = before.used }
 
-    -- its superblock, by the bytes that all extents have
-    abbrev bytes_by : VolumeTrees → Ids → List ℕ → ℕ → List ℕ
-    bytes_by r new label used = super_bytes (new_super new p.volume.sup.blocks o.nodesize o.sums label chunks (record { chunk = r.chunk; root = r.root; used = used }))
+    -- its superblock, by what is told of the trees
+    abbrev bytes_by : NewRoots → Ids → List ℕ → List ℕ
+    bytes_by t new label = super_bytes (new_super new p.volume.sup.blocks o.nodesize o.sums label chunks t)
 
     module _ (size : IsNodeSize o.nodesize) (h₀ h₁ h₂ h₃ : History) (told : reads h₀ ≡ image) (first : WritesOnly (λ b _. IsMovedPlace p.pieces.items.items b) h₀ h₁)
         (then : WritesOnly (λ b _. InSystem o.nodesize p.plan b ⊎ InMetadata o.nodesize p.plan b) h₁ h₂) (last : reads h₃ ≡ reads h₂) where
@@ -138,16 +139,16 @@ module _ (image : Image) (o : Options) (ids : Ids) (p : Prepared) (is : IsPrepar
           ∙ reads_outside (λ b. InSystem o.nodesize p.plan b ⊎ InMetadata o.nodesize p.plan b) h₁ h₂ then b
           (piece_not_node p.volume image o p.plan p.pieces.items.items of size at.0 at.1 b at.2 at.3)
 
-      stand_there : (r : VolumeTrees) (stand : TreesStandFor image (reads h₁) (reads h₂) m r) → HoldMoved p.volume image (reads h₁) p.pieces.items.items
-          → StandsConverted image (reads h₃) m r stand.0
-      stand_there r stand hold = record {
+      stand_there : (t : NewRoots) (stand : TreesStandFor image (reads h₁) (reads h₂) m t) → HoldMoved p.volume image (reads h₁) p.pieces.items.items
+          → StandsConverted image (reads h₃) m stand.0 stand.1
+      stand_there t stand hold = record {
         size =
             ap (λ (i : Image). length i) last ∙ (writes_length (λ b _. InSystem o.nodesize p.plan b ⊎ InMetadata o.nodesize p.plan b) h₁ h₂ then
             ∙ (writes_length (λ b _. IsMovedPlace p.pieces.items.items b) h₀ h₁ first ∙ ap (λ (i : Image). length i) told));
         pieces = pieces_stay image (reads h₁) (reads h₃) m (piece_some p.volume image o p.plan p.pieces.items.items of) same_pieces hold;
         trees =
-            other_sums image (reads h₁) (reads h₃) (reads h₃) m r stand.0 (sums_stay image (reads h₁) (reads h₃) m same_pieces)
-            (subst (λ (i : Image). HasTrees image (reads h₁) i m r stand.0) (sym last) stand.1);
+            other_sums image (reads h₁) (reads h₃) (reads h₃) m stand.0 stand.1 (sums_stay image (reads h₁) (reads h₃) m same_pieces)
+            (subst (λ (i : Image). TreesStand image (reads h₁) i m stand.0 stand.1) (sym last) stand.2);
       }
 
       -- nothing else differs
@@ -158,22 +159,22 @@ module _ (image : Image) (o : Options) (ids : Ids) (p : Prepared) (is : IsPrepar
           ∙ (reads_outside (λ b. IsMovedPlace p.pieces.items.items b) h₀ h₁ first b (λ at. outside (place_taken p.volume image o p.plan p.pieces.items.items of b at))
           ∙ ap (λ (i : Image). block_at i b) told))
 
-      pub put_down : (w : Written) (r : VolumeTrees) → HoldMoved p.volume image (reads h₁) p.pieces.items.items → TreesStandFor image (reads h₁) (reads h₂) m r
-          → w.superblock.bytes ≡ bytes_by r p.ids p.label r.used → w.blocks ≡ p.volume.sup.blocks → w.copy ≡ copy_in p.pieces.items.items → w.summary ≡ summary_by p.pieces.counts p.need
+      pub put_down : (w : Written) (t : NewRoots) → HoldMoved p.volume image (reads h₁) p.pieces.items.items → TreesStandFor image (reads h₁) (reads h₂) m t
+          → w.superblock.bytes ≡ bytes_by t p.ids p.label → w.blocks ≡ p.volume.sup.blocks → w.copy ≡ copy_in p.pieces.items.items → w.summary ≡ summary_by p.pieces.counts p.need
           → IsPutDown o ids now image (reads h₃) w
-      put_down w r hold stand bytes blocks copy summary = record {
+      put_down w t hold stand bytes blocks copy summary = record {
         m = m;
-        r = r;
-        nodes = stand.0;
+        r = stand.0;
+        nodes = stand.1;
         conversion = record { making = making; options_are = refl; ids_are = refl; now_is = refl };
-        stands = stand_there r stand hold;
+        stands = stand_there t stand hold;
         others = others;
         superblock =
-            bytes ∙ (ap (λ (i : Ids). bytes_by r i p.label r.used) is.ids_are
-            ∙ (ap (λ (l : List ℕ). bytes_by r (new_ids m) l r.used) is.label_is ∙ ap (bytes_by r (new_ids m) (label_field (label_by p.volume.sup o.label))) stand.2));
+            bytes ∙ (ap (λ (i : Ids). bytes_by t i p.label) is.ids_are
+            ∙ (ap (λ (l : List ℕ). bytes_by t (new_ids m) l) is.label_is ∙ ap (λ (x : NewRoots). bytes_by x (new_ids m) (label_field (label_by p.volume.sup o.label))) stand.3));
         blocks = blocks;
-        copy = ap (block_at (reads h₃)) copy ∙ copy_holds p.volume image o p.plan p.pieces.items.items of (reads h₃) (stand_there r stand hold).pieces;
-        inside = let within = copy_inside p.volume image o p.plan p.pieces.items.items of in let long = (stand_there r stand hold).size in omega (arith, within, long, copy);
+        copy = ap (block_at (reads h₃)) copy ∙ copy_holds p.volume image o p.plan p.pieces.items.items of (reads h₃) (stand_there t stand hold).pieces;
+        inside = let within = copy_inside p.volume image o p.plan p.pieces.items.items of in let long = (stand_there t stand hold).size in omega (arith, within, long, copy);
         elsewhere = λ is. copy_elsewhere p.volume image o p.plan p.pieces.items.items of (sym copy ∙ is);
         summary = subst (IsSummary o image) (sym summary) summed;
       }

@@ -1,8 +1,12 @@
 -- What stands on a disk goes on standing while none of its blocks is written.
-use Rattle.convert_core.proofs.Imports.{◌≡◌, ◌∙◌, ◌⊎◌, inl, inr, ℕ, ◌+◌, ◌-◌, ◌^◌, ◌<◌, ◌≤◌, List, [], ◌++◌, length, take, drop, sym, ap, subst, arith, length-drop, Contains, if◌then◌else◌, CHUNK_TREE, CONV_IMAGE_SUBVOL, CSUM_TREE, DATA_RELOC_TREE, DEV_TREE, EXTENT_TREE, FS_TREE, ROOT_TREE, Image, block_at, Item, IsInSlots, Making, new_ids, chunk_slots, slots, HasTrees, device_from, extents_from, file_tree_items, form, image_from, image_tree_items, nodes_from, relocation_from, root_from, root_tree_items, sum_tree_items, sums_from, VolumeTrees, HoldMoved, chunk_items, device_items, TreeNode, Piece, StandsConverted, get_or-drop}
+use Rattle.convert_core.proofs.Imports.{◌≡◌, ◌∙◌, ◌⊎◌, inl, inr, ℕ, ◌+◌, ◌-◌, ◌<◌, ◌≤◌, List, [], ◌++◌, length, take, drop, sym, ap, arith, length-drop, ◌∷◌, refl, Contains, if◌then◌else◌, CHUNK_TREE, EXTENT_TREE, ROOT_TREE, Image, block_at, Item, IsInSlots, Making, new_ids, chunk_slots, slots, HoldMoved, chunk_items, TreeNode, Piece, StandsConverted, TreeRoots, TreesStand, extents_from, form, items_of, nodes_from, placed_trees, root_from, root_tree_items, sum_tree_items, get_or-drop}
+use Rattle.convert_steps.proofs.Row.{nodes_by, stand_by, items_by}
+use Rattle.convert_steps.specs.Row.{StandBehind}
+use Rattle.convert_steps.specs.declared.trees.PlacedTree.{PlacedTree}
+use Rattle.unit_plan.specs.Trees.{tree_number}
+use Rattle.unit_plan.specs.declared.tree.NewTree.{NewTree}
 use Rattle.unit_plan.specs.btr_tree.Roots.{lengths_of}
 use Rattle.unit_plan.specs.btr_tree.declared.climb.Root.{Root}
-use Rattle.convert_steps.specs.file_items.Small.{relocation_items}
 use Rattle.convert_steps.specs.space_items.Extents.{extent_items}
 use Rattle.convert_steps.specs.space_items.Nodes.{merged_nodes, nodes_of_tree}
 use Rattle.btr_tree_writer.specs.Trees.{TreeStands}
@@ -50,19 +54,18 @@ module _ (image old new : Image) (m : Making) where
       by_nodes old new (form m) owner (drop k (slots m)) items root
       (λ b h. same b (inr (in_later m.options.nodesize k (slots m) b (in_all m.options.nodesize root.nodes (drop k (slots m)) b h))))
 
-  pub trees_stay : (other : Image) (r : VolumeTrees) (nodes : List TreeNode) → ((b : ℕ) → InNodes m b → block_at new b ≡ block_at old b)
-      → HasTrees image other old m r nodes → HasTrees image other new m r nodes
+  row_stays : (items : NewTree → List Item) (n : ℕ) (placed : List PlacedTree) → ((b : ℕ) → InNodes m b → block_at new b ≡ block_at old b)
+      → StandBehind old (form m) (slots m) items n placed → StandBehind new (form m) (slots m) items n placed
+  row_stays items n [] same stand = stand
+  row_stays items n (p ∷ placed) same stand = (later_stays (tree_number p.tree) n (items p.tree) p.root same stand.0, row_stays items (n + p.root.nodes) placed same stand.1)
+
+  pub trees_stay : (other : Image) (r : TreeRoots) (nodes : List TreeNode) → ((b : ℕ) → InNodes m b → block_at new b ≡ block_at old b)
+      → TreesStand image other old m r nodes → TreesStand image other new m r nodes
   trees_stay other r nodes same has = record {
     chunk =
         by_nodes old new (form m) CHUNK_TREE (chunk_slots m) (chunk_items (new_ids m) m.volume.sup.blocks m.chunks) r.chunk
         (λ b h. same b (inl (in_all m.options.nodesize r.chunk.nodes (chunk_slots m) b h))) has.chunk;
-    files =
-        by_nodes old new (form m) FS_TREE (slots m) (file_tree_items image m) r.files
-        (λ b h. same b (inr (in_all m.options.nodesize r.files.nodes (slots m) b h))) has.files;
-    image_ = later_stays CONV_IMAGE_SUBVOL (image_from r) (image_tree_items m) r.image same has.image_;
-    relocation = later_stays DATA_RELOC_TREE (relocation_from r) (relocation_items m.now) r.relocation same has.relocation;
-    sums = later_stays CSUM_TREE (sums_from r) (sum_tree_items other m) r.sums same has.sums;
-    device = later_stays DEV_TREE (device_from r) (device_items (new_ids m) m.chunks) r.device same has.device;
+    row = row_stays (items_of image other m) 0 (placed_trees r) same has.row;
     root =
         by_nodes old new (form m) ROOT_TREE (take r.root.nodes (drop (root_from r) (slots m))) (root_tree_items m r) r.root
         (λ b h. same b (inr (in_later m.options.nodesize (root_from r) (slots m) b
@@ -72,33 +75,30 @@ module _ (image old new : Image) (m : Making) where
     extents = later_stays EXTENT_TREE (extents_from r) (extent_items m.chunks m.pieces nodes m.options.nodesize) r.extents same has.extents;
   }
 
--- all nodes, by the items of the tree of checksums
-abbrev nodes_by : Image → Making → VolumeTrees → List TreeNode → List Item → List TreeNode
-nodes_by image m r nodes sums =
-    merged_nodes
-    (merged_nodes
-    (nodes_from m FS_TREE 0 (file_tree_items image m) ++ (nodes_from m CONV_IMAGE_SUBVOL (image_from r) (image_tree_items m) ++ (nodes_from m DATA_RELOC_TREE (relocation_from r) (relocation_items m.now)
-    ++ (nodes_from m CSUM_TREE (sums_from r) sums ++ (nodes_from m DEV_TREE (device_from r) (device_items (new_ids m) m.chunks) ++ nodes_from m ROOT_TREE (root_from r) (root_tree_items m r))))))
-    (nodes_of_tree CHUNK_TREE m.options.nodesize (lengths_of (chunk_items (new_ids m) m.volume.sup.blocks m.chunks)) (chunk_slots m)))
-    (nodes_from m EXTENT_TREE (extents_from r) (extent_items m.chunks m.pieces nodes m.options.nodesize))
+-- the items with the checksums of another disk, where they are the same
+items_same : (image mid third : Image) (m : Making) → sum_tree_items third m ≡ sum_tree_items mid m → (t : NewTree) → items_of image mid m t ≡ items_of image third m t
+items_same image mid third m same t = items_by m.volume m.options (new_ids m) m.now m.pieces m.chunks image image mid third refl (sym same) t
 
--- the checksums of another disk, where they are the same
-pub other_sums : (image mid third new : Image) (m : Making) (r : VolumeTrees) (nodes : List TreeNode) → sum_tree_items third m ≡ sum_tree_items mid m
-    → HasTrees image mid new m r nodes → HasTrees image third new m r nodes
+pub other_sums : (image mid third new : Image) (m : Making) (r : TreeRoots) (nodes : List TreeNode) → sum_tree_items third m ≡ sum_tree_items mid m
+    → TreesStand image mid new m r nodes → TreesStand image third new m r nodes
 other_sums image mid third new m r nodes same has = record {
   chunk = has.chunk;
-  files = has.files;
-  image_ = has.image_;
-  relocation = has.relocation;
-  sums = subst (λ (items : List Item). TreeStands new (form m) CSUM_TREE (drop (sums_from r) (slots m)) items r.sums) (sym same) has.sums;
-  device = has.device;
+  row = stand_by new (form m) (slots m) (items_of image mid m) (items_of image third m) (items_same image mid third m same) 0 (placed_trees r) has.row;
   root = has.root;
-  nodes_are = record { is = has.nodes_are.is ∙ ap (nodes_by image m r nodes) (sym same) };
+  nodes_are = record {
+    is =
+        has.nodes_are.is
+        ∙ ap (λ (ns : List TreeNode). merged_nodes
+        (merged_nodes (ns ++ nodes_from m ROOT_TREE (root_from r) (root_tree_items m r))
+        (nodes_of_tree CHUNK_TREE m.options.nodesize (lengths_of (chunk_items (new_ids m) m.volume.sup.blocks m.chunks)) (chunk_slots m)))
+        (nodes_from m EXTENT_TREE (extents_from r) (extent_items m.chunks m.pieces nodes m.options.nodesize)))
+        (nodes_by m.options.nodesize (slots m) (items_of image mid m) (items_of image third m) (items_same image mid third m same) 0 (placed_trees r));
+  };
   extents = has.extents;
 }
 
 -- a converted volume stands on each disk that has the same blocks of pieces and nodes
-pub stands_stay : (image old new : Image) (m : Making) (r : VolumeTrees) (nodes : List TreeNode) → ((p : Piece) → Contains m.pieces p → 1 ≤ p.count) → length new ≡ length old
+pub stands_stay : (image old new : Image) (m : Making) (r : TreeRoots) (nodes : List TreeNode) → ((p : Piece) → Contains m.pieces p → 1 ≤ p.count) → length new ≡ length old
     → ((b : ℕ) → InPieces m b → block_at new b ≡ block_at old b) → ((b : ℕ) → InNodes m b → block_at new b ≡ block_at old b)
     → StandsConverted image old m r nodes → StandsConverted image new m r nodes
 stands_stay image old new m r nodes some size pieces trees stands = record {

@@ -1,8 +1,8 @@
 -- What was prepared of a volume is whole.
-use Rattle.convert_core.proofs.Imports.{◌≡◌, ◌≤◌, ◌<◌, ℕ, ◌+◌, ◌^◌, List, length, get_or, Option, Some, None, sym, ap, subst, ◌∙◌, ⊎_elim, arith, All, AllPairs, MatchOption, cases_lt, SUPER_BLOCK, Image, block_at, IsNodeSize, Super, superblock, used_of, Volume, used_length, system_few, need, Counts, Need, Options, Piece, Plan, Ids, HasPieces, IsPrepared, Prepared, IsWhole}
+use Rattle.convert_core.proofs.Imports.{◌≡◌, ◌≤◌, ◌<◌, ℕ, ◌+◌, ◌^◌, List, length, get_or, sym, ap, subst, ◌∙◌, ⊎_elim, arith, All, AllPairs, cases_lt, SUPER_BLOCK, Image, block_at, IsNodeSize, Super, superblock, used_of, Volume, used_length, system_few, need, Counts, Need, Options, Piece, Plan, Ids, HasPieces, IsPrepared, Prepared, IsWhole}
+use Rattle.convert_trees_laws.proofs.Fitting.{pieces_small}
 use Rattle.reiser_volume.specs.reiser_super.Rules.{IsCleanSuper}
 use Rattle.convert_steps.specs.space_items.Stream.{ArePieces, IsSmallPiece}
-use Rattle.unit_plan.specs.Pieces.{ArePlaced}
 use Rattle.convert_core.proofs.Moving.{well}
 
 -- ---- pieces that are looked at one after the other
@@ -56,28 +56,6 @@ placed_all pieces blocks end i all to = (
   record { small = λ k d h. to.small k d (omega (arith, h, all)); ascending = λ k l d order h. to.ascending k l d order (omega (arith, h, all)) },
   λ k d h. to.inside k d (omega (arith, h, all)),
 )
-
--- ---- pieces of a volume
-
--- pieces that have their places on a small volume are small
-module _ (blocks : ℕ) (few : blocks ≤ 2 ^ 29) (p : Piece) (some : 1 ≤ p.count) where
-  small_source : (from : Option ℕ) → MatchOption from (Unit {0}) (λ b. b + p.count ≤ blocks) → MatchOption from (Unit {0}) (λ b. b < 2 ^ 29)
-  small_source None h = tt
-  small_source (Some b) h = omega (arith, h, few, some)
-
-  small_owner : (owner : Option (ℕ × ℕ)) → MatchOption owner (Unit {0}) (λ o. o.1 + p.count ≤ 2 ^ 32) → MatchOption owner (Unit {0}) (λ o. o.1 < 2 ^ 32)
-  small_owner None h = tt
-  small_owner (Some o) h = omega (arith, h, some)
-
-pub pieces_small : (blocks : ℕ) (pieces : List Piece) → blocks ≤ 2 ^ 29 → ArePlaced blocks pieces → ArePieces pieces
-pieces_small blocks pieces few are = record {
-  small = λ k d h.
-      let p : Piece = get_or pieces k d in
-      let some = are.some k d h in
-      let inside = are.inside k d h in
-      record { some = some; place = omega (arith, inside, few); from = small_source blocks few p some p.from (are.sources k d h); owner = small_owner blocks few p some p.owner (are.owners k d h) };
-  ascending = are.ascending;
-}
 
 -- ---- what was prepared
 

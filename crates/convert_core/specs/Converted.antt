@@ -7,8 +7,7 @@ use Rattle.reiser_volume.specs.vol_block.declared.format.Format.TheVariants.{Btr
 use Rattle.reiser_volume.specs.vol_block.declared.ids.Ids.{Ids}
 use Rattle.convert_steps.specs.btr_super.Super.{super_bytes}
 use Rattle.convert_steps.specs.Making.{IsMaking, Making, label_by, label_field, new_ids}
-use Rattle.convert_steps.specs.Standing.{HasTrees, used_bytes}
-use Rattle.convert_steps.specs.declared.trees.VolumeTrees.{VolumeTrees}
+use Rattle.convert_steps.specs.Standing.{TreeRoots, TreesStand, roots_told}
 use Rattle.convert_steps.specs.Moved.{HoldMoved}
 use Rattle.convert_steps.specs.Superblock.{new_super}
 use Rattle.convert_steps.specs.Switch.{HasCopies, IsMirrorOf}
@@ -82,22 +81,21 @@ abbrev pub IsTaken : Plan → ℕ → Type 0
 IsTaken plan b = is_chosen plan.system plan.metadata plan.data_ (b / 256) ≡ true
 
 -- the bytes of its superblock
-abbrev pub superblock_of : Making → VolumeTrees → List TreeNode → List ℕ
+abbrev pub superblock_of : Making → TreeRoots → List TreeNode → List ℕ
 superblock_of m r nodes =
     super_bytes
-    (new_super (new_ids m) m.volume.sup.blocks m.options.nodesize m.options.sums (label_field (label_by m.volume.sup m.options.label)) m.chunks
-    (record { chunk = r.chunk; root = r.root; used = used_bytes m nodes }))
+    (new_super (new_ids m) m.volume.sup.blocks m.options.nodesize m.options.sums (label_field (label_by m.volume.sup m.options.label)) m.chunks (roots_told m r nodes))
 
 -- Its trees stand, and each piece of data holds what it is to hold: blocks of the old volume, or bytes of direct items.
-pub record StandsConverted (image other : Image) (m : Making) (r : VolumeTrees) (nodes : List TreeNode) : Type 0 where
+pub record StandsConverted (image other : Image) (m : Making) (r : TreeRoots) (nodes : List TreeNode) : Type 0 where
   pub size : length other ≡ length image
   pub pieces : HoldMoved m.volume image other m.pieces
-  pub trees : HasTrees image other other m r nodes
+  pub trees : TreesStand image other other m r nodes
 
 -- All of it is written but the superblock: nothing differs outside the units that are taken.
 pub record IsPutDown (o : Options) (ids : Ids) (now : ℕ) (image other : Image) (w : Written) : Type 0 where
   pub m : Making
-  pub r : VolumeTrees
+  pub r : TreeRoots
   pub nodes : List TreeNode
   pub conversion : IsConversion o ids now image m
   pub stands : StandsConverted image other m r nodes
@@ -111,7 +109,7 @@ pub record IsPutDown (o : Options) (ids : Ids) (now : ℕ) (image other : Image)
   pub summary : IsSummary o image w.summary
 
 -- The new volume: block 16 is its superblock. The blocks of the superblock's copies may hold anything, where the volume has them.
-pub record IsNew (o : Options) (ids : Ids) (now : ℕ) (image other : Image) (m : Making) (r : VolumeTrees) (nodes : List TreeNode) : Type 0 where
+pub record IsNew (o : Options) (ids : Ids) (now : ℕ) (image other : Image) (m : Making) (r : TreeRoots) (nodes : List TreeNode) : Type 0 where
   pub conversion : IsConversion o ids now image m
   pub stands : StandsConverted image other m r nodes
   pub superblock : block_at other SUPER_BLOCK ≡ superblock_of m r nodes
@@ -122,7 +120,7 @@ pub record IsNew (o : Options) (ids : Ids) (now : ℕ) (image other : Image) (m 
 -- The volume is converted: the copies of the superblock stand too.
 pub record IsConverted (o : Options) (ids : Ids) (now : ℕ) (image other : Image) : Type 0 where
   pub m : Making
-  pub r : VolumeTrees
+  pub r : TreeRoots
   pub nodes : List TreeNode
   pub new : IsNew o ids now image other m r nodes
   pub copies : HasCopies (superblock_of m r nodes) m.volume.sup.blocks other
@@ -131,7 +129,7 @@ pub record IsConverted (o : Options) (ids : Ids) (now : ℕ) (image other : Imag
 
 -- the new volume, with any of its copies
 abbrev pub IsSomeNew : Options → Ids → ℕ → Image → Image → Type 0
-IsSomeNew o ids now image other = (m : Making) × (r : VolumeTrees) × (nodes : List TreeNode) × IsNew o ids now image other m r nodes
+IsSomeNew o ids now image other = (m : Making) × (r : TreeRoots) × (nodes : List TreeNode) × IsNew o ids now image other m r nodes
 
 -- The disk as it was; or, of a volume that can be converted, the old volume, of which block 16 may be half turned, or the new one.
 abbrev pub IsEither : Options → Ids → ℕ → Image → Image → Type 0

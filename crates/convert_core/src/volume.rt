@@ -7,7 +7,7 @@ ghost use Rattle.reiser_volume.specs.outside.History.{Image, IsSettled, OverTold
 ghost use Rattle.convert_steps.specs.btr_super.Super.{super_bytes};
 ghost use Rattle.unit_plan.specs.btr_tree.Writing.{IsInSlots};
 ghost use Rattle.convert_steps.specs.Making.{IsMaking, Making as MakingOf};
-ghost use Rattle.convert_steps.specs.Standing.{AllFit, HasTrees, IsFor, SameVolume, used_bytes};
+ghost use Rattle.convert_steps.specs.Standing.{AllFit, IsFor, SameVolume, TreeRoots, TreesStand, roots_told};
 ghost use Rattle.convert_steps.specs.Prepared.{HasPlanFor, IsPrepareAnswer, IsPrepared, RefusesConversion};
 ghost use Rattle.convert_steps.specs.Superblock.{new_super};
 ghost use Rattle.convert_steps.specs.space_items.Laws.{AreIds};
@@ -24,7 +24,7 @@ use crate::copied::superblock_copy;
 use crate::summary::{ConvertSummary, summary_of};
 use crate::whole::is_whole;
 use convert_options::Options;
-use convert_steps::{Answer, NewRoots, Prepared, VolumeTrees, prepare, superblock, write_moved};
+use convert_steps::{Answer, NewRoots, Prepared, prepare, superblock, write_moved};
 use convert_trees::write_trees;
 use convert_trees_laws::plans_suffice;
 use reiser_volume::{Access, Block, BlockNo, BlockSource, Cached, Disk, Ids, Room};
@@ -107,8 +107,8 @@ fn write_prepared<D: Disk>(
     plans_suffice();
     know_ids(prepared.ids);
     write_moved(disk, &prepared.volume, &prepared.pieces)?;
-    let trees = write_nodes(alloc, disk, prepared, now, options)?;
-    let superblock = superblock_of(alloc, prepared, options, &trees)?;
+    let roots = write_nodes(alloc, disk, prepared, now, options)?;
+    let superblock = superblock_of(alloc, prepared, options, &roots)?;
     disk.sync()?;
     Ok(Written {
         superblock,
@@ -132,7 +132,7 @@ fn write_nodes<D: Disk>(
     prepared: &Prepared,
     now: u64,
     options: &Options,
-) -> Result<VolumeTrees, Answer>
+) -> Result<NewRoots, Answer>
     requires open { D.opened disk.old ≡ Some Access.Write }
     requires size { IsNodeSize options.now.nodesize }
     requires moment { now < 2 ^ 63 }
@@ -145,7 +145,7 @@ fn write_nodes<D: Disk>(
         ⊎ IsInSlots options.now.nodesize (node_places options.now.nodesize prepared.now.plan.metadata) b) (D.history disk.old) (D.history disk.new) }
     ensures trees { OverTold D.tells (D.blocks disk.old) (λ other. (image : Image) (m : MakingOf) → IsMaking image m
         → IsFor m prepared.now.volume options.now prepared.now.ids now prepared.now.plan prepared.now.pieces.items.items → SameVolume image other → AllFit image other m
-        → MatchResult result (λ t. (nodes : List NodeOf) × HasTrees image other (reads (D.history disk.new)) m t nodes × (t.used ≡ used_bytes m nodes)) (λ e. (e ≡ Answer.Fault) ⊎ (e ≡ Answer.Memory))) }
+        → MatchResult result (λ t. (r : TreeRoots) × (nodes : List NodeOf) × TreesStand image other (reads (D.history disk.new)) m r nodes × (t ≡ roots_told m r nodes)) (λ e. (e ≡ Answer.Fault) ⊎ (e ≡ Answer.Memory))) }
     ensures cause { HasCauseOf Answer.Fault (D.faults disk.old) (D.faults disk.new) result }
     ensures answers { IfErr result IsPrepareAnswer }
 {
@@ -159,7 +159,7 @@ fn write_nodes<D: Disk>(
         &prepared.ids,
         now,
     ) {
-        Ok(trees) => Ok(trees),
+        Ok(roots) => Ok(roots),
         Err(answer) => Err(write_answer(answer, prepared.volume.sup().root)),
     }
 }
@@ -169,20 +169,15 @@ fn superblock_of(
     alloc: Global,
     prepared: &Prepared,
     options: &Options,
-    trees: &VolumeTrees,
+    roots: &NewRoots,
 ) -> Result<Block, Answer>
     requires plan { HasPlanFor prepared.now }
     requires whole { (device : ℕ) × IsWhole prepared.now device }
     ensures bytes { (chunks : List PlannedChunkOf) → AreChunks prepared.now.plan prepared.now.volume.sup.blocks chunks → IfOk result (λ block. block.bytes
-        ≡ super_bytes (new_super prepared.now.ids prepared.now.volume.sup.blocks options.now.nodesize options.now.sums prepared.now.label chunks (record { chunk = trees.now.chunk; root = trees.now.root; used = trees.now.used }))) }
+        ≡ super_bytes (new_super prepared.now.ids prepared.now.volume.sup.blocks options.now.nodesize options.now.sums prepared.now.label chunks roots.now)) }
     ensures answers { IfErr result (λ e. e ≡ Answer.Memory) }
 {
     know_ids(prepared.ids);
-    let roots = NewRoots {
-        chunk: trees.chunk,
-        root: trees.root,
-        used: trees.used,
-    };
     Ok(superblock(
         alloc,
         &prepared.plan,
@@ -190,6 +185,6 @@ fn superblock_of(
         &prepared.ids,
         prepared.label,
         options,
-        &roots,
+        roots,
     )?)
 }

@@ -37,7 +37,7 @@ pub use Rattle.btr_reader.proofs.btr_space_items.Records.{block_groups_read_back
 pub use Rattle.btr_reader.proofs.btr_super.SumNumbers.{known-number, number-small}
 pub use Rattle.btr_reader.specs.Apart.{AreExtentsApart, AreNodesApart, IsApart, IsContentApart, IsSpareFree, IsVolumeApart, boot_map, is_spare, is_spare_in, root_of, saved_tree}
 pub use Rattle.btr_reader.specs.Chunks.{beside_refusals, chunk_in, chunk_item_refusals, chunk_refusals, chunks_refusals, data_kind, is_read_kind, items_refusals, lies_on, new_chunk, overlap, range_of, same_body, same_chunk, same_mirror, same_stripe, stripes_of, system_kind, with_chunk, with_items}
-pub use Rattle.btr_reader.specs.Image.{ImageFile, after_pointer, after_root, block_by_extent, content_block, entry_named, entry_refusals, file_if_image, file_refusals, if_there, image_at, image_below, image_entry, image_in, image_place, image_refusals_in, index_refusals, index_refusals_at, inode_number, is_called, is_image, is_inline, is_root_directory, items_at, location_refusals, name_refusals, own_index_refusals, own_refusals, pointer_in, refusals_below, root_refusals, saved_image, saved_location, tree_number, twice_refusals}
+pub use Rattle.btr_reader.specs.Image.{ImageFile, after_pointer, after_root, block_by_extent, content_block, entry_named, entry_refusals, file_if_image, file_refusals, if_there, image_at, image_below, image_entry, image_from, image_in, image_place, image_refusals_in, index_refusals, index_refusals_at, inode_number, is_called, is_image, is_inline, is_root_directory, items_at, location_refusals, name_refusals, own_index_refusals, own_refusals, pointer_in, refusals_below, root_refusals, saved_image, saved_location, twice_refusals}
 pub use Rattle.btr_reader.specs.Laws.{BtrfsRowsAreOne, FitsArray, array_entry}
 pub use Rattle.btr_reader.specs.Opening.{IsBtrfsOpened, boot_chunks, boot_list, boot_refusals, chunk_map, chunk_tree, form_of, map_from, or_later, refusals_after, root_tree, super_on, tree_of, trees_refusals}
 unfoldable pub use Rattle.btr_reader.specs.Opening.{opening_refusals}
@@ -106,8 +106,9 @@ pub use Rattle.convert_core.proofs.Slots.{slot_unit}
 pub use Rattle.convert_core.proofs.Wholeness.{are_pieces, blocks_few, blocks_inside, blocks_some}
 pub use Rattle.convert_core.proofs.btr_item_list.Sorting.{ascending_all, ascending_filter, ascending_sorted}
 pub use Rattle.convert_core.proofs.btr_tree.Maps.{agree}
+pub use Rattle.convert_core.proofs.convert_steps.Row.{StandsAt, all-with_all, behind_least, each_stands, every_tree, in-with_all, number_test, numbers_ascend, pairs_of, sum-with_all}
 pub use Rattle.convert_core.proofs.extent_pieces.Covering.{IsCopied, holds_copied, is_copied_piece, pieces_cover_used, used_inside}
-pub use Rattle.convert_core.proofs.extent_pieces.Lists.{all_at, any_from, pairs_append, pairs_head, pairs_map, pairs_tail}
+pub use Rattle.convert_core.proofs.extent_pieces.Lists.{all_at, all_map, any_from, pairs_append, pairs_head, pairs_map, pairs_tail}
 pub use Rattle.convert_core.proofs.extent_pieces.Maximal.{kept_are_maximal}
 pub use Rattle.convert_core.proofs.extent_pieces.Named.{numbered}
 pub use Rattle.convert_core.proofs.extent_pieces.Once.{inodes_apart, kind_there, stat_there}
@@ -136,11 +137,12 @@ pub use Rattle.convert_core.specs.btr_tree.declared.climb.Root.{Root}
 pub use Rattle.convert_core.specs.btr_tree_writer.Trees.{TreeStands, pointer_to_root}
 pub use Rattle.convert_core.specs.convert_options.declared.options.Options.{Options}
 pub use Rattle.convert_core.specs.convert_steps.Making.{IsMaking, Making, chunk_slots, fsid_by, label_by, label_field, new_ids, saved_index, slots}
+pub use Rattle.convert_core.specs.convert_steps.Row.{StandBehind, nodes_behind, slot_behind}
 pub use Rattle.convert_core.specs.convert_steps.Source.{ComesFrom, HasExtents, HasPieces, HoldFiles, in_piece, made_from}
-pub use Rattle.convert_core.specs.convert_steps.Standing.{HasTrees, device_from, extents_from, file_tree_items, form, image_from, image_tree_items, nodes_from, nodes_of_others, relocation_from, root_from, root_tree_items, rooted_trees, sum_tree_items, sums_from, used_bytes}
+pub use Rattle.convert_core.specs.convert_steps.Standing.{NamedTree, TreeRoots, TreesStand, extents_from, file_tree_items, form, image_tree_items, named, named_extents, named_in, named_trees, nodes_from, nodes_of_others, placed_in, placed_trees, root_from, root_tree_items, rooted_trees, sum_tree_items, used_bytes}
 pub use Rattle.convert_core.specs.convert_steps.Superblock.{boot_bytes, features, is_system_role, record_bytes}
 unfoldable pub use Rattle.convert_core.specs.convert_steps.Superblock.{new_super}
-pub use Rattle.convert_core.specs.convert_steps.declared.trees.VolumeTrees.{VolumeTrees}
+pub use Rattle.convert_core.specs.convert_steps.declared.trees.PlacedTree.{PlacedTree}
 pub use Rattle.convert_core.specs.extent_pieces.Files.{FileAt, file_at, owner, tails}
 pub use Rattle.convert_core.specs.extent_pieces.Found.{files_of}
 pub use Rattle.convert_core.specs.extent_pieces.Laws.{AreSortedKeys, CoverUsed, HasPlan, HoldsBlock, IsKeptPiece, LieWell, LiesInUnit}
@@ -169,11 +171,14 @@ pub use Rattle.convert_core.specs.unit_plan.Laws.{IsSoundPlan}
 pub use Rattle.convert_core.specs.unit_plan.Needed.{need, nodes_in_unit}
 pub use Rattle.convert_core.specs.unit_plan.Places.{places_in}
 unfoldable pub use Rattle.convert_core.specs.unit_plan.Places.{node_places}
+pub use Rattle.convert_core.specs.unit_plan.Trees.{new_trees, tree_number}
 pub use Rattle.convert_core.specs.unit_plan.declared.chunk.PlannedChunk.{PlannedChunk}
 pub use Rattle.convert_core.specs.unit_plan.declared.chunk.Role.{Role}
 pub use Rattle.convert_core.specs.unit_plan.declared.chunk.Role.TheVariants.{Data, Metadata, System}
 pub use Rattle.convert_core.specs.unit_plan.declared.piece.Piece.{Piece}
 pub use Rattle.convert_core.specs.unit_plan.declared.plan.Plan.{Plan}
+pub use Rattle.convert_core.specs.unit_plan.declared.tree.NewTree.{NewTree}
+pub use Rattle.convert_core.specs.unit_plan.declared.tree.NewTree.TheVariants.{Checksums, Devices, Files, Relocation, SavedImage}
 pub use Rattle.convert_core_laws.specs.Converted.{ConvertedFilesAreRead, ReadsFiles}
 pub use Rattle.convert_core_laws.specs.Kept.{BytesAreKept, MapsPieces, PiecesStand}
 pub use Rattle.convert_core_laws.specs.Mapped.{AreRangesOf, ChunksMapPieces, identity_range}
@@ -186,7 +191,7 @@ pub use Rattle.convert_core_laws.specs.reading.Laws.{ChunksMap, ConvertedIsReada
 pub use Rattle.convert_core_laws.specs.reading.Opened.{AreRangesFor, GivesItsOwn, IsNewVolume, ReadsTree, ReadsTrees, boot_part, chunk_at, map_for, other_part, range_for, super_for}
 pub use Rattle.convert_core_laws.specs.reading.Saved.{HasSavedImage, IsImageOf, KeepsFileNames, ReadsSavedImage, SavedImageIsReadable, SavedImageReads}
 pub use Rattle.convert_core_laws.specs.soundness.Laws.{ConvertedBlockGroupsAreSound, ConvertedChecksumsAreSound, ConvertedChunksAreSound, ConvertedFileExtentsAreSound, ConvertedInodesAreSound, ConvertedNamesAreSound, ConvertedPlacementIsSound, ConvertedReferencesAreSound, ConvertedReservedAreSound, ConvertedTotalsAreSound, ConvertedTreesAreSound}
-pub use Rattle.convert_core_laws.specs.soundness.Recounted.{recount_for, tree_for, trees_for}
+pub use Rattle.convert_core_laws.specs.soundness.Recounted.{named_on, recount_for, tree_for, trees_for}
 pub use Rattle.convert_trees_laws.proofs.Booting.{blocks_are, boot_fits, chunks_of, used_few}
 pub use Rattle.convert_trees_laws.proofs.Keys.{file_keys_ascend, inodes_climb, root_first}
 pub use Rattle.convert_trees_laws.proofs.Known.{directories_apart, directory_there, is_directory_there, kind_is, links_short, names_apart, root_known, tree_kind_is}

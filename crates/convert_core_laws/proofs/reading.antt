@@ -1,6 +1,7 @@
 pub mod Chunks
 pub mod Identifiers
 pub mod Mapped
+pub mod Named
 pub mod Numbers
 pub mod Opening
 pub mod Places

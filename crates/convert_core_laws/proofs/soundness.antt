@@ -1,4 +1,5 @@
 pub mod AllUses
+pub mod Among
 pub mod Apart
 mod Assembling
 pub mod BlockGroups
@@ -16,6 +17,7 @@ mod HavingNames
 pub mod InMerged
 mod Inodes
 mod Keyed
+mod Listed
 pub mod Lists
 mod NameLists
 mod Names

@@ -10,8 +10,7 @@ use Rattle.btr_reader.specs.btr_reader_walk.Tree.{bare_item}
 use Rattle.btr_reader.specs.btr_reader_walk.declared.map.MapRange.{MapRange}
 use Rattle.convert_core.specs.convert_steps.Making.{IsMaking, Making}
 use Rattle.convert_core.specs.convert_steps.Source.{made_from}
-use Rattle.convert_core.specs.convert_steps.Standing.{file_tree_items}
-use Rattle.convert_core.specs.convert_steps.declared.trees.VolumeTrees.{VolumeTrees}
+use Rattle.convert_core.specs.convert_steps.Standing.{TreeRoots, file_tree_items}
 use Rattle.convert_core.specs.Converted.{StandsConverted}
 use Rattle.convert_core.specs.file_items.Tree.{Source, kind_in}
 use Rattle.reiser_volume.specs.fs_rows.Kinds.{has_bytes}
@@ -34,6 +33,6 @@ pub record ReadsFiles (image other : Image) (m : Making) (ranges : List MapRange
 -- named file and symlink as it was.
 abbrev pub ConvertedFilesAreRead : Type 0
 ConvertedFilesAreRead =
-    (image other : Image) (m : Making) (r : VolumeTrees) (nodes : List TreeNode) (ranges : List MapRange) (items : List TreeItem)
+    (image other : Image) (m : Making) (r : TreeRoots) (nodes : List TreeNode) (ranges : List MapRange) (items : List TreeItem)
     → IsMaking image m → StandsConverted image other m r nodes → AreRangesOf m.chunks ranges → map bare_item items ≡ file_tree_items image m
     → ReadsFiles image other m ranges items

@@ -3,7 +3,7 @@
 use Rattle.std.specs.Prelude.{ℕ, Bool, true, false, not, ◌&&◌, List, [], ◌∷◌, codes, bytes_eq, Option, Some, None, option_map, option_and_then, if◌then◌else◌}
 use Rattle.std.specs.List.{list_any}
 use Rattle.btr_node.specs.NodeSize.{IsNodeSize}
-use Rattle.btr_node.specs.csum_kinds.declared.kind.SumKind.TheVariants.{Crc32c}
+use Rattle.btr_node.specs.csum_kinds.declared.kind.SumKind.TheVariants.{Crc32c, Sha256}
 use Rattle.convert_options.specs.Identifier.{is_nil}
 use Rattle.convert_options.specs.Label.{is_label}
 use Rattle.convert_options.specs.declared.options.LabelChoice.TheVariants as labels
@@ -11,7 +11,7 @@ use Rattle.convert_options.specs.declared.options.Options.{Options}
 use Rattle.convert_options.specs.declared.options.UuidChoice.TheVariants as uuids
 use Rattle.uuid.specs.Text.{parsed_hyphenated}
 use Rattle.convert_options.specs.declared.setting.Setting.{Setting}
-use Rattle.convert_options.specs.declared.setting.Setting.TheVariants.{Nodesize, NoInline, NoDatasum, Label, Uuid}
+use Rattle.convert_options.specs.declared.setting.Setting.TheVariants.{Nodesize, NoInline, NoDatasum, Label, Uuid, Csum}
 
 -- ---- one setting
 
@@ -30,6 +30,12 @@ nodesize_of value =
     else (if bytes_eq value (codes "16384") then Some (Nodesize 16384)
     else (if bytes_eq value (codes "32768") then Some (Nodesize 32768)
     else (if bytes_eq value (codes "65536") then Some (Nodesize 65536) else None))))
+
+-- the kinds of checksum, by the names that the tools of Btrfs give them
+abbrev pub csum_of : List ℕ → Option Setting
+csum_of value =
+    if bytes_eq value (codes "crc32c") then Some (Csum Crc32c)
+    else (if bytes_eq value (codes "sha256") then Some (Csum Sha256) else None)
 
 -- any text that a label may be
 abbrev pub label_of : List ℕ → Option Setting
@@ -53,7 +59,8 @@ abbrev pub valued : List ℕ → List ℕ → Option Setting
 valued word value =
     if bytes_eq word (codes "--nodesize") then nodesize_of value
     else (if bytes_eq word (codes "--label") then label_of value
-    else (if bytes_eq word (codes "--uuid") then uuid_of value else None))
+    else (if bytes_eq word (codes "--uuid") then uuid_of value
+    else (if bytes_eq word (codes "--csum") then csum_of value else None)))
 
 -- ---- the settings of words
 
@@ -76,6 +83,7 @@ same_kind NoInline NoInline = true
 same_kind NoDatasum NoDatasum = true
 same_kind (Label l) (Label m) = true
 same_kind (Uuid u) (Uuid v) = true
+same_kind (Csum k) (Csum l) = true
 same_kind s t = false
 
 -- no two of them set the same
@@ -89,6 +97,7 @@ with_setting o NoInline = record o { inline = false }
 with_setting o NoDatasum = record o { datasum = false }
 with_setting o (Label l) = record o { label = l }
 with_setting o (Uuid u) = record o { uuid = u }
+with_setting o (Csum k) = record o { sums = k }
 
 abbrev pub with_settings : Options → List Setting → Options
 with_settings o [] = o
@@ -112,3 +121,4 @@ HasNodeSize NoInline = Unit {0}
 HasNodeSize NoDatasum = Unit {0}
 HasNodeSize (Label l) = Unit {0}
 HasNodeSize (Uuid u) = Unit {0}
+HasNodeSize (Csum k) = Unit {0}

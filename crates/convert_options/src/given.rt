@@ -11,6 +11,7 @@ pub struct Given {
     pub datasum: bool,
     pub label: bool,
     pub uuid: bool,
+    pub csum: bool,
 }
 
 impl Given {
@@ -24,6 +25,7 @@ impl Given {
             datasum: false,
             label: false,
             uuid: false,
+            csum: false,
         }
     }
 
@@ -37,6 +39,7 @@ impl Given {
             Setting::NoDatasum => self.datasum,
             Setting::Label(_) => self.label,
             Setting::Uuid(_) => self.uuid,
+            Setting::Csum(_) => self.csum,
         }
     }
 
@@ -50,6 +53,7 @@ impl Given {
             Setting::NoDatasum => self.datasum = true,
             Setting::Label(_) => self.label = true,
             Setting::Uuid(_) => self.uuid = true,
+            Setting::Csum(_) => self.csum = true,
         }
     }
 }

@@ -17,6 +17,7 @@ use crate::{Options, Setting};
 /// | `--label TEXT` | the label: at most 255 bytes, none of them zero or a line feed |
 /// | `--copy-label` | that the volume keeps its label; not beside `--label` |
 /// | `--uuid SPEC` | the identifier: `new`, `copy` for that of the volume, or one in the form of 36 bytes with hyphens that is not nil |
+/// | `--csum NAME` | the kind of all checksums: `crc32c` or `sha256` |
 ///
 /// Without words it is [`Options::plain`].
 pub fn read_options(words: &[String]) -> Option<Options>

@@ -2,6 +2,7 @@ ghost use Rattle.std.specs.Prelude.{◌≡◌};
 ghost use Rattle.convert_options.specs.Settings.{with_setting};
 
 use crate::{LabelChoice, Options, UuidChoice};
+use btr_node::SumKind;
 
 /// What one option of the command line sets.
 #[derive(Drop, Debug, PartialEq)]
@@ -16,6 +17,8 @@ pub enum Setting {
     Label(LabelChoice),
     /// The identifier of the file system.
     Uuid(UuidChoice),
+    /// The kind of all checksums.
+    Csum(SumKind),
 }
 
 impl Setting {
@@ -29,6 +32,7 @@ impl Setting {
             Setting::NoDatasum => options.datasum = false,
             Setting::Label(label) => options.label = label,
             Setting::Uuid(uuid) => options.uuid = uuid,
+            Setting::Csum(kind) => options.sums = kind,
         }
     }
 }

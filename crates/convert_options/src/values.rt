@@ -1,7 +1,8 @@
 ghost use Rattle.std.specs.Prelude.{◌≡◌, IfSome};
-ghost use Rattle.convert_options.specs.Settings.{alone, valued, nodesize_of, label_of, uuid_of, given_uuid, given_by, HasNodeSize};
+ghost use Rattle.convert_options.specs.Settings.{alone, valued, nodesize_of, label_of, uuid_of, csum_of, given_uuid, given_by, HasNodeSize};
 
 use crate::{Label, LabelChoice, Setting, UuidChoice, is_nil};
+use btr_node::SumKind;
 use uuid::Uuid;
 
 /// The setting that a word makes without another.
@@ -26,6 +27,7 @@ pub fn valued(word: &str, value: &str) -> Option<Setting>
         "--nodesize" => nodesize_of(value),
         "--label" => label_of(value),
         "--uuid" => uuid_of(value),
+        "--csum" => csum_of(value),
         _ => None,
     }
 }
@@ -41,6 +43,18 @@ fn nodesize_of(value: &str) -> Option<Setting>
         "16384" => Some(Setting::Nodesize(16384)),
         "32768" => Some(Setting::Nodesize(32768)),
         "65536" => Some(Setting::Nodesize(65536)),
+        _ => None,
+    }
+}
+
+/// The two kinds of checksum, by the names that the tools of Btrfs give them.
+fn csum_of(value: &str) -> Option<Setting>
+    ensures set { result ≡ csum_of value.now }
+    ensures size { IfSome result HasNodeSize }
+{
+    match value {
+        "crc32c" => Some(Setting::Csum(SumKind::Crc32c)),
+        "sha256" => Some(Setting::Csum(SumKind::Sha256)),
         _ => None,
     }
 }

@@ -3,6 +3,7 @@ use convert_options::{
     AskedOptions, Label, LabelChoice, Options, UuidChoice, read_convert_options,
     read_inspect_options, read_options,
 };
+use csum_kinds::SumKind;
 use outside::Memory;
 use std::alloc::Global;
 use std::process::Abort;
@@ -56,6 +57,10 @@ fn words_that_are_no_options(rt: HostRuntime) -> Result<(), Fail> {
         &["--uuid", "00112233445566778899aabbccddeeff"],
         &["--uuid", "00112233-4455-6677-8899-aabbccddeefg"],
         &["--uuid", "new", "--uuid", "copy"],
+        &["--csum"],
+        &["--csum", "xxhash"],
+        &["--csum", "SHA256"],
+        &["--csum", "crc32c", "--csum", "sha256"],
         &["--no-inline", "x"],
     ] {
         refused(&rt, words)?;
@@ -88,6 +93,17 @@ fn words_that_are_options(rt: HostRuntime) -> Result<(), Fail> {
             ..Options::plain()
         },
     )?;
+    for (name, sums) in [("crc32c", SumKind::Crc32c), ("sha256", SumKind::Sha256)] {
+        reads(
+            &rt,
+            &["--csum", name, "--no-inline"],
+            Options {
+                inline: false,
+                sums,
+                ..Options::plain()
+            },
+        )?;
+    }
     let Some(label) = Label::new(b"--no-inline") else {
         return Ok(());
     };
@@ -123,16 +139,26 @@ fn inspect_has_the_options_that_change_the_space(rt: HostRuntime) -> Result<(), 
         &["--no-inline", "--no-inline"],
         &["--verbose", "--verbose"],
         &["--nodesize", "--verbose", "4096"],
+        &["--csum", "--verbose", "sha256"],
+        &["--csum", "xxhash"],
     ] {
         inspect_reads(&rt, words, None)?;
     }
     inspect_reads(
         &rt,
-        &["--nodesize", "4096", "--verbose", "--no-inline"],
+        &[
+            "--nodesize",
+            "4096",
+            "--verbose",
+            "--csum",
+            "sha256",
+            "--no-inline",
+        ],
         Some(AskedOptions {
             options: Options {
                 nodesize: 4096,
                 inline: false,
+                sums: SumKind::Sha256,
                 ..Options::plain()
             },
             verbose: true,

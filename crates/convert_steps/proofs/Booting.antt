@@ -1,8 +1,6 @@
 -- The bootstrap array, one chunk after the other.
-use Rattle.convert_steps.proofs.Imports.{◌≡◌, ℕ, suc, ◌+◌, ◌-◌, ◌≤◌, Bool, true, false, cond, List, [], ◌∷◌, ◌++◌, length, take, drop, replicate, filter, Some, refl, sym, ◌∙◌, ap, arith, append_assoc, length-append, take-suc, slice_get, append-nil, length-replicate, replicate-append-replicate, take-append-drop, take_all, slice_get_within, get_or_from_slice_get, chunk_bytes, chunk_layout, chunk_body, chunk_item, PlannedChunk, Ids, boot_bytes, is_system_role, record_bytes}
-use Rattle.std.specs.List.{flat_map}
+use Rattle.convert_steps.proofs.Imports.{◌≡◌, ℕ, suc, ◌+◌, ◌-◌, ◌≤◌, Bool, true, false, cond, List, [], ◌∷◌, ◌++◌, length, take, drop, replicate, filter, Some, refl, sym, ◌∙◌, ap, arith, append_assoc, length-append, take-suc, slice_get, append-nil, length-replicate, replicate-append-replicate, take-append-drop, take_all, slice_get_within, get_or_from_slice_get, chunk_bytes, chunk_layout, chunk_body, chunk_item, PlannedChunk, Ids, boot_bytes, is_system_role, record_bytes, flat_map, filter-append}
 use Rattle.std.proofs.lemmas.Grind.{flat_map-append}
-use Rattle.std.proofs.lemmas.List.Elements.{filter-append}
 use Rattle.btr_tree.specs.btr_keys.Key.{key_bytes, key_layout}
 use Rattle.btr_tree.specs.btr_keys.declared.key.Key.{Key}
 use Rattle.btr_tree.proofs.btr_node.Putting.{put_is}

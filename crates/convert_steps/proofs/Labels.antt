@@ -1,7 +1,6 @@
 -- The bytes before the first zero.
-use Rattle.convert_steps.proofs.Imports.{◌≡◌, ◌≢◌, ℕ, suc, ◌+◌, ◌-◌, ◌≤◌, ◌<◌, Bool, true, not, cond, List, [], ◌∷◌, ◌++◌, length, take, drop, get_or, replicate, sym, ◌∙◌, ap, arith, append_assoc, take-suc, min, ⊎_elim, ◌==◌, cases_lt, ne_eqb, append-nil, drop_more, drop_all, drop-replicate, take_all, take-append-le, take-replicate, before_zero, label_field}
+use Rattle.convert_steps.proofs.Imports.{◌≡◌, ◌≢◌, ℕ, suc, ◌+◌, ◌-◌, ◌≤◌, ◌<◌, Bool, true, not, cond, List, [], ◌∷◌, ◌++◌, length, take, drop, get_or, replicate, sym, ◌∙◌, ap, arith, append_assoc, take-suc, min, ⊎_elim, ◌==◌, cases_lt, ne_eqb, append-nil, drop_more, drop_all, drop-replicate, take_all, take-append-le, take-replicate, before_zero, label_field, take_while-cons}
 use Rattle.std.proofs.Math.Seq.{take-append-add}
-use Rattle.std.proofs.lemmas.List.Sums.{take_while-cons}
 
 -- the bytes so far are none of them zero, and the rest may be
 abbrev pub Goes : ℕ → List ℕ → Type 0

@@ -21,4 +21,5 @@ pub mod NewSuper
 pub mod Phases
 mod Placed
 pub mod Preparing
+pub mod Row
 pub mod Turning

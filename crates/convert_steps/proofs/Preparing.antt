@@ -1,5 +1,5 @@
 -- What is decided before the first write.
-use Rattle.convert_steps.proofs.Imports.{◌≡◌, ℕ, Bool, List, Result, Err, sym, ap, subst, ◌∙◌, arith, keys, IsFaultOrMemory, Image, VolAnswer, IsOpened, links_in, IsAccepted, used_of, Volume, HasEnoughSpace, IsAnswer, IsPlan, TellsSpace, AreSmall, need as need_of, Counts, IsPrepareAnswer, RefusesConversion, by_plan}
+use Rattle.convert_steps.proofs.Imports.{◌≡◌, ℕ, Bool, List, Result, Err, sym, ap, subst, ◌∙◌, arith, keys, IsFaultOrMemory, Image, VolAnswer, IsOpened, links_in, IsAccepted, used_of, Volume, HasEnoughSpace, IsAnswer, IsPlan, TellsSpace, AreSmall, need as need_of, Counts, IsPrepareAnswer, RefusesConversion, by_plan, Options}
 use Rattle.command_answers.specs.outside.Fault.{HasCauseOf}
 use Rattle.command_answers.specs.Answers.{of_volume}
 use Rattle.command_answers.specs.declared.answer.Answer.{Answer}
@@ -10,7 +10,6 @@ use Rattle.extent_pieces.specs.declared.pieces.Pieces.{Pieces}
 use Rattle.extent_pieces.proofs.Fitting.{counted_pieces_fit}
 use Rattle.reiser_volume.specs.Answers.{RefusesVolume}
 use Rattle.unit_plan.specs.declared.need.Need.{Need}
-use Rattle.convert_options.specs.declared.options.Options.{Options}
 use Rattle.unit_plan.specs.declared.plan.Plan.{Plan}
 use Rattle.unit_plan.specs.declared.plan.PlanAnswer.{PlanAnswer}
 use Rattle.command_answers.specs.declared.answer.Answer.TheVariants as answer

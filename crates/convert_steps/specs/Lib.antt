@@ -23,6 +23,7 @@ pub mod Found
 pub mod Making
 pub mod Moved
 pub mod Prepared
+pub mod Row
 pub mod Source
 pub mod Standing
 pub mod Superblock

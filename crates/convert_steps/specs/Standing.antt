@@ -1,7 +1,7 @@
 -- The trees of a converted volume.
-use Rattle.std.specs.Prelude.{◌≡◌, ◌≤◌, ℕ, ◌+◌, ◌*◌, ◌-◌, ◌^◌, List, [], ◌∷◌, ◌++◌, length, drop, take, if◌then◌else◌}
+use Rattle.std.specs.Prelude.{◌≡◌, ◌≤◌, ℕ, ◌+◌, ◌*◌, List, [], ◌∷◌, ◌++◌, All, length, drop, map, take, if◌then◌else◌}
 use Rattle.std.specs.List.{sum_by}
-use Rattle.btrfs_format.specs.declared.object.TheConstants.{CHUNK_TREE, CONV_IMAGE_SUBVOL, CSUM_TREE, DATA_RELOC_TREE, DEV_TREE, EXTENT_TREE, FS_TREE, ROOT_TREE}
+use Rattle.btrfs_format.specs.declared.object.TheConstants.{CHUNK_TREE, EXTENT_TREE, ROOT_TREE}
 use Rattle.command_answers.specs.outside.History.{Image}
 use Rattle.btr_tree.specs.btr_node.Leaf.{Item}
 use Rattle.btr_tree.specs.Counting.{node_bound, tree_nodes}
@@ -25,10 +25,16 @@ use Rattle.reiser_volume.specs.Volume.{used_of}
 use Rattle.reiser_volume.specs.declared.volume.Volume.{Volume}
 use Rattle.btr_tree_writer.specs.Trees.{TreeStands}
 use Rattle.convert_options.specs.declared.options.Options.{Options}
+use Rattle.unit_plan.specs.declared.chunk.PlannedChunk.{PlannedChunk}
 use Rattle.unit_plan.specs.declared.piece.Piece.{Piece}
 use Rattle.unit_plan.specs.declared.plan.Plan.{Plan}
 use Rattle.command_answers.specs.vol_block.declared.ids.Ids.{Ids}
-use Rattle.convert_steps.specs.declared.trees.VolumeTrees.{VolumeTrees}
+use Rattle.unit_plan.specs.Trees.{new_trees, tree_number}
+use Rattle.unit_plan.specs.declared.tree.NewTree.{NewTree}
+use Rattle.unit_plan.specs.declared.tree.NewTree.TheVariants.{Files, SavedImage, Relocation, Checksums, Devices}
+use Rattle.convert_steps.specs.declared.fields.NewRoots.{NewRoots}
+use Rattle.convert_steps.specs.declared.trees.PlacedTree.{PlacedTree}
+use Rattle.convert_steps.specs.Row.{StandBehind, nodes_behind, slot_behind, with_all}
 use Rattle.convert_steps.specs.Making.{Making, new_ids, chunk_slots, slots, saved_index}
 
 -- a conversion of these arguments
@@ -45,78 +51,116 @@ pub record SameVolume (image other : Image) : Type 0 where
   pub as_many : length other ≡ length image
   pub used : SameUsed (used_of image) image other
 
--- the trees that have a root item, by their numbers
-abbrev pub rooted_trees : VolumeTrees → List TreeRoot
-rooted_trees r =
-    record { tree = EXTENT_TREE; root = r.extents } ∷ (record { tree = DEV_TREE; root = r.device } ∷ (record { tree = FS_TREE; root = r.files } ∷ (record { tree = CSUM_TREE; root = r.sums }
-    ∷ (record { tree = CONV_IMAGE_SUBVOL; root = r.image } ∷ (record { tree = DATA_RELOC_TREE; root = r.relocation } ∷ [])))))
+-- Where the trees of a converted volume begin.
+pub record TreeRoots : Type 0 where
+  pub chunk : Root
+  -- those that are written first
+  pub tree : NewTree → Root
+  pub root : Root
+  pub extents : Root
 
--- The trees lie one behind the other: the first slot of each.
-abbrev pub image_from : VolumeTrees → ℕ
-image_from r = r.files.nodes
+-- a tree that is told to the root tree
+abbrev pub told_root : PlacedTree → TreeRoot
+told_root p = record { tree = tree_number p.tree; root = p.root }
 
-abbrev pub relocation_from : VolumeTrees → ℕ
-relocation_from r = image_from r + r.image.nodes
+-- those of a list, and the extent tree, by their numbers
+abbrev pub told_roots : List PlacedTree → Root → List TreeRoot
+told_roots placed extents = with_all (λ t. t.tree) (record { tree = EXTENT_TREE; root = extents } ∷ []) (map told_root placed)
 
-abbrev pub sums_from : VolumeTrees → ℕ
-sums_from r = relocation_from r + r.relocation.nodes
+-- the trees that are written first, in their order
+abbrev pub placed_in : TreeRoots → NewTree → PlacedTree
+placed_in r t = record { tree = t; root = r.tree t }
 
-abbrev pub device_from : VolumeTrees → ℕ
-device_from r = sums_from r + r.sums.nodes
+abbrev pub placed_trees : TreeRoots → List PlacedTree
+placed_trees r = map (placed_in r) new_trees
 
-abbrev pub root_from : VolumeTrees → ℕ
-root_from r = device_from r + r.device.nodes
+-- the trees that have a root item
+abbrev pub rooted_trees : TreeRoots → List TreeRoot
+rooted_trees r = told_roots (placed_trees r) r.extents
 
-abbrev pub extents_from : VolumeTrees → ℕ
+-- The trees lie one behind the other. Behind those that are written first the root tree begins, and then the extent tree.
+abbrev pub root_from : TreeRoots → ℕ
+root_from r = slot_behind 0 (placed_trees r)
+
+abbrev pub extents_from : TreeRoots → ℕ
 extents_from r = root_from r + r.root.nodes
 
--- the items of each tree
+-- The items of each tree, of a volume in one image, its pieces and chunks, and the blocks of another image. Where files have no
+-- checksums, the tree of checksums is empty.
+abbrev pub new_tree_items : Volume → Options → Ids → ℕ → List Piece → List PlannedChunk → Image → Image → NewTree → List Item
+new_tree_items volume o ids now pieces chunks image other Files = fs_tree_items (made_from volume image o pieces)
+new_tree_items volume o ids now pieces chunks image other SavedImage = image_items volume.sup.blocks pieces o.datasum now
+new_tree_items volume o ids now pieces chunks image other Relocation = relocation_items now
+new_tree_items volume o ids now pieces chunks image other Checksums = if o.datasum then sum_items o.sums other pieces else []
+new_tree_items volume o ids now pieces chunks image other Devices = device_items ids chunks
+
+-- those of a conversion
+abbrev pub items_of : Image → Image → Making → NewTree → List Item
+items_of image other m t = new_tree_items m.volume m.options (new_ids m) m.now m.pieces m.chunks image other t
+
 abbrev pub file_tree_items : Image → Making → List Item
 file_tree_items image m = fs_tree_items (made_from m.volume image m.options m.pieces)
 
 abbrev pub image_tree_items : Making → List Item
 image_tree_items m = image_items m.volume.sup.blocks m.pieces m.options.datasum m.now
 
--- Where files have no checksums, the tree of checksums is empty.
 abbrev pub sum_tree_items : Image → Making → List Item
 sum_tree_items other m = if m.options.datasum then sum_items m.options.sums other m.pieces else []
 
-abbrev pub root_tree_items : Making → VolumeTrees → List Item
+abbrev pub root_tree_items : Making → TreeRoots → List Item
 root_tree_items m r = root_items (rooted_trees r) (saved_index m) (new_ids m) m.now m.options.nodesize
 
 -- The nodes of all trees, ascending by address.
 abbrev pub nodes_from : Making → ℕ → ℕ → List Item → List TreeNode
 nodes_from m owner first items = nodes_of_tree owner m.options.nodesize (lengths_of items) (drop first (slots m))
 
-abbrev pub nodes_of_others : Image → Image → Making → VolumeTrees → List TreeNode
+abbrev pub nodes_of_others : Image → Image → Making → TreeRoots → List TreeNode
 nodes_of_others image other m r =
     merged_nodes
-    (nodes_from m FS_TREE 0 (file_tree_items image m) ++ (nodes_from m CONV_IMAGE_SUBVOL (image_from r) (image_tree_items m) ++ (nodes_from m DATA_RELOC_TREE (relocation_from r) (relocation_items m.now)
-    ++ (nodes_from m CSUM_TREE (sums_from r) (sum_tree_items other m) ++ (nodes_from m DEV_TREE (device_from r) (device_items (new_ids m) m.chunks) ++ nodes_from m ROOT_TREE (root_from r) (root_tree_items m r))))))
+    (nodes_behind m.options.nodesize (slots m) (items_of image other m) 0 (placed_trees r) ++ nodes_from m ROOT_TREE (root_from r) (root_tree_items m r))
     (nodes_of_tree CHUNK_TREE m.options.nodesize (lengths_of (chunk_items (new_ids m) m.volume.sup.blocks m.chunks)) (chunk_slots m))
 
 -- The extent tree tells of all nodes, its own among them. How many these are is a number that describes itself.
-pub record AreAllNodes (image other : Image) (m : Making) (r : VolumeTrees) (nodes : List TreeNode) : Type 0 where
+pub record AreAllNodes (image other : Image) (m : Making) (r : TreeRoots) (nodes : List TreeNode) : Type 0 where
   pub is : nodes ≡ merged_nodes (nodes_of_others image other m r) (nodes_from m EXTENT_TREE (extents_from r) (extent_items m.chunks m.pieces nodes m.options.nodesize))
 
 abbrev pub form : Making → Form
 form m = record { fsid = (new_ids m).fsid; nodesize = m.options.nodesize; sums = m.options.sums }
 
 -- The trees of the volume that stood in one image, with the checksums of another, stand on a third.
-pub record HasTrees (image other new : Image) (m : Making) (r : VolumeTrees) (nodes : List TreeNode) : Type 0 where
+pub record TreesStand (image other new : Image) (m : Making) (r : TreeRoots) (nodes : List TreeNode) : Type 0 where
   pub chunk : TreeStands new (form m) CHUNK_TREE (chunk_slots m) (chunk_items (new_ids m) m.volume.sup.blocks m.chunks) r.chunk
-  pub files : TreeStands new (form m) FS_TREE (slots m) (file_tree_items image m) r.files
-  pub image_ : TreeStands new (form m) CONV_IMAGE_SUBVOL (drop (image_from r) (slots m)) (image_tree_items m) r.image
-  pub relocation : TreeStands new (form m) DATA_RELOC_TREE (drop (relocation_from r) (slots m)) (relocation_items m.now) r.relocation
-  pub sums : TreeStands new (form m) CSUM_TREE (drop (sums_from r) (slots m)) (sum_tree_items other m) r.sums
-  pub device : TreeStands new (form m) DEV_TREE (drop (device_from r) (slots m)) (device_items (new_ids m) m.chunks) r.device
+  pub row : StandBehind new (form m) (slots m) (items_of image other m) 0 (placed_trees r)
   pub root : TreeStands new (form m) ROOT_TREE (take r.root.nodes (drop (root_from r) (slots m))) (root_tree_items m r) r.root
   pub nodes_are : AreAllNodes image other m r nodes
   pub extents : TreeStands new (form m) EXTENT_TREE (drop (extents_from r) (slots m)) (extent_items m.chunks m.pieces nodes m.options.nodesize) r.extents
 
+-- A tree that has a root item: its number, where it begins, and its items.
+pub record NamedTree : Type 0 where
+  pub number : ℕ
+  pub root : Root
+  pub items : List Item
+
+abbrev pub named : Image → Image → Making → PlacedTree → NamedTree
+named image other m p = record { number = tree_number p.tree; root = p.root; items = items_of image other m p.tree }
+
+abbrev pub named_in : Image → Image → Making → TreeRoots → NewTree → NamedTree
+named_in image other m r t = named image other m (placed_in r t)
+
+abbrev pub named_extents : Making → TreeRoots → List TreeNode → NamedTree
+named_extents m r nodes = record { number = EXTENT_TREE; root = r.extents; items = extent_items m.chunks m.pieces nodes m.options.nodesize }
+
+-- all of them, by their numbers
+abbrev pub named_trees : Image → Image → Making → TreeRoots → List TreeNode → List NamedTree
+named_trees image other m r nodes = with_all (λ t. t.number) (named_extents m r nodes ∷ []) (map (named image other m) (placed_trees r))
+
 -- the bytes of all extents
 abbrev pub used_bytes : Making → List TreeNode → ℕ
 used_bytes m nodes = sum_by (used_in m.pieces nodes m.options.nodesize) m.chunks
+
+-- what the superblock is told of the trees
+abbrev pub roots_told : Making → TreeRoots → List TreeNode → NewRoots
+roots_told m r nodes = record { chunk = r.chunk; root = r.root; used = used_bytes m nodes }
 
 -- how many nodes a tree of these items has
 abbrev pub nodes_for : Making → List Item → ℕ
@@ -124,10 +168,8 @@ nodes_for m items = tree_nodes m.options.nodesize (lengths_of items)
 
 -- The nodes of all trees but the extent tree, at the slots that are not the chunk tree's. Those of the root tree are as many
 -- whatever the roots are.
-abbrev pub other_count : Image → Image → Making → VolumeTrees → ℕ
-other_count image other m none =
-    nodes_for m (file_tree_items image m) + nodes_for m (image_tree_items m) + nodes_for m (relocation_items m.now) + nodes_for m (sum_tree_items other m)
-    + nodes_for m (device_items (new_ids m) m.chunks) + nodes_for m (root_tree_items m none)
+abbrev pub other_count : Image → Image → Making → TreeRoots → ℕ
+other_count image other m none = sum_by (λ t. nodes_for m (items_of image other m t)) new_trees + nodes_for m (root_tree_items m none)
 
 abbrev pub chunk_count : Making → ℕ
 chunk_count m = nodes_for m (chunk_items (new_ids m) m.volume.sup.blocks m.chunks)
@@ -135,29 +177,17 @@ chunk_count m = nodes_for m (chunk_items (new_ids m) m.volume.sup.blocks m.chunk
 abbrev pub no_root : Root
 no_root = record { address = 0; level = 0; nodes = 0 }
 
-abbrev pub no_trees : VolumeTrees
-no_trees = record {
-  chunk = no_root;
-  files = no_root;
-  image = no_root;
-  relocation = no_root;
-  sums = no_root;
-  device = no_root;
-  root = no_root;
-  extents = no_root;
-  used = 0;
-}
+abbrev pub no_trees : TreeRoots
+no_trees = record { chunk = no_root; tree = λ t. no_root; root = no_root; extents = no_root }
 
 -- a bound of the extent tree's own nodes
 abbrev pub own_count : Image → Image → Making → ℕ
 own_count image other m =
     2 * node_bound (extent_bytes (length m.pieces) (length m.chunks) (other_count image other m no_trees + chunk_count m)) m.options.nodesize + 16
 
--- The items of each tree are those of a tree, and the slots suffice: for the nodes of the six trees, and behind them for the
--- bound of the extent tree's.
+-- The items of each tree are those of a tree, and the slots suffice: for the nodes of all trees but the extent tree, and behind
+-- them for the bound of the extent tree's.
 pub record AllFit (image other : Image) (m : Making) : Type 0 where
-  pub files : FitLeaves (file_tree_items image m)
-  pub saved : FitLeaves (image_tree_items m)
-  pub relocation : FitLeaves (relocation_items m.now)
+  pub each : All (λ t. FitLeaves (items_of image other m t)) new_trees
   pub chunk_few : chunk_count m ≤ length (chunk_slots m)
   pub few : other_count image other m no_trees + own_count image other m ≤ length (slots m)

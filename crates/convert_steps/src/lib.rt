@@ -17,4 +17,4 @@ pub use form::{ids_of, label_of};
 pub use pieces::write_moved;
 pub use prepared::{Prepared, prepare};
 pub use switch::{mirror_places, switch_to};
-pub use trees::VolumeTrees;
+pub use trees::{PlacedTree, PlacedTrees};

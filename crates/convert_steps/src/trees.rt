@@ -1,16 +1,13 @@
-use btr_tree::Root;
+use btr_tree::{CopyList, Root};
+use unit_plan::NewTree;
 
-/// The trees of a converted volume: where each begins, and how much they and the data take.
+/// A tree that was written.
 #[derive(Clone, Copy, Debug, PartialEq, Eq)]
-pub struct VolumeTrees {
-    pub chunk: Root,
-    pub files: Root,
-    pub image: Root,
-    pub relocation: Root,
-    pub sums: Root,
-    pub device: Root,
+pub struct PlacedTree {
+    pub tree: NewTree,
+    /// Where it begins.
     pub root: Root,
-    pub extents: Root,
-    /// The bytes of all extents and nodes.
-    pub used: u64,
 }
+
+/// Trees that were written, as a list, in the order of their slots.
+pub type PlacedTrees = CopyList<PlacedTree>;

@@ -1,5 +1,15 @@
 -- Writes to the slots that are left, tree after tree.
-use Rattle.convert_trees.proofs.Imports.{◌≡◌, ◌∙◌, ℕ, ◌+◌, ◌-◌, ◌≤◌, List, drop, sym, ap, subst, arith, drop-drop, get_or-drop, length-drop, History, WritesOnly, writes_then, writes_weaker, IsInSlots, NodeForm, Trees}
+use Rattle.convert_trees.proofs.Imports.{◌≡◌, ◌∙◌, ℕ, ◌+◌, ◌-◌, ◌≤◌, List, drop, sym, ap, subst, arith, drop-drop, get_or-drop, length-drop, History, WritesOnly, writes_then, writes_weaker, IsInSlots, NodeForm, TreeNode, Trees}
+
+-- a row of slots, some taken
+abbrev pub row_with : NodeForm → List ℕ → ℕ → List TreeNode → Trees
+row_with form places taken nodes = record { form = form; slots = places; taken = taken; nodes = nodes }
+
+pub row_is : (row : Trees) (form : NodeForm) (places : List ℕ) (taken : ℕ) (nodes : List TreeNode) → row.form ≡ form → row.slots ≡ places → row.taken ≡ taken → row.nodes ≡ nodes → row ≡ row_with form places taken nodes
+row_is row form places taken nodes a b c d =
+    ap (λ (x : NodeForm). row_with x row.slots row.taken row.nodes) a
+    ∙ (ap (λ (x : List ℕ). row_with form x row.taken row.nodes) b
+    ∙ (ap (λ (x : ℕ). row_with form places x row.nodes) c ∙ ap (λ (x : List TreeNode). row_with form places taken x) d))
 
 -- the same row, where maybe more slots are taken
 pub record IsLater (row later : Trees) : Type 0 where

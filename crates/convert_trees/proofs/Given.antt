@@ -1,5 +1,5 @@
 -- What a conversion gives to the writing of its trees, told of its arguments.
-use Rattle.convert_trees.proofs.Imports.{◌≡◌, ◌∙◌, ℕ, ◌+◌, ◌<◌, ◌≤◌, Bool, true, List, length, Some, sym, ap, subst, Contains, Image, Item, tree_nodes, lengths_of, IsMaking, Making, new_ids, slots, AllFit, IsFor, SameVolume, chunk_count, image_tree_items, no_trees, nodes_for, root_tree_items, sum_tree_items, LiesInUnit, all_at, image_items, relocation_items, has, IsOpened, superblock, used_of, Volume, chunk_items, device_items, FitLeaves, NodeForm, AreChunks, ArePlaced, node_places, PlannedChunk, Options, Piece, Plan, Ids, first_count, first_items, root_count, saved_in, slots_needed, HasPlacedPieces}
+use Rattle.convert_trees.proofs.Imports.{◌≡◌, ◌∙◌, ℕ, ◌+◌, ◌<◌, ◌≤◌, ◌∷◌, Bool, true, List, [], get_or, length, Some, refl, sym, ap, subst, arith, All, sum_by, Contains, Image, sum_by-cons, tree_nodes, lengths_of, IsMaking, Making, new_ids, slots, AllFit, IsFor, SameVolume, chunk_count, no_trees, nodes_for, root_tree_items, items_of, LiesInUnit, all_at, has, IsOpened, superblock, used_of, Volume, chunk_items, FitLeaves, NodeForm, AreChunks, ArePlaced, node_places, PlannedChunk, Options, Piece, Plan, Ids, first_items, row_count, root_count, saved_in, slots_needed, HasPlacedPieces, new_trees, NewTree, items_by}
 use Rattle.convert_steps.proofs.extent_pieces.Apart.{places_are_apart}
 use Rattle.reiser_volume.proofs.Holding.{used_length}
 use Rattle.convert_trees.proofs.Staying.{volume_stays}
@@ -10,6 +10,10 @@ use Rattle.convert_trees.proofs.Untouched.{stays_used}
 abbrev pub node_form : Options → Ids → NodeForm
 node_form o ids = record { ids = ids; nodesize = o.nodesize; sums = o.sums }
 
+pub counts_by : (f g : NewTree → ℕ) → ((t : NewTree) → f t ≡ g t) → (trees : List NewTree) → sum_by f trees ≡ sum_by g trees
+counts_by f g same [] = refl
+counts_by f g same (t ∷ trees) = let one = same t in let more = counts_by f g same trees in let first = sum_by-cons f t trees in let second = sum_by-cons g t trees in omega (arith, one, more, first, second)
+
 pub record Given (volume : Volume) (o : Options) (ids : Ids) (now : ℕ) (plan : Plan) (pieces : List Piece) (chunks : List PlannedChunk) (image other : Image) : Type 0 where
   pub are : AreChunks plan volume.sup.blocks chunks
   pub opened : IsOpened volume image
@@ -17,11 +21,9 @@ pub record Given (volume : Volume) (o : Options) (ids : Ids) (now : ℕ) (plan :
   pub moved : (p : Piece) → Contains pieces p → LiesInUnit plan.data_ p
   pub stay : (p : Piece) (b : ℕ) → Contains pieces p → p.from ≡ Some p.place → p.place ≤ b → b < p.place + p.count → has volume.bitmap b ≡ true
   pub files_same : files_in volume o pieces other ≡ files_in volume o pieces image
-  pub files : FitLeaves (files_in volume o pieces other)
-  pub saved : FitLeaves (image_items volume.sup.blocks pieces o.datasum now)
-  pub relocation : FitLeaves (relocation_items now)
+  pub each : All (λ t. FitLeaves (first_items volume pieces o ids now chunks other t)) new_trees
   pub chunk_few : tree_nodes o.nodesize (lengths_of (chunk_items ids volume.sup.blocks chunks)) ≤ length (node_places o.nodesize plan.system)
-  pub few : slots_needed o.nodesize (first_count o.nodesize (first_items volume pieces o ids now chunks other)) (root_count (node_form o ids) (saved_in volume) now) (length pieces) (length chunks)
+  pub few : slots_needed o.nodesize (row_count o.nodesize (first_items volume pieces o ids now chunks other) new_trees) (root_count (node_form o ids) (saved_in volume) now) (length pieces) (length chunks)
       (tree_nodes o.nodesize (lengths_of (chunk_items ids volume.sup.blocks chunks))) ≤ length (node_places o.nodesize plan.metadata)
 
 module _ (image other : Image) (m : Making) (is : IsMaking image m) (same : SameVolume image other) (fit : AllFit image other m) where
@@ -48,6 +50,10 @@ module _ (image other : Image) (m : Making) (is : IsMaking image m) (same : Same
   files_are : files_in m.volume m.options m.pieces other ≡ files_in m.volume m.options m.pieces image
   files_are = files_same m.volume m.options m.pieces image other is.has_pieces.accepted same.used (subst (λ (n : ℕ). (superblock image).blocks ≤ n) (sym same.as_many) there.room)
 
+  -- the items are those of the volume as it was
+  items_are : (t : NewTree) → first_items m.volume m.pieces m.options (new_ids m) m.now m.chunks other t ≡ items_of image other m t
+  items_are t = items_by m.volume m.options (new_ids m) m.now m.pieces m.chunks other image other other files_are refl t
+
   given : Given m.volume m.options (new_ids m) m.now m.plan m.pieces m.chunks image other
   given =
       let of = is.has_pieces in
@@ -59,13 +65,12 @@ module _ (image other : Image) (m : Making) (is : IsMaking image m) (same : Same
         moved = λ p among. all_at (LiesInUnit m.plan.data_) m.pieces p well.moved among;
         stay = λ p b among stays low high. ap (λ (bits : List Bool). has bits b) bitmap_is ∙ stays_used image of.found m.options m.plan m.pieces of.plan_ of.placed p b among stays low high;
         files_same = files_are;
-        files = subst FitLeaves (sym files_are) fit.files;
-        saved = fit.saved;
-        relocation = fit.relocation;
+        each = λ i d inside. subst FitLeaves (sym (items_are (get_or new_trees i d))) (fit.each i d inside);
         chunk_few = fit.chunk_few;
-        few = subst (λ (files : List Item). slots_needed m.options.nodesize
-            (nodes_for m files + nodes_for m (image_tree_items m) + nodes_for m (relocation_items m.now) + nodes_for m (sum_tree_items other m) + nodes_for m (device_items (new_ids m) m.chunks))
-            (nodes_for m (root_tree_items m no_trees)) (length m.pieces) (length m.chunks) (chunk_count m) ≤ length (slots m)) (sym files_are) fit.few;
+        few =
+            let count : row_count m.options.nodesize (first_items m.volume m.pieces m.options (new_ids m) m.now m.chunks other) new_trees ≡ sum_by (λ t. nodes_for m (items_of image other m t)) new_trees =
+            counts_by (λ t. nodes_for m (first_items m.volume m.pieces m.options (new_ids m) m.now m.chunks other t)) (λ t. nodes_for m (items_of image other m t)) (λ t. ap (nodes_for m) (items_are t)) new_trees in
+            subst (λ (n : ℕ). slots_needed m.options.nodesize n (nodes_for m (root_tree_items m no_trees)) (length m.pieces) (length m.chunks) (chunk_count m) ≤ length (slots m)) (sym count) fit.few;
       }
 
   module _ (volume : Volume) (o : Options) (ids : Ids) (now : ℕ) (plan : Plan) (pieces : List Piece) (for : IsFor m volume o ids now plan pieces) where

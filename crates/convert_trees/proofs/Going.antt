@@ -1,5 +1,5 @@
 -- A row of slots goes on: the trees behind leave those before as they are, and what the trees are made from.
-use Rattle.convert_trees.proofs.Imports.{◌≡◌, ◌∙◌, ℕ, ◌+◌, ◌%◌, ◌<◌, ◌≤◌, ◌++◌, List, drop, take, length, sym, ap, subst, arith, drop-drop, get_or-drop, get_or-take, get_or_default, length-drop, length-take, Image, History, block_at, reads, WritesOnly, writes_length, reads_outside, Item, IsNodeSize, AreSlots, lengths_of, IsInSlots, Root, Form, nodes_of_tree, TreeNode, IsSlotRow, LieApart, SameWhere, TreeStands, read_form, NodeForm, Trees, by_nodes, slots_left, Adds, left_from}
+use Rattle.convert_trees.proofs.Imports.{[], ◌∷◌, ◌≡◌, ◌∙◌, ℕ, ◌+◌, ◌%◌, ◌-◌, ◌<◌, ◌≤◌, List, drop, take, length, sym, ap, subst, arith, drop-drop, get_or-drop, get_or-take, get_or_default, length-drop, length-take, Image, History, block_at, reads, WritesOnly, writes_length, reads_outside, Item, IsNodeSize, AreSlots, IsInSlots, Root, Form, LieApart, SameWhere, TreeStands, NodeForm, Trees, by_nodes, slots_left, behind_least, StandBehind, slot_behind, PlacedTree, tree_number, NewTree}
 use Rattle.convert_trees.proofs.Behind.{IsInRest, IsLater, later_by, writes_behind}
 use Rattle.convert_trees.proofs.Front.{apart_nodes}
 
@@ -51,43 +51,29 @@ goes_then row mid later n m old between new first then = record {
   only = writes_behind row mid old between new (goes_later row mid n old between first) first.only then.only;
 }
 
--- the slots that are left later
-pub rest_is : (row later : Trees) (n : ℕ) (old new : History) → Goes row later n old new → drop later.taken later.slots ≡ left_from row n
-rest_is row later n old new goes =
-    ap (λ (s : List ℕ). drop later.taken s) goes.slots ∙ (ap (λ (k : ℕ). drop k row.slots) goes.taken ∙ sym (drop-drop n row.taken row.slots))
-
 pub still_apart : (needs : ℕ → Type 0) (row later : Trees) (n : ℕ) (old new : History) → Goes row later n old new → LieApart needs row.form.nodesize row.slots → LieApart needs later.form.nodesize later.slots
 still_apart needs row later n old new goes apart =
     subst (λ (f : NodeForm). LieApart needs f.nodesize later.slots) (sym goes.form) (subst (λ (s : List ℕ). LieApart needs row.form.nodesize s) (sym goes.slots) apart)
 
--- One more tree stands at the slots from number n on, at the end of all writes, and its nodes are told.
-pub record Stood (image : Image) (row : Trees) (n owner : ℕ) (items : List Item) (root : Root) (before after : List TreeNode) : Type 0 where
-  pub stands : TreeStands image (read_form row.form) owner (left_from row n) items root
-  pub nodes : after ≡ before ++ nodes_of_tree owner row.form.nodesize (lengths_of items) (left_from row n)
+-- a tree at the slots from a number on goes on standing while nodes are written behind it
+pub stands_still : (form : Form) (owner n end : ℕ) (slots : List ℕ) (items : List Item) (root : Root) (old new : History) → IsNodeSize form.nodesize → AreSlots form.nodesize slots → n + root.nodes ≤ end
+    → WritesOnly (λ b _. IsInSlots form.nodesize (drop end slots) b) old new → TreeStands (reads old) form owner (drop n slots) items root → TreeStands (reads new) form owner (drop n slots) items root
+stands_still form owner n end slots items root old new size are few only stands =
+    let sum : end ≡ n + (end - n) = omega (arith, few) in
+    let split : drop end slots ≡ drop (end - n) (drop n slots) = ap (λ (k : ℕ). drop k slots) sum ∙ sym (drop-drop (end - n) n slots) in
+    stands_before form owner (end - n) (drop n slots) items root old new size (slots_left form.nodesize n slots are) (omega (arith, few))
+    (subst (λ (xs : List ℕ). WritesOnly (λ b _. IsInSlots form.nodesize xs b) old new) split only) stands
 
-module _ (row old new : Trees) (n owner : ℕ) (items : List Item) (root : Root) (h₀ h₁ h₂ h₃ : History) where
-  pub stood : IsSlotRow row → Goes row old n h₀ h₁ → Goes old new root.nodes h₁ h₂ → WritesOnly (λ b _. IsInRest new b) h₂ h₃ → Adds (reads h₂) old new owner items root
-      → Stood (reads h₃) row n owner items root old.nodes new.nodes
-  stood is goes one behind adds =
-      let both = goes_then row old new n root.nodes h₀ h₁ h₂ goes one in
-      let rest = rest_is row old n h₀ h₁ goes in
-      let formed : TreeStands (reads h₂) (read_form row.form) owner (drop old.taken old.slots) items root =
-      subst (λ (f : NodeForm). TreeStands (reads h₂) (read_form f) owner (drop old.taken old.slots) items root) goes.form adds.stands in
-      let there : TreeStands (reads h₂) (read_form row.form) owner (left_from row n) items root =
-      subst (λ (s : List ℕ). TreeStands (reads h₂) (read_form row.form) owner s items root) rest formed in
-      let sized : WritesOnly (λ b _. IsInSlots row.form.nodesize (drop new.taken new.slots) b) h₂ h₃ =
-      subst (λ (f : NodeForm). WritesOnly (λ b _. IsInSlots f.nodesize (drop new.taken new.slots) b) h₂ h₃) both.form behind in
-      let after : drop new.taken new.slots ≡ drop root.nodes (left_from row n) =
-      rest_is row new (n + root.nodes) h₀ h₂ both ∙ sym (drop-drop root.nodes n (drop row.taken row.slots)) in
-      let written : WritesOnly (λ b _. IsInSlots row.form.nodesize (drop root.nodes (left_from row n)) b) h₂ h₃ =
-      subst (λ (s : List ℕ). WritesOnly (λ b _. IsInSlots row.form.nodesize s b) h₂ h₃) after sized in
-      let left = slots_left row.form.nodesize n (drop row.taken row.slots) (slots_left row.form.nodesize row.taken row.slots is.slots) in
-      record {
-        stands = stands_before (read_form row.form) owner root.nodes (left_from row n) items root h₂ h₃ is.size left (omega arith) written there;
-        nodes =
-            subst (λ (s : List ℕ). new.nodes ≡ old.nodes ++ nodes_of_tree owner row.form.nodesize (lengths_of items) s) rest
-            (subst (λ (f : NodeForm). new.nodes ≡ old.nodes ++ nodes_of_tree owner f.nodesize (lengths_of items) (drop old.taken old.slots)) goes.form adds.nodes);
-      }
+-- so do trees one behind the other
+pub row_stands : (form : Form) (slots : List ℕ) (items : NewTree → List Item) (end : ℕ) (old new : History) → IsNodeSize form.nodesize → AreSlots form.nodesize slots
+    → WritesOnly (λ b _. IsInSlots form.nodesize (drop end slots) b) old new → (n : ℕ) (placed : List PlacedTree) → slot_behind n placed ≤ end
+    → StandBehind (reads old) form slots items n placed → StandBehind (reads new) form slots items n placed
+row_stands form slots items end old new size are only n [] few stand = stand
+row_stands form slots items end old new size are only n (p ∷ placed) few stand = (
+  let more = behind_least (n + p.root.nodes) placed in
+      stands_still form (tree_number p.tree) n end slots (items p.tree) p.root old new size are (omega (arith, few, more)) only stand.0,
+  row_stands form slots items end old new size are only (n + p.root.nodes) placed few stand.1,
+)
 
 -- what is needed elsewhere stays
 pub same_where : (needs : ℕ → Type 0) (row : Trees) (image : Image) (old new : History) → LieApart needs row.form.nodesize (drop row.taken row.slots) → reads old ≡ image → WritesOnly (λ b _. IsInRest row b) old new

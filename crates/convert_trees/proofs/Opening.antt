@@ -1,10 +1,11 @@
 -- The trees that are written first: what each needs is there, and all stand in the end.
-use Rattle.convert_trees.proofs.Imports.{◌≡◌, ◌∙◌, ℕ, ◌+◌, ◌-◌, ◌^◌, ◌≤◌, ◌++◌, Bool, List, [], if◌then◌else◌, drop, length, append_assoc, refl, sym, ap, subst, arith, length-drop, CONV_IMAGE_SUBVOL, CSUM_TREE, DATA_RELOC_TREE, DEV_TREE, FS_TREE, keys, Image, History, WritesOnly, reads, writes_none, Item, IsNodeSize, tree_nodes, lengths_of, Root, SameUsed, has, links_in, IsAccepted, superblock, used_of, same_volume, FitLeaves, sum_items, TreeNode, roomy, Volume, IsSlotRow, LieApart, SameWhere, AreWritable, NodeForm, Trees, apart_left, PlannedChunk, Options, Piece, Ids, Adds, AddsFirst, FirstItems, device_from, first_items, image_from, nodes_from, relocation_from, sums_from, HasPlacedPieces, IsInPieces, IsUsedBlock, FirstRoots}
+use Rattle.convert_trees.proofs.Imports.{◌≡◌, ◌∙◌, ℕ, ◌+◌, ◌-◌, ◌<◌, ◌≤◌, ◌++◌, ◌∷◌, Bool, List, [], if◌then◌else◌, drop, take, map, get_or, length, append_assoc, refl, sym, ap, subst, arith, length-drop, append-nil, sum_by, keys, Image, History, WritesOnly, reads, writes_none, Item, IsNodeSize, tree_nodes, lengths_of, IsInSlots, Root, SameUsed, has, links_in, IsAccepted, superblock, used_of, same_volume, FitLeaves, sum_items, TreeNode, nodes_of_tree, roomy, Volume, IsSlotRow, LieApart, SameWhere, AreWritable, read_form, NodeForm, Trees, apart_left, PlannedChunk, Options, Piece, Ids, Adds, first_items, AddsRow, FitRow, row_count, HasPlacedPieces, IsInPieces, IsUsedBlock, sum_by-take-le, tree_number, NewTree, behind_least, nodes-append, row_counted, stand-append, items_by, nodes_behind, slot_behind, PlacedTree}
+use Rattle.unit_plan.proofs.Lists.{sum_next}
 use Rattle.file_items.specs.Tree.{Source, source_of, fs_tree_items}
 use Rattle.reiser_volume.specs.reiser_walk.Items.{ReiserItem}
 use Rattle.convert_trees.proofs.Staying.{volume_stays}
-use Rattle.convert_trees.proofs.Behind.{IsInRest}
-use Rattle.convert_trees.proofs.Going.{Goes, Stood, goes_by, goes_then, rest_is, same_where, still_apart}
+use Rattle.convert_trees.proofs.Behind.{IsInRest, row_is}
+use Rattle.convert_trees.proofs.Going.{Goes, row_stands, same_where, still_apart}
 use Rattle.convert_trees.proofs.Sums.{sum_items_same}
 
 -- nothing was written yet
@@ -58,19 +59,14 @@ module _ (volume : Volume) (pieces : List Piece) (row : Trees) (image : Image) (
       (sum_items_same o.sums image (reads h) pieces
       (same_where (IsInPieces pieces) row image h₀ h (apart_left (IsInPieces pieces) row.form.nodesize row.taken row.slots begins.placed) begins.blocks goes.only))
 
-  pub items_still : (o : Options) (ids : Ids) (now : ℕ) (chunks : List PlannedChunk) → first_items volume pieces o ids now chunks (reads h) ≡ first_items volume pieces o ids now chunks image
-  items_still o ids now chunks =
-      ap (λ (files : List Item). items_with files (if o.datasum then sum_items o.sums (reads h) pieces else [])) files_are
-      ∙ ap (λ (sums : List Item). items_with (files_in volume o pieces image) sums) (sums_still o)
+  pub items_still : (o : Options) (ids : Ids) (now : ℕ) (chunks : List PlannedChunk) (t : NewTree) → first_items volume pieces o ids now chunks (reads h) t ≡ first_items volume pieces o ids now chunks image t
+  items_still o ids now chunks t = items_by volume o ids now pieces chunks (reads h) image (reads h) image files_still (sums_still o) t
     where
-      items_with : List Item → List Item → FirstItems
-      items_with files sums = record (first_items volume pieces o ids now chunks image) { files = files; sums = sums }
-
       same : SameWhere (IsUsedBlock volume) image (reads h)
       same = same_where (IsUsedBlock volume) row image h₀ h (apart_left (IsUsedBlock volume) row.form.nodesize row.taken row.slots begins.used) begins.blocks goes.only
 
-      files_are : files_in volume o pieces (reads h) ≡ files_in volume o pieces image
-      files_are =
+      files_still : files_in volume o pieces (reads h) ≡ files_in volume o pieces image
+      files_still =
           files_same volume o pieces image (reads h) begins.there.accepted
           (λ b marked. same.blocks b (ap (λ (bits : List Bool). has bits b) begins.there.opened.bitmap ∙ marked))
           (subst (λ (k : ℕ). (superblock image).blocks ≤ k) (sym same.as_many) begins.there.room)
@@ -80,71 +76,67 @@ pub writable : (row mid : Trees) (n : ℕ) (h₀ h : History) (items : List Item
     → AreWritable mid.form.nodesize (drop mid.taken mid.slots) items
 writable row mid n h₀ h items is goes fit few =
     subst (λ (f : NodeForm). AreWritable f.nodesize (drop mid.taken mid.slots) items) (sym goes.form)
-    (subst (λ (s : List ℕ). AreWritable row.form.nodesize s items) (sym (rest_is row mid n h₀ h goes)) (record {
+    (subst (λ (s : List ℕ). AreWritable row.form.nodesize (drop mid.taken s) items) (sym goes.slots) (record {
       order = fit.ascend;
       short = λ i d inside. omega (arith, fit.short i d inside, least row.form.nodesize is.size);
-      few = omega (arith, few, length-drop n (drop row.taken row.slots), length-drop row.taken row.slots);
+      few = omega (arith, few, goes.taken, length-drop mid.taken row.slots);
     }))
   where
     least : (size : ℕ) → IsNodeSize size → 4096 ≤ size
     least size is = omega (arith, roomy size is)
 
-pub counted : (row old new : Trees) (n : ℕ) (h₀ h : History) (image : Image) (owner : ℕ) (items : List Item) (root : Root) → Goes row old n h₀ h → Adds image old new owner items root
-    → root.nodes ≡ tree_nodes row.form.nodesize (lengths_of items)
-counted row old new n h₀ h image owner items root goes adds = adds.stands.count ∙ ap (λ (f : NodeForm). tree_nodes f.nodesize (lengths_of items)) goes.form
+-- ---- one tree more
 
--- One tree more was written, and what the next ones need is still there: from number n of the slots on it takes those up to
--- number m.
-pub record Step (volume : Volume) (pieces : List Piece) (row : Trees) (image : Image) (h₀ : History) (old new : Trees) (m owner : ℕ) (items : List Item) (root : Root) (h₁ h₂ : History) : Type 0 where
-  pub one : Goes old new root.nodes h₁ h₂
-  pub to : Goes row new m h₀ h₂
-  pub adds : Adds (reads h₂) old new owner items root
-  pub count : root.nodes ≡ tree_nodes row.form.nodesize (lengths_of items)
-  pub there : HasPlacedPieces volume pieces (reads h₂)
-  pub used : LieApart (IsUsedBlock volume) new.form.nodesize new.slots
-  pub placed : LieApart (IsInPieces pieces) new.form.nodesize new.slots
-  pub sums : (o : Options) → (if o.datasum then sum_items o.sums (reads h₂) pieces else []) ≡ (if o.datasum then sum_items o.sums image pieces else [])
+module _ (row : Trees) (items : NewTree → List Item) (trees : List NewTree) where
+  -- how far the writing is: these trees stand, one behind the other
+  pub adds_none : (image : Image) → AddsRow image row row items []
+  adds_none image = record { stand = tt; nodes = sym (append-nil row.nodes) }
 
-pub stepped : (volume : Volume) (pieces : List Piece) (row : Trees) (image : Image) (h₀ : History) (begins : Begins volume pieces row image h₀) (old new : Trees) (n m owner : ℕ) (items : List Item) (root : Root) (h₁ h₂ : History)
-    → Goes row old n h₀ h₁ → m ≡ n + root.nodes → (new.form ≡ old.form) × (new.slots ≡ old.slots) → new.taken ≡ old.taken + root.nodes → WritesOnly (λ b _. IsInRest old b) h₁ h₂ → Adds (reads h₂) old new owner items root
-    → Step volume pieces row image h₀ old new m owner items root h₁ h₂
-stepped volume pieces row image h₀ begins old new n m owner items root h₁ h₂ goes total same taken only adds =
-    let one : Goes old new root.nodes h₁ h₂ = goes_by old new root.nodes h₁ h₂ same taken only in
-    let to : Goes row new m h₀ h₂ = subst (λ (k : ℕ). Goes row new k h₀ h₂) (sym total) (goes_then row old new n root.nodes h₀ h₁ h₂ goes one) in
-    record {
-      one = one;
-      to = to;
-      adds = adds;
-      count = counted row old new n h₀ h₁ (reads h₂) owner items root goes adds;
-      there = has_still volume pieces row image h₀ begins new m h₂ to;
-      used = used_still volume pieces row image h₀ begins new m h₂ to;
-      placed = placed_still volume pieces row image h₀ begins new m h₂ to;
-      sums = λ o. sums_still volume pieces row image h₀ begins new m h₂ to o;
-    }
+  -- the slots that the first trees take
+  pub taken_is : (image : Image) (mid : Trees) (placed : List PlacedTree) (i : ℕ) → AddsRow image row mid items placed → map (λ p. p.tree) placed ≡ take i trees
+      → slot_behind row.taken placed ≡ row.taken + row_count row.form.nodesize items (take i trees)
+  taken_is image mid placed i adds are =
+      row_counted row.slots items image (read_form row.form) row.taken placed adds.stand
+      ∙ ap (λ (ts : List NewTree). row.taken + row_count row.form.nodesize items ts) are
 
--- the nodes of one tree more
-more : (a b c x y : List TreeNode) → b ≡ a ++ x → c ≡ b ++ y → c ≡ a ++ (x ++ y)
-more a b c x y first second = second ∙ (ap (λ (ns : List TreeNode). ns ++ y) first ∙ append_assoc a x y)
+  -- the next one can be written
+  pub next_writable : (image : Image) (mid : Trees) (placed : List PlacedTree) (i : ℕ) (d : NewTree) (h₀ h : History) → IsSlotRow row → FitRow row items trees → AddsRow image row mid items placed
+      → Goes row mid (slot_behind row.taken placed - row.taken) h₀ h → map (λ p. p.tree) placed ≡ take i trees → i < length trees
+      → AreWritable mid.form.nodesize (drop mid.taken mid.slots) (items (get_or trees i d))
+  next_writable image mid placed i d h₀ h is fit adds goes are inside =
+      let t : NewTree = get_or trees i d in
+      let f : NewTree → ℕ = λ u. tree_nodes row.form.nodesize (lengths_of (items u)) in
+      let before = taken_is image mid placed i adds are in
+      let least = behind_least row.taken placed in
+      let more = sum_next f trees i d (sum_by f (take i trees)) (f t) inside refl refl in
+      let all = sum_by-take-le f trees (i + 1) in
+      writable row mid (slot_behind row.taken placed - row.taken) h₀ h (items t) is goes (fit.each i d inside) (room _ _ _ _ _ _ _ before least more all fit.few)
+    where
+      room : (behind taken first own after all long : ℕ) → behind ≡ taken + first → taken ≤ behind → first + own ≡ after → after ≤ all → taken + all ≤ long → taken + (behind - taken) + own ≤ long
+      room behind taken first own after all long a b c d e = omega (arith, a, b, c, d, e)
 
-pub adds_first : (image : Image) (row one two three four five : Trees) (items : FirstItems) (r : FirstRoots)
-    → Stood image row 0 FS_TREE items.files r.files row.nodes one.nodes → Stood image row (image_from r) CONV_IMAGE_SUBVOL items.image_ r.image one.nodes two.nodes
-    → Stood image row (relocation_from r) DATA_RELOC_TREE items.relocation r.relocation two.nodes three.nodes → Stood image row (sums_from r) CSUM_TREE items.sums r.sums three.nodes four.nodes
-    → Stood image row (device_from r) DEV_TREE items.device r.device four.nodes five.nodes → AddsFirst image row five items r
-adds_first image row one two three four five items r files saved relocation sums device =
-    let a : List TreeNode = nodes_from row FS_TREE 0 items.files in
-    let b : List TreeNode = nodes_from row CONV_IMAGE_SUBVOL (image_from r) items.image_ in
-    let c : List TreeNode = nodes_from row DATA_RELOC_TREE (relocation_from r) items.relocation in
-    let d : List TreeNode = nodes_from row CSUM_TREE (sums_from r) items.sums in
-    let e : List TreeNode = nodes_from row DEV_TREE (device_from r) items.device in
-    record {
-      files = files.stands;
-      image_ = saved.stands;
-      relocation = relocation.stands;
-      sums = sums.stands;
-      device = device.stands;
-      nodes =
-          more row.nodes one.nodes five.nodes a (b ++ (c ++ (d ++ e))) files.nodes
-          (more one.nodes two.nodes five.nodes b (c ++ (d ++ e)) saved.nodes
-          (more two.nodes three.nodes five.nodes c (d ++ e) relocation.nodes
-          (more three.nodes four.nodes five.nodes d e sums.nodes device.nodes)));
-    }
+  -- and stands then behind the others
+  pub adds_more : (mid new : Trees) (placed : List PlacedTree) (t : NewTree) (root : Root) (h₁ h₂ : History) → IsSlotRow row → (mid.form ≡ row.form) × (mid.slots ≡ row.slots) → mid.taken ≡ slot_behind row.taken placed
+      → AddsRow (reads h₁) row mid items placed → WritesOnly (λ b _. IsInRest mid b) h₁ h₂ → Adds (reads h₂) mid new (tree_number t) (items t) root
+      → AddsRow (reads h₂) row new items (placed ++ record { tree = t; root = root } ∷ [])
+  adds_more mid new placed t root h₁ h₂ is same taken before only adds =
+      let end : ℕ = slot_behind row.taken placed in
+      let one : PlacedTree = record { tree = t; root = root } in
+      let at_form : WritesOnly (λ b _. IsInSlots row.form.nodesize (drop mid.taken mid.slots) b) h₁ h₂ = subst (λ (f : NodeForm). WritesOnly (λ b _. IsInSlots f.nodesize (drop mid.taken mid.slots) b) h₁ h₂) same.0 only in
+      let at_slots : WritesOnly (λ b _. IsInSlots row.form.nodesize (drop mid.taken row.slots) b) h₁ h₂ = subst (λ (s : List ℕ). WritesOnly (λ b _. IsInSlots row.form.nodesize (drop mid.taken s) b) h₁ h₂) same.1 at_form in
+      let behind : WritesOnly (λ b _. IsInSlots row.form.nodesize (drop end row.slots) b) h₁ h₂ = subst (λ (n : ℕ). WritesOnly (λ b _. IsInSlots row.form.nodesize (drop n row.slots) b) h₁ h₂) taken at_slots in
+      let known : Adds (reads h₂) (record { form = row.form; slots = row.slots; taken = end; nodes = mid.nodes }) new (tree_number t) (items t) root =
+      subst (λ (x : Trees). Adds (reads h₂) x new (tree_number t) (items t) root) (row_is mid row.form row.slots end mid.nodes same.0 same.1 taken refl) adds in
+      record {
+        stand =
+            stand-append row.slots items (reads h₂) (read_form row.form) row.taken placed (one ∷ [])
+            (row_stands (read_form row.form) row.slots items end h₁ h₂ is.size is.slots behind row.taken placed (omega arith) before.stand)
+            (known.stands, tt);
+        nodes =
+            known.nodes
+            ∙ (ap (λ (ns : List TreeNode). ns ++ nodes_of_tree (tree_number t) row.form.nodesize (lengths_of (items t)) (drop end row.slots)) before.nodes
+            ∙ (append_assoc row.nodes (nodes_behind row.form.nodesize row.slots items row.taken placed) (nodes_of_tree (tree_number t) row.form.nodesize (lengths_of (items t)) (drop end row.slots))
+            ∙ ap (λ (ns : List TreeNode). row.nodes ++ ns)
+            (ap (λ (ns : List TreeNode). nodes_behind row.form.nodesize row.slots items row.taken placed ++ ns) (sym (append-nil (nodes_of_tree (tree_number t) row.form.nodesize (lengths_of (items t)) (drop end row.slots))))
+            ∙ sym (nodes-append row.slots items row.form.nodesize row.taken placed (one ∷ [])))));
+      }

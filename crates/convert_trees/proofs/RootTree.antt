@@ -1,28 +1,27 @@
 -- The root tree at the slots that were kept for it, and the extent tree behind it.
-use Rattle.convert_trees.proofs.Imports.{◌≡◌, ◌∙◌, ℕ, ◌+◌, ◌-◌, ◌*◌, ◌≤◌, ◌++◌, List, length, take, drop, refl, sym, ap, subst, arith, length-drop, length-take, EXTENT_TREE, ROOT_TREE, History, reads, WritesOnly, Item, IsNodeSize, node_bound, tree_nodes, lengths_of, IsInSlots, Root, no_trees, VolumeTrees, extent_items, merged_nodes, nodes_of_tree, AreIds, extent_bytes, own_bound, root_items, TreeNode, root_items_fit, bound_up, roomy, IsSlotRow, AreWritable, TreeStands, read_form, NodeForm, Trees, PlannedChunk, Piece, AddsExtents, AddsLast, root_count, slots_needed, listed, WrittenExtents, FirstRoots}
+use Rattle.convert_trees.proofs.Imports.{◌≡◌, ◌∙◌, ℕ, ◌+◌, ◌-◌, ◌*◌, ◌≤◌, ◌++◌, List, length, take, drop, refl, sym, ap, subst, arith, map, length-drop, length-take, EXTENT_TREE, ROOT_TREE, History, reads, WritesOnly, Item, IsNodeSize, node_bound, tree_nodes, lengths_of, IsInSlots, Root, no_trees, no_root, placed_trees, told_roots, extent_items, merged_nodes, nodes_of_tree, AreIds, extent_bytes, own_bound, root_items, TreeNode, root_items_fit, bound_up, roomy, IsSlotRow, AreWritable, TreeStands, read_form, NodeForm, Trees, PlannedChunk, Piece, AddsExtents, AddsLast, root_count, slots_needed, WrittenExtents, NewRoots, PlacedTree, new_trees, ascends}
 use Rattle.convert_trees.proofs.Few.{few_merged, row_few}
 use Rattle.convert_trees.proofs.Front.{stands_behind}
-use Rattle.convert_trees.proofs.Rooted.{ascends, roots_alike}
+use Rattle.convert_trees.proofs.Rooted.{root_lengths}
 
 -- the root tree has as many nodes wherever the trees begin
-pub count_of : (form : NodeForm) (index now : ℕ) (first : FirstRoots) (extents : Root)
-    → tree_nodes form.nodesize (lengths_of (root_items (listed first extents) index form.ids now form.nodesize)) ≡ root_count form index now
-count_of form index now first extents =
-    ap (λ (ls : List ℕ). tree_nodes form.nodesize ls)
-    (roots_alike index form.ids now form.nodesize (record no_trees { extents = extents; device = first.device; files = first.files; sums = first.sums; image = first.image; relocation = first.relocation }) no_trees)
+pub count_of : (form : NodeForm) (index now : ℕ) (placed : List PlacedTree) (extents : Root) → map (λ p. p.tree) placed ≡ new_trees
+    → tree_nodes form.nodesize (lengths_of (root_items (told_roots placed extents) index form.ids now form.nodesize)) ≡ root_count form index now
+count_of form index now placed extents are =
+    ap (λ (ls : List ℕ). tree_nodes form.nodesize ls) (root_lengths index form.ids now form.nodesize placed (placed_trees no_trees) extents no_root are refl)
 
 -- it can be written to as many slots
-pub root_writable : (form : NodeForm) (index now : ℕ) (first : FirstRoots) (extents : Root) (slots : List ℕ) → IsNodeSize form.nodesize → AreIds form.ids
-    → tree_nodes form.nodesize (lengths_of (root_items (listed first extents) index form.ids now form.nodesize)) ≤ length slots
-    → AreWritable form.nodesize slots (root_items (listed first extents) index form.ids now form.nodesize)
-root_writable form index now first extents slots size ids few =
-    let fit = root_items_fit (listed first extents) index form.ids now form.nodesize ids (ascends first extents) in
+pub root_writable : (form : NodeForm) (index now : ℕ) (placed : List PlacedTree) (extents : Root) (slots : List ℕ) → map (λ p. p.tree) placed ≡ new_trees → IsNodeSize form.nodesize → AreIds form.ids
+    → tree_nodes form.nodesize (lengths_of (root_items (told_roots placed extents) index form.ids now form.nodesize)) ≤ length slots
+    → AreWritable form.nodesize slots (root_items (told_roots placed extents) index form.ids now form.nodesize)
+root_writable form index now placed extents slots are size ids few =
+    let fit = root_items_fit (told_roots placed extents) index form.ids now form.nodesize ids (ascends placed extents are) in
     record { order = fit.ascend; short = λ i d h. omega (arith, fit.short i d h, roomy form.nodesize size); few = few }
 
-pub count_needed : (row : Trees) (form : NodeForm) (index saved now : ℕ) (first : FirstRoots) (extents : Root) → row.form ≡ form → index ≡ saved
-    → tree_nodes form.nodesize (lengths_of (root_items (listed first extents) index form.ids now form.nodesize)) ≡ root_count row.form saved now
-count_needed row form index saved now first extents same is =
-    count_of form index now first extents ∙ (ap (λ (f : NodeForm). root_count f index now) (sym same) ∙ ap (λ (i : ℕ). root_count row.form i now) is)
+pub count_needed : (row : Trees) (form : NodeForm) (index saved now : ℕ) (placed : List PlacedTree) (extents : Root) → map (λ p. p.tree) placed ≡ new_trees → row.form ≡ form → index ≡ saved
+    → tree_nodes form.nodesize (lengths_of (root_items (told_roots placed extents) index form.ids now form.nodesize)) ≡ root_count row.form saved now
+count_needed row form index saved now placed extents trees same is =
+    count_of form index now placed extents trees ∙ (ap (λ (f : NodeForm). root_count f index now) (sym same) ∙ ap (λ (i : ℕ). root_count row.form i now) is)
 
 -- so many slots were kept
 pub kept_long : (row : Trees) (m : ℕ) (slots : List ℕ) → slots ≡ take m (drop row.taken row.slots) → row.taken + m ≤ length row.slots → length slots ≡ m
@@ -42,14 +41,14 @@ room_behind n count row mid chunks pieces others size is same more enough =
     let high : ℕ = extent_bytes (length pieces) (length chunks) (row.taken + count + length others) in
     fits_left (node_bound low n) (node_bound high n) row.taken count (length row.slots) (length mid.slots) mid.taken (bound_up low high n size (omega (arith, few))) enough (ap (λ (s : List ℕ). length s) same) more
 
-pub room_left : (row mid : Trees) (form : NodeForm) (index saved now : ℕ) (first : FirstRoots) (extents : Root) (slots : List ℕ) (chunks : List PlannedChunk) (pieces : List Piece) (others : List TreeNode)
-    → row.form ≡ form → index ≡ saved → IsSlotRow row → IsSlotRow mid → mid.slots ≡ row.slots → mid.taken ≡ row.taken + length slots
-    → slots ≡ take (tree_nodes form.nodesize (lengths_of (root_items (listed first extents) index form.ids now form.nodesize))) (drop row.taken row.slots)
+pub room_left : (row mid : Trees) (form : NodeForm) (index saved now : ℕ) (placed : List PlacedTree) (extents : Root) (slots : List ℕ) (chunks : List PlannedChunk) (pieces : List Piece) (others : List TreeNode)
+    → map (λ p. p.tree) placed ≡ new_trees → row.form ≡ form → index ≡ saved → IsSlotRow row → IsSlotRow mid → mid.slots ≡ row.slots → mid.taken ≡ row.taken + length slots
+    → slots ≡ take (tree_nodes form.nodesize (lengths_of (root_items (told_roots placed extents) index form.ids now form.nodesize))) (drop row.taken row.slots)
     → slots_needed row.form.nodesize row.taken (root_count row.form saved now) (length pieces) (length chunks) (length others) ≤ length row.slots
     → own_bound chunks pieces (merged_nodes mid.nodes others) form.nodesize ≤ length mid.slots - mid.taken
-room_left row mid form index saved now first extents slots chunks pieces others same is row-is mid-is at taken are enough =
-    let m : ℕ = tree_nodes form.nodesize (lengths_of (root_items (listed first extents) index form.ids now form.nodesize)) in
-    let count : m ≡ root_count row.form saved now = count_needed row form index saved now first extents same is in
+room_left row mid form index saved now placed extents slots chunks pieces others trees same is row-is mid-is at taken are enough =
+    let m : ℕ = tree_nodes form.nodesize (lengths_of (root_items (told_roots placed extents) index form.ids now form.nodesize)) in
+    let count : m ≡ root_count row.form saved now = count_needed row form index saved now placed extents trees same is in
     let long : length slots ≡ m = kept_long row m slots are (omega (arith, count, enough)) in
     subst (λ (f : NodeForm). own_bound chunks pieces (merged_nodes mid.nodes others) f.nodesize ≤ length mid.slots - mid.taken) same
     (room_behind row.form.nodesize (root_count row.form saved now) row mid chunks pieces others row-is.size mid-is at (omega (arith, taken, long, count)) enough)
@@ -65,36 +64,27 @@ same_row mid row nodes count forms slots taken are =
     ∙ (ap (λ (n : ℕ). let t : Trees = record { form = row.form; slots = row.slots; taken = n; nodes = mid.nodes } in t) taken
     ∙ ap (λ (ns : List TreeNode). let t : Trees = record { form = row.form; slots = row.slots; taken = row.taken + count; nodes = ns } in t) are))
 
--- all trees, where these were written last
-abbrev pub all_with : Root → FirstRoots → WrittenExtents → Root → VolumeTrees
-all_with chunk first x root = record {
-  chunk = chunk;
-  files = first.files;
-  image = first.image;
-  relocation = first.relocation;
-  sums = first.sums;
-  device = first.device;
-  root = root;
-  extents = x.root;
-  used = x.used;
-}
+-- what the superblock is told, where these were written last
+abbrev pub told_with : Root → WrittenExtents → Root → NewRoots
+told_with chunk x root = record { chunk = chunk; root = root; used = x.used }
 
-module _ (old new : History) (row mid later : Trees) (slots : List ℕ) (index now : ℕ) (chunks : List PlannedChunk) (pieces : List Piece) (others : List TreeNode) (chunk : Root) (first : FirstRoots) (x : WrittenExtents) (root : Root) where
+module _ (old new : History) (row mid later : Trees) (slots : List ℕ) (index now : ℕ) (chunks : List PlannedChunk) (pieces : List Piece) (others : List TreeNode) (chunk : Root) (placed : List PlacedTree) (x : WrittenExtents) (root : Root) where
   abbrev items : NodeForm → List Item
-  items form = root_items (listed first x.root) index form.ids now form.nodesize
+  items form = root_items (told_roots placed x.root) index form.ids now form.nodesize
 
   both_stand : IsSlotRow row → mid.form ≡ row.form → mid.slots ≡ row.slots → mid.taken ≡ row.taken + root.nodes
       → mid.nodes ≡ row.nodes ++ nodes_of_tree ROOT_TREE row.form.nodesize (lengths_of (items row.form)) (drop row.taken row.slots)
       → WritesOnly (λ b _. IsInSlots row.form.nodesize (take root.nodes (drop row.taken row.slots)) b) old new
       → AddsExtents (reads old) mid later chunks pieces others x
       → TreeStands (reads new) (read_form row.form) ROOT_TREE (take root.nodes (drop row.taken row.slots)) (items row.form) root
-      → AddsLast (reads new) row index now chunks pieces others (all_with chunk first x root)
+      → AddsLast (reads new) row index now chunks pieces others placed (told_with chunk x root)
   both_stand is forms at taken nodes only adds stands =
       let ns : List TreeNode = row.nodes ++ nodes_of_tree ROOT_TREE row.form.nodesize (lengths_of (items row.form)) (drop row.taken row.slots) in
       let known : AddsExtents (reads old) (behind row ns root.nodes) later chunks pieces others x =
       subst (λ (t : Trees). AddsExtents (reads old) t later chunks pieces others x) (same_row mid row ns root.nodes forms at taken nodes) adds in
       record {
         nodes = known.nodes;
+        extents_at = x.root;
         root = stands;
         extents =
             stands_behind old new (read_form row.form) EXTENT_TREE root.nodes row.taken row.slots (extent_items chunks pieces known.nodes row.form.nodesize) x.root is.size is.slots only known.adds.stands;
@@ -109,7 +99,7 @@ module _ (old new : History) (row mid later : Trees) (slots : List ℕ) (index n
       → slots ≡ take (tree_nodes form.nodesize (lengths_of (items form))) (drop row.taken row.slots)
       → WritesOnly (λ b _. IsInSlots form.nodesize slots b) old new
       → TreeStands (reads new) (read_form form) ROOT_TREE slots (items form) root
-      → AddsLast (reads new) row index now chunks pieces others (all_with chunk first x root)
+      → AddsLast (reads new) row index now chunks pieces others placed (told_with chunk x root)
 
   stand : IsSlotRow row → mid.form ≡ row.form → mid.slots ≡ row.slots → mid.taken ≡ row.taken + length slots → AddsExtents (reads old) mid later chunks pieces others x
       → tree_nodes row.form.nodesize (lengths_of (items row.form)) ≤ length row.slots - row.taken → Stand row.form

@@ -1,5 +1,6 @@
 -- The checksums of pieces, over a disk whose other blocks are written.
-use Rattle.convert_trees.proofs.Imports.{◌≡◌, ◌∙◌, ℕ, zero, suc, ◌+◌, ◌-◌, ◌*◌, ◌^◌, ◌<◌, ◌≤◌, min, List, [], ◌∷◌, ◌++◌, map, take, drop, refl, ap, arith, All, flat_map, range_with_len, min-le_right, All-drop, All-head, All-tail, EXTENT_CSUM, EXTENT_CSUM_OBJECTID, Image, block_at, make_key, Item, SumKind, all_from_contains, left_of, block_sum, run_items, sum_items, sums_item, SameWhere, Piece, FitsSumBlocks, IsInPieces}
+use Rattle.convert_trees.proofs.Imports.{◌≡◌, ◌∙◌, ℕ, zero, suc, ◌+◌, ◌-◌, ◌*◌, ◌<◌, ◌≤◌, min, List, [], ◌∷◌, ◌++◌, map, take, drop, refl, ap, arith, All, flat_map, range_with_len, min-le_right, All-drop, All-head, All-tail, EXTENT_CSUM, EXTENT_CSUM_OBJECTID, Image, block_at, make_key, Item, all_from_contains, left_of, block_sum, run_items, sum_items, sums_item, SameWhere, Piece, FitsSumBlocks, IsInPieces}
+use Rattle.btr_tree.specs.csum_kinds.declared.kind.SumKind.{SumKind}
 use Rattle.std.specs.Int.{div_ceil}
 use Rattle.btr_tree.specs.csum_kinds.Kind.{kind_sum, kind_width}
 use Rattle.space_items.specs.declared.sum_stream.SumStream.{SumStream}

@@ -1,7 +1,5 @@
 -- The slots of a plan's units touch no used block and no piece.
-use Rattle.convert_trees.proofs.Imports.{◌≡◌, ◌≢◌, ◌∙◌, ℕ, ◌+◌, ◌*◌, ◌/◌, ◌^◌, ◌<◌, ◌≤◌, ◌⊎◌, ◌++◌, ⊎_elim, Bool, true, false, List, [], ◌∷◌, take, drop, Option, Some, None, refl, sym, ap, subst, arith, true≢false, take-append-drop, Contains, range_with_len, Contains-append_cases, Contains-append_left, Contains-append_right, Image, IsNodeSize, IsInNode, IsInSlots, HasPlan, HoldsUsed, LiesInUnit, all_at, has, IsFreeUnit, contains_cases, contains_head, contains_tail, range_contains, used_of, LieApart, AreUnitsApart, node_places, places_in, Options, Piece, Plan, IsInPieces}
-use Rattle.std.specs.List.Sorted.{IsPermutation}
-use Rattle.std.proofs.lemmas.Bool.{cases_eq}
+use Rattle.convert_trees.proofs.Imports.{◌≡◌, ◌≢◌, ◌∙◌, ℕ, ◌+◌, ◌*◌, ◌/◌, ◌^◌, ◌<◌, ◌≤◌, ◌⊎◌, ◌++◌, ⊎_elim, Bool, true, false, List, [], ◌∷◌, take, drop, Option, Some, None, refl, sym, ap, subst, arith, true≢false, take-append-drop, Contains, range_with_len, Contains-append_cases, Contains-append_left, Contains-append_right, Image, IsNodeSize, IsInNode, IsInSlots, HasPlan, HoldsUsed, LiesInUnit, all_at, has, IsFreeUnit, contains_cases, contains_head, contains_tail, range_contains, used_of, LieApart, AreUnitsApart, node_places, places_in, Options, Piece, Plan, IsInPieces, cases_eq}
 use Rattle.std.proofs.lemmas.List.Sorted.{Contains-permutation, IsPermutation-sym}
 use Rattle.reiser_volume.proofs.fs_paths.Lists.{from_flat_map, from_map}
 use Rattle.convert_steps.specs.extent_pieces.Files.{owner, tails}

@@ -6,8 +6,10 @@ use Rattle.btr_tree.specs.outside.History.{Image}
 use Rattle.btr_tree.specs.btr_node.Leaf.{Item}
 use Rattle.btr_tree.specs.Counting.{node_bound, tree_nodes}
 use Rattle.btr_tree.specs.Roots.{lengths_of}
-use Rattle.convert_steps.specs.Standing.{rooted_trees as listed_of, no_trees}
-use Rattle.convert_steps.specs.declared.trees.VolumeTrees.{VolumeTrees}
+use Rattle.btr_tree.specs.declared.climb.Root.{Root}
+use Rattle.convert_steps.specs.Standing.{no_root, no_trees, placed_trees, told_roots}
+use Rattle.convert_steps.specs.declared.fields.NewRoots.{NewRoots}
+use Rattle.convert_steps.specs.declared.trees.PlacedTree.{PlacedTree}
 use Rattle.reiser_volume.specs.reiser_volume_objects.Keys.{root as root_key, same_key}
 use Rattle.reiser_volume.specs.Opened.{links_in}
 use Rattle.reiser_volume.specs.declared.volume.Volume.{Volume}
@@ -27,12 +29,12 @@ abbrev pub saved_in : Volume → ℕ
 saved_in volume = 2 + count_by (λ n. same_key n.dir root_key) (links_in volume)
 
 -- the items of the root tree that tells of these trees
-abbrev pub items_of_root : NodeForm → ℕ → ℕ → VolumeTrees → List Item
-items_of_root form index now t = root_items (listed_of t) index form.ids now form.nodesize
+abbrev pub items_of_root : NodeForm → ℕ → ℕ → List PlacedTree → Root → List Item
+items_of_root form index now placed extents = root_items (told_roots placed extents) index form.ids now form.nodesize
 
 -- how many nodes it has, wherever the trees begin
 abbrev pub root_count : NodeForm → ℕ → ℕ → ℕ
-root_count form index now = tree_nodes form.nodesize (lengths_of (items_of_root form index now no_trees))
+root_count form index now = tree_nodes form.nodesize (lengths_of (items_of_root form index now (placed_trees no_trees) no_root))
 
 -- How many slots suffice where the root tree has so many nodes: for those that are taken, for these nodes, and behind them for
 -- the bound of the extent tree's.
@@ -42,11 +44,12 @@ slots_needed nodesize taken count pieces chunks others =
 
 -- The root tree stands at the first slots that were not taken, and tells where all others begin. The extent tree stands
 -- behind it. It tells of all nodes, its own among them, and the bytes of all extents are told.
-pub record AddsLast (image : Image) (row : Trees) (index now : ℕ) (chunks : List PlannedChunk) (pieces : List Piece) (others : List TreeNode) (t : VolumeTrees) : Type 0 where
+pub record AddsLast (image : Image) (row : Trees) (index now : ℕ) (chunks : List PlannedChunk) (pieces : List Piece) (others : List TreeNode) (placed : List PlacedTree) (t : NewRoots) : Type 0 where
   pub nodes : List TreeNode
-  pub root : TreeStands image (read_form row.form) ROOT_TREE (take t.root.nodes (drop row.taken row.slots)) (items_of_root row.form index now t) t.root
-  pub extents : TreeStands image (read_form row.form) EXTENT_TREE (drop (row.taken + t.root.nodes) row.slots) (extent_items chunks pieces nodes row.form.nodesize) t.extents
+  pub extents_at : Root
+  pub root : TreeStands image (read_form row.form) ROOT_TREE (take t.root.nodes (drop row.taken row.slots)) (items_of_root row.form index now placed extents_at) t.root
+  pub extents : TreeStands image (read_form row.form) EXTENT_TREE (drop (row.taken + t.root.nodes) row.slots) (extent_items chunks pieces nodes row.form.nodesize) extents_at
   pub are_all : nodes ≡ merged_nodes
-      (merged_nodes (row.nodes ++ nodes_of_tree ROOT_TREE row.form.nodesize (lengths_of (items_of_root row.form index now t)) (drop row.taken row.slots)) others)
+      (merged_nodes (row.nodes ++ nodes_of_tree ROOT_TREE row.form.nodesize (lengths_of (items_of_root row.form index now placed extents_at)) (drop row.taken row.slots)) others)
       (nodes_of_tree EXTENT_TREE row.form.nodesize (lengths_of (extent_items chunks pieces nodes row.form.nodesize)) (drop (row.taken + t.root.nodes) row.slots))
   pub used : t.used ≡ sum_by (used_in pieces nodes row.form.nodesize) chunks

@@ -19,7 +19,9 @@ ghost use Rattle.unit_plan.specs.Chunks.{AreChunks, FitsVolume};
 ghost use Rattle.unit_plan.specs.Pieces.{ArePlaced};
 ghost use Rattle.unit_plan.specs.declared.chunk.PlannedChunk.{PlannedChunk as PlannedChunkOf};
 ghost use Rattle.convert_trees.specs.Sources.{FitsFiles, HasPlacedPieces, IsInPieces, IsLiveFiles, IsUsedBlock, pieces_end};
+ghost use Rattle.unit_plan.specs.Trees.{tree_number};
 ghost use Rattle.convert_trees.specs.Adding.{Adds};
+ghost use Rattle.convert_trees.specs.First.{first_items};
 
 use crate::sources::{FileItems, SumItems};
 use crate::writing::Writing;
@@ -31,10 +33,47 @@ use btrfs_format::object::{
 };
 use file_items::Items;
 use space_items::{checksums, chunks, devices};
-use unit_plan::PieceList;
+use unit_plan::{NewTree, PieceList};
+
+/// Writes one of the trees whose items are known before any other tree is written.
+pub fn write_new_tree<D: Disk, P: PieceList>(
+    row: &mut Trees,
+    disk: &mut D,
+    w: &Writing<'_, P>,
+    tree: NewTree,
+) -> Result<Root, WriteAnswer>
+    requires row { IsSlotRow row.old }
+    requires open { D.opened disk.old ≡ Some Access.Write }
+    requires in_range { All (λ a. a + row.old.form.nodesize ≤ 4096 * D.size disk.old) row.old.slots }
+    requires moment { w.now.time < 2 ^ 63 }
+    requires small { w.now.volume.now.sup.blocks ≤ 2 ^ 29 }
+    requires units { FitsVolume w.now.plan.now w.now.volume.now.sup.blocks }
+    requires pieces { ArePieces (P.pieces w.now.pieces.now) }
+    requires places { pieces_end (P.pieces w.now.pieces.now) ≤ D.size disk.old }
+    ensures row { OnOk result (IsSlotRow row.new) }
+    ensures same { (row.new.form ≡ row.old.form) × (row.new.slots ≡ row.old.slots) }
+    ensures taken { IfOk result (λ root. row.new.taken ≡ row.old.taken + root.nodes) }
+    ensures tree { OverTold D.tells (D.blocks disk.old) (λ other. (chunks : List PlannedChunkOf) → AreChunks w.now.plan.now w.now.volume.now.sup.blocks chunks → HasPlacedPieces w.now.volume.now (P.pieces w.now.pieces.now) other
+        → LieApart (IsUsedBlock w.now.volume.now) row.old.form.nodesize row.old.slots → LieApart (IsInPieces (P.pieces w.now.pieces.now)) row.old.form.nodesize row.old.slots
+        → AreWritable row.old.form.nodesize (drop row.old.taken row.old.slots) (first_items w.now.volume.now (P.pieces w.now.pieces.now) w.now.options.now w.now.form.ids w.now.time chunks other tree)
+        → MatchResult result (λ root. Adds (reads (D.history disk.new)) row.old row.new (tree_number tree) (first_items w.now.volume.now (P.pieces w.now.pieces.now) w.now.options.now w.now.form.ids w.now.time chunks other tree) root) IsFailure) }
+    ensures open { D.opened disk.new ≡ D.opened disk.old }
+    ensures size { D.size disk.new ≡ D.size disk.old }
+    ensures borrow { D.borrow disk.new ≡ D.borrow disk.old }
+    ensures only { IsTrue D.tells → WritesOnly (λ b _. IsInSlots row.old.form.nodesize (drop row.old.taken row.old.slots) b) (D.history disk.old) (D.history disk.new) }
+    ensures cause { HasCauseOf WriteAnswer.Fault (D.faults disk.old) (D.faults disk.new) result }
+{
+    match tree {
+        NewTree::Files => write_files(row, disk, w),
+        NewTree::SavedImage => write_image(row, disk, w),
+        NewTree::Relocation => write_relocation(row, disk, w),
+        NewTree::Checksums => write_sums(row, disk, w),
+        NewTree::Devices => write_devices(row, disk, w),
+    }
+}
 
 /// Writes the file tree. It is read off the used blocks of the volume.
-pub fn write_files<D: Disk, P: PieceList>(
+fn write_files<D: Disk, P: PieceList>(
     row: &mut Trees,
     disk: &mut D,
     w: &Writing<'_, P>,
@@ -58,7 +97,7 @@ pub fn write_files<D: Disk, P: PieceList>(
 }
 
 /// Writes the tree of the saved image.
-pub fn write_image<D: Disk, P: PieceList>(
+fn write_image<D: Disk, P: PieceList>(
     row: &mut Trees,
     disk: &mut D,
     w: &Writing<'_, P>,
@@ -83,7 +122,7 @@ pub fn write_image<D: Disk, P: PieceList>(
 }
 
 /// Writes the relocation tree.
-pub fn write_relocation<D: Disk, P: PieceList>(
+fn write_relocation<D: Disk, P: PieceList>(
     row: &mut Trees,
     disk: &mut D,
     w: &Writing<'_, P>,
@@ -139,7 +178,7 @@ fn write_file_tree<D: Disk, P: PieceList>(
 }
 
 /// Writes the tree of checksums. Where files have none, it is empty.
-pub fn write_sums<D: Disk, P: PieceList>(
+fn write_sums<D: Disk, P: PieceList>(
     row: &mut Trees,
     disk: &mut D,
     w: &Writing<'_, P>,
@@ -161,8 +200,7 @@ pub fn write_sums<D: Disk, P: PieceList>(
     ensures cause { HasCauseOf WriteAnswer.Fault (D.faults disk.old) (D.faults disk.new) result }
 {
     if !w.options.datasum {
-        let none = ItemList::new(w.alloc);
-        return row.write(w.alloc, disk, CSUM_TREE, &mut ListItems::new(&none));
+        return write_empty(row, disk, w, CSUM_TREE);
     }
     let mut items = SumItems {
         sums: checksums(w.alloc, w.pieces, w.options.sums)?,
@@ -171,8 +209,33 @@ pub fn write_sums<D: Disk, P: PieceList>(
     row.write(w.alloc, disk, CSUM_TREE, &mut items)
 }
 
+/// Writes the tree of this number without items.
+fn write_empty<D: Disk, P: PieceList>(
+    row: &mut Trees,
+    disk: &mut D,
+    w: &Writing<'_, P>,
+    number: u64,
+) -> Result<Root, WriteAnswer>
+    requires row { IsSlotRow row.old }
+    requires open { D.opened disk.old ≡ Some Access.Write }
+    requires in_range { All (λ a. a + row.old.form.nodesize ≤ 4096 * D.size disk.old) row.old.slots }
+    ensures row { OnOk result (IsSlotRow row.new) }
+    ensures same { (row.new.form ≡ row.old.form) × (row.new.slots ≡ row.old.slots) }
+    ensures taken { IfOk result (λ root. row.new.taken ≡ row.old.taken + root.nodes) }
+    ensures tree { OverTold D.tells (D.blocks disk.old) (λ other. (none : List Item) → [] ≡ none → AreWritable row.old.form.nodesize (drop row.old.taken row.old.slots) none
+        → MatchResult result (λ root. Adds (reads (D.history disk.new)) row.old row.new number none root) IsFailure) }
+    ensures open { D.opened disk.new ≡ D.opened disk.old }
+    ensures size { D.size disk.new ≡ D.size disk.old }
+    ensures borrow { D.borrow disk.new ≡ D.borrow disk.old }
+    ensures only { IsTrue D.tells → WritesOnly (λ b _. IsInSlots row.old.form.nodesize (drop row.old.taken row.old.slots) b) (D.history disk.old) (D.history disk.new) }
+    ensures cause { HasCauseOf WriteAnswer.Fault (D.faults disk.old) (D.faults disk.new) result }
+{
+    let none = ItemList::new(w.alloc);
+    row.write(w.alloc, disk, number, &mut ListItems::new(&none))
+}
+
 /// Writes the device tree.
-pub fn write_devices<D: Disk, P: PieceList>(
+fn write_devices<D: Disk, P: PieceList>(
     row: &mut Trees,
     disk: &mut D,
     w: &Writing<'_, P>,

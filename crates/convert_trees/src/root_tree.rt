@@ -1,5 +1,5 @@
 // The root tree, which tells where each tree begins, and the slots that are kept for it.
-ghost use Rattle.std.specs.Prelude.{◌≡◌, ◌≤◌, ◌<◌, ◌+◌, ◌*◌, ◌^◌, ◌⊎◌, ◌++◌, List, Some, All, drop, length, take, IsTrue, IfOk, IfErr, OnOk};
+ghost use Rattle.std.specs.Prelude.{◌≡◌, ◌≤◌, ◌<◌, ◌+◌, ◌*◌, ◌^◌, ◌⊎◌, ◌++◌, List, Some, All, drop, length, map, take, IsTrue, IfOk, IfErr, OnOk};
 ghost use Rattle.std.specs.Result.{MatchResult};
 ghost use Rattle.btr_tree.specs.outside.Fault.{HasCauseOf};
 ghost use Rattle.btr_tree.specs.outside.History.{Image, reads, WritesOnly};
@@ -17,15 +17,16 @@ ghost use Rattle.btr_tree_writer.specs.Row.{IsSlotRow};
 ghost use Rattle.unit_plan.specs.Chunks.{AreChunks, FitsVolume};
 ghost use Rattle.unit_plan.specs.declared.chunk.PlannedChunk.{PlannedChunk as PlannedChunkOf};
 ghost use Rattle.convert_trees.specs.RootTree.{AddsLast, root_count, saved_in, slots_needed};
-ghost use Rattle.convert_trees.specs.Roots.{AreFew, listed};
+ghost use Rattle.unit_plan.specs.Trees.{new_trees};
+ghost use Rattle.convert_steps.specs.Standing.{told_roots};
 
-use crate::last::{WrittenExtents, write_extents};
-use crate::roots::{FirstRoots, counted, root_list, saved_index};
+use crate::last::write_extents;
+use crate::roots::{counted, root_list, saved_index};
 use crate::writing::Writing;
 use btr_tree::{Access, Disk, Memory, Root, Slots};
 use btr_tree_writer::{ListItems, Trees, WriteAnswer, write_tree};
 use btrfs_format::object::ROOT_TREE;
-use convert_steps::VolumeTrees;
+use convert_steps::{NewRoots, PlacedTrees};
 use space_items::NodeList;
 use std::alloc::Global;
 use unit_plan::PieceList;
@@ -36,9 +37,9 @@ pub fn write_last<D: Disk, P: PieceList>(
     disk: &mut D,
     w: &Writing<'_, P>,
     chunk: Root,
-    first: FirstRoots,
+    placed: &PlacedTrees,
     chunk_nodes: &NodeList,
-) -> Result<VolumeTrees, WriteAnswer>
+) -> Result<NewRoots, WriteAnswer>
     requires row { IsSlotRow row.old }
     requires form { row.old.form ≡ w.now.form }
     requires ids { AreIds w.now.form.ids }
@@ -50,11 +51,12 @@ pub fn write_last<D: Disk, P: PieceList>(
     requires pieces { ArePieces (P.pieces w.now.pieces.now) }
     requires nodes { AreNodes chunk_nodes.now }
     requires few { length chunk_nodes.now < 2 ^ 43 }
-    requires roots { (extents : RootOf) → extents.nodes < 2 ^ 43 → AreFew first extents }
-    ensures same { IfOk result (λ t. (t.chunk ≡ chunk) × (t.files ≡ first.files) × (t.image ≡ first.image) × (t.relocation ≡ first.relocation) × (t.sums ≡ first.sums) × (t.device ≡ first.device)) }
+    requires placed { map (λ p. p.tree) placed.now ≡ new_trees }
+    requires roots { All (λ p. p.root.nodes < 2 ^ 43) placed.now }
+    ensures same { IfOk result (λ t. t.chunk ≡ chunk) }
     ensures trees { IsTrue D.tells → (opened : Image) → IsOpened w.now.volume.now opened → (chunks : List PlannedChunkOf) → AreChunks w.now.plan.now w.now.volume.now.sup.blocks chunks
         → slots_needed row.old.form.nodesize row.old.taken (root_count row.old.form (saved_in w.now.volume.now) w.now.time) (length (P.pieces w.now.pieces.now)) (length chunks) (length chunk_nodes.now) ≤ length row.old.slots
-        → MatchResult result (λ t. AddsLast (reads (D.history disk.new)) row.old (saved_in w.now.volume.now) w.now.time chunks (P.pieces w.now.pieces.now) chunk_nodes.now t) IsFailure }
+        → MatchResult result (AddsLast (reads (D.history disk.new)) row.old (saved_in w.now.volume.now) w.now.time chunks (P.pieces w.now.pieces.now) chunk_nodes.now placed.now) IsFailure }
     ensures open { D.opened disk.new ≡ D.opened disk.old }
     ensures size { D.size disk.new ≡ D.size disk.old }
     ensures borrow { D.borrow disk.new ≡ D.borrow disk.old }
@@ -62,9 +64,9 @@ pub fn write_last<D: Disk, P: PieceList>(
     ensures cause { HasCauseOf WriteAnswer.Fault (D.faults disk.old) (D.faults disk.new) result }
 {
     let index = saved_index(w.volume);
-    let slots = keep_roots(row, w, first, index)?;
+    let slots = keep_roots(row, w, placed, index)?;
     let written = write_extents(row, disk, w, chunk_nodes)?;
-    let list = root_list(w, first, written.root, index)?;
+    let list = root_list(w, placed, written.root, index)?;
     let tree = write_tree(
         w.alloc,
         disk,
@@ -73,35 +75,40 @@ pub fn write_last<D: Disk, P: PieceList>(
         slots,
         &mut ListItems::new(&list),
     )?;
-    Ok(all_trees(chunk, first, written, tree.root))
+    Ok(NewRoots {
+        chunk,
+        root: tree.root,
+        used: written.used,
+    })
 }
 
 /// Takes slots for the nodes of the root tree, and gives them. It has as many nodes whatever the roots in its items are.
 fn keep_roots<P: PieceList>(
     row: &mut Trees,
     w: &Writing<'_, P>,
-    first: FirstRoots,
+    placed: &PlacedTrees,
     index: u64,
 ) -> Result<Slots, WriteAnswer>
     requires row { IsSlotRow row.old }
     requires form { row.old.form ≡ w.now.form }
     requires ids { AreIds w.now.form.ids }
     requires moment { w.now.time < 2 ^ 63 }
-    requires few { (extents : RootOf) → extents.nodes ≡ 0 → AreFew first extents }
+    requires placed { map (λ p. p.tree) placed.now ≡ new_trees }
+    requires few { All (λ p. p.root.nodes < 2 ^ 43) placed.now }
     ensures row { OnOk result (IsSlotRow row.new) }
     ensures same { (row.new.form ≡ row.old.form) × (row.new.slots ≡ row.old.slots) }
-    ensures slots { (extents : RootOf) → IfOk result (λ slots. slots ≡ take (tree_nodes w.now.form.nodesize (lengths_of (root_items (listed first extents) index w.now.form.ids w.now.time w.now.form.nodesize))) (drop row.old.taken row.old.slots)) }
+    ensures slots { (extents : RootOf) → IfOk result (λ slots. slots ≡ take (tree_nodes w.now.form.nodesize (lengths_of (root_items (told_roots placed.now extents) index w.now.form.ids w.now.time w.now.form.nodesize))) (drop row.old.taken row.old.slots)) }
     ensures taken { IfOk result (λ slots. row.new.taken ≡ row.old.taken + length slots) }
-    ensures nodes { (extents : RootOf) → OnOk result (row.new.nodes ≡ row.old.nodes ++ nodes_of_tree ROOT_TREE w.now.form.nodesize (lengths_of (root_items (listed first extents) index w.now.form.ids w.now.time w.now.form.nodesize)) (drop row.old.taken row.old.slots)) }
+    ensures nodes { (extents : RootOf) → OnOk result (row.new.nodes ≡ row.old.nodes ++ nodes_of_tree ROOT_TREE w.now.form.nodesize (lengths_of (root_items (told_roots placed.now extents) index w.now.form.ids w.now.time w.now.form.nodesize)) (drop row.old.taken row.old.slots)) }
     ensures answers { IfErr result (λ e. (e ≡ WriteAnswer.Misfit) ⊎ (e ≡ WriteAnswer.Memory)) }
-    ensures misfit { (extents : RootOf) → row.old.taken + tree_nodes w.now.form.nodesize (lengths_of (root_items (listed first extents) index w.now.form.ids w.now.time w.now.form.nodesize)) ≤ length row.old.slots → IfErr result (λ e. e ≡ WriteAnswer.Memory) }
+    ensures misfit { (extents : RootOf) → row.old.taken + tree_nodes w.now.form.nodesize (lengths_of (root_items (told_roots placed.now extents) index w.now.form.ids w.now.time w.now.form.nodesize)) ≤ length row.old.slots → IfErr result (λ e. e ≡ WriteAnswer.Memory) }
 {
     let none = Root {
         address: 0,
         level: 0,
         nodes: 0,
     };
-    let list = root_list(w, first, none, index)?;
+    let list = root_list(w, placed, none, index)?;
     let from = row.taken();
     row.take(&counted(&list, w.form.nodesize), ROOT_TREE)?;
     let rest = row.slots_from(w.alloc, from)?;
@@ -118,21 +125,4 @@ fn first_slots(alloc: Global, slots: &Slots, count: usize) -> Result<Slots, Memo
         first.add(slot)?;
     }
     Ok(first)
-}
-
-/// All trees that were written.
-fn all_trees(chunk: Root, first: FirstRoots, extents: WrittenExtents, root: Root) -> VolumeTrees
-    ensures { result ≡ record { chunk = chunk; files = first.files; image = first.image; relocation = first.relocation; sums = first.sums; device = first.device; root = root; extents = extents.root; used = extents.used } }
-{
-    VolumeTrees {
-        chunk,
-        files: first.files,
-        image: first.image,
-        relocation: first.relocation,
-        sums: first.sums,
-        device: first.device,
-        root,
-        extents: extents.root,
-        used: extents.used,
-    }
 }

@@ -1,5 +1,5 @@
 // The items of the root tree.
-ghost use Rattle.std.specs.Prelude.{◌≡◌, ◌<◌, ◌≤◌, ◌+◌, ◌^◌, ◌++◌, ◌∷◌, [], All, count_by, length, IfOk, OnOk};
+ghost use Rattle.std.specs.Prelude.{◌≡◌, ◌&&◌, nat_lt, ◌<◌, ◌≤◌, ◌+◌, ◌^◌, ◌++◌, ◌∷◌, [], All, count_by, if◌then◌else◌, length, List, map, IfOk, OnOk};
 ghost use Rattle.btr_tree.specs.outside.History.{Image};
 ghost use Rattle.btr_tree.specs.btr_node.NodeSize.{IsNodeSize};
 ghost use Rattle.btr_tree.specs.Counting.{Counted};
@@ -7,53 +7,98 @@ ghost use Rattle.btr_tree.specs.Roots.{lengths_of};
 ghost use Rattle.reiser_volume.specs.reiser_volume_objects.Keys.{root, same_key};
 ghost use Rattle.reiser_volume.specs.Opened.{IsOpened, links_in};
 ghost use Rattle.space_items.specs.Roots.{root_items};
-ghost use Rattle.convert_trees.specs.Roots.{AreFew, listed};
+ghost use Rattle.space_items.specs.declared.node.TreeRoot.{TreeRoot as TreeRootOf};
+ghost use Rattle.unit_plan.specs.Trees.{new_trees};
+ghost use Rattle.convert_steps.specs.Row.{inserted};
+ghost use Rattle.convert_steps.specs.Standing.{told_roots};
+ghost use Rattle.convert_trees.specs.Roots.{AreFew};
 
 use crate::writing::Writing;
 use btr_item_list::ItemList;
 use btr_tree::{Counter, Memory, Root};
-use btrfs_format::object::DATA_RELOC_TREE;
+use btrfs_format::object::EXTENT_TREE;
+use convert_steps::{PlacedTree, PlacedTrees};
 use reiser_volume::{InodeNumbers, Volume};
 use space_items::{RootList, TreeRoot, roots};
+use std::alloc::Global;
 use unit_plan::PieceList;
-
-/// The roots of the trees that are written first.
-#[derive(Clone, Copy)]
-pub struct FirstRoots {
-    pub files: Root,
-    pub image: Root,
-    pub relocation: Root,
-    pub sums: Root,
-    pub device: Root,
-}
 
 /// The items of the root tree, where the extent tree begins at this root.
 pub fn root_list<P: PieceList>(
     w: &Writing<'_, P>,
-    first: FirstRoots,
+    placed: &PlacedTrees,
     extents: Root,
     index: u64,
 ) -> Result<ItemList, Memory>
     requires moment { w.now.time < 2 ^ 63 }
     requires size { IsNodeSize w.now.form.nodesize }
-    requires few { AreFew first extents }
-    ensures { IfOk result (λ items. items ≡ root_items (listed first extents) index w.now.form.ids w.now.time w.now.form.nodesize) }
+    requires trees { map (λ p. p.tree) placed.now ≡ new_trees }
+    requires few { AreFew placed.now extents }
+    ensures { IfOk result (λ items. items ≡ root_items (told_roots placed.now extents) index w.now.form.ids w.now.time w.now.form.nodesize) }
 {
-    let mut list = RootList::new(w.alloc);
-    add_root(&mut list, 2, extents)?;
-    add_root(&mut list, 4, first.device)?;
-    add_root(&mut list, 5, first.files)?;
-    add_root(&mut list, 7, first.sums)?;
-    add_root(&mut list, 256, first.image)?;
-    add_root(&mut list, DATA_RELOC_TREE, first.relocation)?;
+    let list = told_roots(w.alloc, placed.as_slice(), extents)?;
     roots(w.alloc, &list, index, &w.form.ids, w.time, w.form.nodesize)
 }
 
-/// Appends the root of a tree.
-fn add_root(list: &mut RootList, tree: u64, root: Root) -> Result<(), Memory>
-    ensures { OnOk result (list.new ≡ list.old ++ record { tree = tree; root = root } ∷ []) }
+/// The extent tree and these trees, by their numbers.
+fn told_roots(alloc: Global, placed: &[PlacedTree], extents: Root) -> Result<RootList, Memory>
+    ensures { IfOk result (λ list. list ≡ told_roots placed.now extents) }
 {
-    list.add(TreeRoot { tree, root })
+    let mut list = RootList::new(alloc);
+    list.add(TreeRoot {
+        tree: EXTENT_TREE,
+        root: extents,
+    })?;
+    for one in placed {
+        let root = TreeRoot {
+            tree: one.tree.number(),
+            root: one.root,
+        };
+        list = with_root(alloc, list.as_slice(), root)?;
+    }
+    Ok(list)
+}
+
+/// A list that ascends by numbers, with one root more.
+fn with_root(alloc: Global, roots: &[TreeRoot], root: TreeRoot) -> Result<RootList, Memory>
+    ensures { IfOk result (λ list. list ≡ inserted (λ t. t.tree) root roots.now) }
+{
+    let mut list = RootList::new(alloc);
+    let mut waits = true;
+    for other in roots {
+        waits = add_in_order(&mut list, root, waits, *other)?;
+    }
+    if !waits {
+        return Ok(list);
+    }
+    list.add(root)?;
+    Ok(list)
+}
+
+/// Appends `other`, and `root` before it where that waits and has the lower number. Tells whether it still waits.
+fn add_in_order(
+    list: &mut RootList,
+    root: TreeRoot,
+    waits: bool,
+    other: TreeRoot,
+) -> Result<bool, Memory>
+    ensures { (rest : List TreeRootOf) → IfOk result (λ still. list.new ++ (if still then inserted (λ t. t.tree) root rest else rest)
+        ≡ list.old ++ (if waits then inserted (λ t. t.tree) root (other ∷ rest) else other ∷ rest)) }
+{
+    if comes_first(waits, root.tree, other.tree) {
+        list.add(root)?;
+        list.add(other)?;
+        return Ok(false);
+    }
+    list.add(other)?;
+    Ok(waits)
+}
+
+/// Whether a root waits, and its number is below another.
+fn comes_first(waits: bool, number: u64, other: u64) -> bool
+    ensures { result ≡ (waits && nat_lt number other) }
+{
+    waits && number < other
 }
 
 /// The index of the root's entry for the tree of the saved image: it is the root's last.

@@ -1,4 +1,4 @@
-ghost use Rattle.std.specs.Prelude.{◌≡◌, ◌≤◌, ◌<◌, ◌+◌, ◌*◌, ◌^◌, ◌⊎◌, [], List, Some, All, AllPairs, drop, length, IsTrue, IfOk, IfErr, OnOk};
+ghost use Rattle.std.specs.Prelude.{◌≡◌, ◌≤◌, ◌<◌, ◌+◌, ◌*◌, ◌^◌, ◌⊎◌, [], List, Some, All, AllPairs, drop, length, map, IsTrue, IfOk, IfErr, OnOk};
 ghost use Rattle.std.specs.Result.{MatchResult};
 ghost use Rattle.btr_tree.specs.outside.Fault.{HasCauseOf};
 ghost use Rattle.btr_tree.specs.outside.History.{Image, reads, OverTold, WritesOnly};
@@ -16,23 +16,21 @@ ghost use Rattle.unit_plan.specs.Laws.{IsSoundPlan};
 ghost use Rattle.unit_plan.specs.Places.{node_places};
 ghost use Rattle.unit_plan.specs.declared.chunk.PlannedChunk.{PlannedChunk as PlannedChunkOf};
 ghost use Rattle.unit_plan.specs.declared.need.Need.{Need as NeedOf};
-ghost use Rattle.convert_trees.specs.First.{AddsFirst, FitFirst, first_items};
+ghost use Rattle.convert_trees.specs.First.{AddsRow, FitRow, first_items};
 ghost use Rattle.convert_trees.specs.Sources.{HasPlacedPieces, IsInPieces, IsUsedBlock, pieces_end};
-ghost use Rattle.convert_steps.specs.Standing.{AllFit, HasTrees, IsFor, SameVolume, used_bytes};
+ghost use Rattle.convert_steps.specs.Row.{slot_behind};
+ghost use Rattle.convert_steps.specs.Standing.{AllFit, IsFor, SameVolume, TreeRoots, TreesStand, roots_told};
 
-use crate::first::{
-    write_chunks, write_devices, write_files, write_image, write_relocation, write_sums,
-};
+use crate::first::{write_chunks, write_new_tree};
 use crate::root_tree::write_last;
-use crate::roots::FirstRoots;
 use crate::writing::Writing;
 use btr_tree::{Access, Disk, Ids};
 use btr_tree_writer::{NodeForm, Trees, WriteAnswer};
 use convert_options::Options;
-use convert_steps::VolumeTrees;
+use convert_steps::{NewRoots, PlacedTree, PlacedTrees};
 use reiser_volume::Volume;
 use std::alloc::Global;
-use unit_plan::{PieceList, Plan, Units, slots_of};
+use unit_plan::{NewTree, PieceList, Plan, Units, new_trees, slots_of};
 
 /// Writes all trees of a converted volume: the chunk tree to the plan's units for it, and all others to those for metadata.
 /// `ids` are those of the new volume, and `now` is the time of the conversion in seconds since the start of 1970, below 2^63.
@@ -48,7 +46,7 @@ pub fn write_trees<D: Disk, P: PieceList>(
     options: &Options,
     ids: &Ids,
     now: u64,
-) -> Result<VolumeTrees, WriteAnswer>
+) -> Result<NewRoots, WriteAnswer>
     requires size { IsNodeSize options.now.nodesize }
     requires small { volume.now.sup.blocks ≤ 2 ^ 29 }
     requires inside { volume.now.sup.blocks ≤ D.size disk.old }
@@ -61,7 +59,7 @@ pub fn write_trees<D: Disk, P: PieceList>(
     requires open { D.opened disk.old ≡ Some Access.Write }
     ensures trees { OverTold D.tells (D.blocks disk.old) (λ other. (image : Image) (m : MakingOf) → IsMaking image m → IsFor m volume.now options.now ids.now now plan.now (P.pieces pieces.now)
         → SameVolume image other → AllFit image other m
-        → MatchResult result (λ t. (nodes : List NodeOf) × HasTrees image other (reads (D.history disk.new)) m t nodes × (t.used ≡ used_bytes m nodes)) IsFailure) }
+        → MatchResult result (λ t. (r : TreeRoots) × (nodes : List NodeOf) × TreesStand image other (reads (D.history disk.new)) m r nodes × (t ≡ roots_told m r nodes)) IsFailure) }
     ensures open { D.opened disk.new ≡ D.opened disk.old }
     ensures size { D.size disk.new ≡ D.size disk.old }
     ensures borrow { D.borrow disk.new ≡ D.borrow disk.old }
@@ -87,8 +85,8 @@ pub fn write_trees<D: Disk, P: PieceList>(
     let mut chunk_row = row_of(&w, &plan.system)?;
     let chunk = write_chunks(&mut chunk_row, disk, &w)?;
     let mut row = row_of(&w, &plan.metadata)?;
-    let first = write_first(&mut row, disk, &w)?;
-    write_last(&mut row, disk, &w, chunk, first, chunk_row.nodes())
+    let placed = write_row(&mut row, disk, &w, &new_trees())?;
+    write_last(&mut row, disk, &w, chunk, &placed, chunk_row.nodes())
 }
 
 /// Identifiers have 16 bytes each. It does nothing: callers learn it by the contract.
@@ -113,12 +111,13 @@ fn row_of<P: PieceList>(w: &Writing<'_, P>, units: &Units) -> Result<Trees, Writ
     Ok(Trees::new(w.alloc, w.form, slots))
 }
 
-/// Writes the trees whose items are known before any other is written, one behind the other.
-fn write_first<D: Disk, P: PieceList>(
+/// Writes trees whose items are known before any other is written, one behind the other.
+fn write_row<D: Disk, P: PieceList>(
     row: &mut Trees,
     disk: &mut D,
     w: &Writing<'_, P>,
-) -> Result<FirstRoots, WriteAnswer>
+    trees: &[NewTree],
+) -> Result<PlacedTrees, WriteAnswer>
     requires row { IsSlotRow row.old }
     requires open { D.opened disk.old ≡ Some Access.Write }
     requires in_range { All (λ a. a + row.old.form.nodesize ≤ 4096 * D.size disk.old) row.old.slots }
@@ -129,27 +128,22 @@ fn write_first<D: Disk, P: PieceList>(
     requires places { pieces_end (P.pieces w.now.pieces.now) ≤ D.size disk.old }
     ensures row { OnOk result (IsSlotRow row.new) }
     ensures same { (row.new.form ≡ row.old.form) × (row.new.slots ≡ row.old.slots) }
-    ensures taken { IfOk result (λ r. row.new.taken ≡ row.old.taken + r.files.nodes + r.image.nodes + r.relocation.nodes + r.sums.nodes + r.device.nodes) }
-    ensures tree { OverTold D.tells (D.blocks disk.old) (λ other. (chunks : List PlannedChunkOf) → AreChunks w.now.plan.now w.now.volume.now.sup.blocks chunks → HasPlacedPieces w.now.volume.now (P.pieces w.now.pieces.now) other
+    ensures trees { IfOk result (λ placed. map (λ p. p.tree) placed ≡ trees.now) }
+    ensures taken { IfOk result (λ placed. row.new.taken ≡ slot_behind row.old.taken placed) }
+    ensures stand { OverTold D.tells (D.blocks disk.old) (λ other. (chunks : List PlannedChunkOf) → AreChunks w.now.plan.now w.now.volume.now.sup.blocks chunks → HasPlacedPieces w.now.volume.now (P.pieces w.now.pieces.now) other
         → LieApart (IsUsedBlock w.now.volume.now) row.old.form.nodesize row.old.slots → LieApart (IsInPieces (P.pieces w.now.pieces.now)) row.old.form.nodesize row.old.slots
-        → FitFirst row.old (first_items w.now.volume.now (P.pieces w.now.pieces.now) w.now.options.now w.now.form.ids w.now.time chunks other)
-        → MatchResult result (λ r. AddsFirst (reads (D.history disk.new)) row.old row.new (first_items w.now.volume.now (P.pieces w.now.pieces.now) w.now.options.now w.now.form.ids w.now.time chunks other) r) IsFailure) }
+        → FitRow row.old (first_items w.now.volume.now (P.pieces w.now.pieces.now) w.now.options.now w.now.form.ids w.now.time chunks other) trees.now
+        → MatchResult result (AddsRow (reads (D.history disk.new)) row.old row.new (first_items w.now.volume.now (P.pieces w.now.pieces.now) w.now.options.now w.now.form.ids w.now.time chunks other)) IsFailure) }
     ensures open { D.opened disk.new ≡ D.opened disk.old }
     ensures size { D.size disk.new ≡ D.size disk.old }
     ensures borrow { D.borrow disk.new ≡ D.borrow disk.old }
     ensures only { IsTrue D.tells → WritesOnly (λ b _. IsInSlots row.old.form.nodesize (drop row.old.taken row.old.slots) b) (D.history disk.old) (D.history disk.new) }
     ensures cause { HasCauseOf WriteAnswer.Fault (D.faults disk.old) (D.faults disk.new) result }
 {
-    let files = write_files(row, disk, w)?;
-    let image = write_image(row, disk, w)?;
-    let relocation = write_relocation(row, disk, w)?;
-    let sums = write_sums(row, disk, w)?;
-    let device = write_devices(row, disk, w)?;
-    Ok(FirstRoots {
-        files,
-        image,
-        relocation,
-        sums,
-        device,
-    })
+    let mut placed = PlacedTrees::new(w.alloc);
+    for tree in trees {
+        let root = write_new_tree(row, disk, w, *tree)?;
+        placed.add(PlacedTree { tree: *tree, root })?;
+    }
+    Ok(placed)
 }

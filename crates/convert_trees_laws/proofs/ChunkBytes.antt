@@ -1,5 +1,6 @@
 -- The chunk tree, the device tree and the root tree take no more than was counted.
-use Rattle.convert_trees_laws.proofs.Imports.{◌≤◌, ◌<◌, ℕ, List, [], ◌++◌, length, length-append, map, arith, AllPairs, length-map, DEV_ITEM, DEV_ITEMS_OBJECTID, CHUNK_BYTES, DEV_EXTENT_BYTES, ROOT_TREE_ROOM, Item, make_key, chunk_tree_bytes, device_tree_bytes, PlannedChunk, chunk_item, chunk_items, dev_extent_item, device_body, device_items, AreIds, TreeRoot, bytes_in}
+use Rattle.convert_trees_laws.proofs.Imports.{◌≤◌, ◌<◌, ℕ, List, [], ◌++◌, length, length-append, map, arith, AllPairs, length-map, DEV_ITEM, DEV_ITEMS_OBJECTID, CHUNK_BYTES, DEV_EXTENT_BYTES, ROOT_TREE_ROOM, Item, make_key, chunk_tree_bytes, device_tree_bytes, PlannedChunk, chunk_item, chunk_items, dev_extent_item, device_body, device_items, AreIds, bytes_in, root_items_fit}
+use Rattle.convert_steps.specs.space_items.declared.node.TreeRoot.{TreeRoot}
 use Rattle.btr_reader.specs.vol_block.declared.ids.Ids.{Ids}
 use Rattle.btr_reader.specs.btr_space_items.Chunk.{chunk_layout}
 use Rattle.btr_reader.specs.btr_space_items.DevExtent.{dev_extent_layout}
@@ -8,7 +9,6 @@ use Rattle.btr_reader.specs.btr_space_items.Stripe.{stripe_layout}
 use Rattle.convert_steps.specs.space_items.Merging.{item_cmp}
 use Rattle.convert_steps.specs.space_items.Roots.{other_root_items, tree_root_item, root_items}
 use Rattle.convert_steps.proofs.space_items.Merges.{length-merge}
-use Rattle.convert_steps.proofs.space_items.Ordered.{root_items_fit}
 use Rattle.convert_trees_laws.proofs.ItemBytes.{bytes-cons, bytes-map, bytes-short, sum-same}
 
 -- ---- chunks
@@ -41,8 +41,8 @@ chunks_counted ids blocks chunks most are few =
 
 -- ---- roots
 
--- eleven items, of 439 bytes at most
-pub roots_counted : (list : List TreeRoot) (index : ℕ) (ids : Ids) (now nodesize : ℕ) → AreIds ids → AllPairs (λ r s. r.tree < s.tree) list → length list ≤ 6
+-- seventeen items at most, of 439 bytes at most
+pub roots_counted : (list : List TreeRoot) (index : ℕ) (ids : Ids) (now nodesize : ℕ) → AreIds ids → AllPairs (λ r s. r.tree < s.tree) list → length list ≤ 12
     → bytes_in (root_items list index ids now nodesize) ≤ ROOT_TREE_ROOM
 roots_counted list index ids now nodesize are ascend few =
     let roots : List Item = map (tree_root_item ids nodesize) list in

@@ -4,7 +4,7 @@ pub use Rattle.std.proofs.lemmas.Bool.{and_from, and_parts, both_ways, cases_Boo
 pub use Rattle.std.proofs.lemmas.Bool.Decides.{nat_tests}
 pub use Rattle.std.proofs.lemmas.Grind.{div_ceil_times}
 pub use Rattle.std.proofs.lemmas.List.{append-nil, get_or-drop, get_or-take, length-drop, length-map, length-take, length_push, map-append}
-pub use Rattle.std.proofs.lemmas.List.Elements.{All-append, All-contains, All-from_recursion, All-head, All-tail, Contains-append_cases, Contains-append_left, Contains-append_right, Contains-get_or, filter-append}
+pub use Rattle.std.proofs.lemmas.List.Elements.{All-append, All-contains, All-from_recursion, All-head, All-nil, All-tail, Contains-append_cases, Contains-append_left, Contains-append_right, Contains-get_or, filter-append}
 pub use Rattle.std.proofs.lemmas.List.FromFn.{length-range_with_len}
 pub use Rattle.std.proofs.lemmas.List.Sorted.{Contains-permutation, IsPermutation-sym, length_permutation, sum_by-IsPermutation}
 pub use Rattle.std.proofs.lemmas.List.Sums.{AllPass-from_list_all, sum_by-append, sum_by-cons, sum_by-le, sum_by-le-sum_by, sum_by-take-drop, sum_by_push, take_while-cons}
@@ -15,7 +15,7 @@ unfoldable pub use Rattle.std.specs.List.{IsDistinct}
 pub use Rattle.std.specs.List.Sorted.{IsPermutation}
 pub use Rattle.std.specs.Option.{option_map, option_map_or, option_or}
 pub use Rattle.std.specs.Ordering.{is_lt, nat_cmp, ordering_then}
-pub use Rattle.std.specs.Prelude.{All, AllPairs, slice_get, unwrap_or}
+pub use Rattle.std.specs.Prelude.{All, AllPairs, MatchOption, slice_get, unwrap_or}
 pub use Rattle.btr_reader.proofs.btr_keys.Records.{dir_items_read_back, inodes_read_back}
 pub use Rattle.btr_reader.proofs.fs_paths.Counts.{sum_split, sum_zero}
 pub use Rattle.btr_reader.proofs.fs_paths.Lists.{at_head, from_filter, from_flat_map, from_map, head_or_tail, in_filter, in_flat_map, in_map, in_tail}
@@ -51,7 +51,7 @@ pub use Rattle.btr_reader.specs.fs_rows.declared.row.Kind.{Kind}
 pub use Rattle.btr_reader.specs.fs_rows.declared.row.Kind.TheVariants.{Block, Character, Directory, Fifo, File, Socket, Subvolume, Symlink}
 pub use Rattle.btr_reader.specs.outside.History.{Image, block_at}
 pub use Rattle.btrfs_format.specs.declared.key.TheConstants.{DEV_ITEM, DIR_INDEX, DIR_ITEM, EXTENT_DATA, INODE_EXTREF, INODE_ITEM, INODE_REF, ROOT_ITEM}
-pub use Rattle.btrfs_format.specs.declared.object.TheConstants.{CONV_IMAGE_SUBVOL, CSUM_TREE, DATA_RELOC_TREE, DEV_ITEMS_OBJECTID, DEV_TREE, EXTENT_TREE, FIRST_FREE_OBJECTID, FS_TREE}
+pub use Rattle.btrfs_format.specs.declared.object.TheConstants.{CONV_IMAGE_SUBVOL, DEV_ITEMS_OBJECTID, FIRST_FREE_OBJECTID}
 pub use Rattle.btrfs_format.specs.declared.size.TheConstants.{DIR_ITEM_SIZE, INODE_EXTREF_SIZE, INODE_REF_SIZE, ITEM_SIZE}
 pub use Rattle.convert_steps.proofs.btr_item_list.Grouping.{Above, Rising, of_number_grouped, other, rising_grouped, same_test}
 pub use Rattle.convert_steps.proofs.btr_item_list.Sorting.{Sorted, ascending_filter, ascending_sorted, ascending_sum}
@@ -70,11 +70,12 @@ pub use Rattle.convert_steps.proofs.reiser_volume.Bounds.{accepted_is_small}
 pub use Rattle.convert_steps.proofs.reiser_volume.Holding.{used_length}
 pub use Rattle.convert_steps.proofs.reiser_volume_names.Uniqueness.{count_one, extended_one, flips, links_one}
 pub use Rattle.convert_steps.proofs.reiser_volume_objects.Tables.{same_key-self, same_key-true}
+pub use Rattle.convert_steps.proofs.space_items.Ordered.{chunk_items_fit, root_items_fit}
 pub use Rattle.convert_steps.proofs.space_items.OwnBound.{bound_up}
 pub use Rattle.convert_steps.proofs.unit_plan.Sound.{plans_sound}
 pub use Rattle.convert_steps.specs.Making.{IsMaking, Making, chunk_slots, new_ids, saved_index, slots}
 pub use Rattle.convert_steps.specs.Source.{ComesFrom, HasExtents, HasPieces, in_piece, made_from}
-pub use Rattle.convert_steps.specs.Standing.{AllFit, chunk_count, file_tree_items, image_tree_items, no_trees, nodes_for, other_count, own_count, root_tree_items, rooted_trees, sum_tree_items}
+pub use Rattle.convert_steps.specs.Standing.{AllFit, chunk_count, no_trees, nodes_for, other_count, own_count, placed_trees, root_tree_items, rooted_trees}
 pub use Rattle.convert_steps.specs.btr_item_list.Extents.{extent_item, inline_extent, regular_extent}
 pub use Rattle.convert_steps.specs.btr_item_list.Groups.{ascending, grouped, in_group, of_number}
 pub use Rattle.convert_steps.specs.btr_item_list.Inodes.{inode_item, inode_made, ref_item, stamp_of}
@@ -125,13 +126,14 @@ pub use Rattle.convert_steps.specs.reiser_volume_objects.declared.naming.Naming.
 pub use Rattle.convert_steps.specs.reiser_volume_objects.declared.stat.ObjectStat.{ObjectStat}
 pub use Rattle.convert_steps.specs.reiser_walk.Items.{Event, ReiserItem, item_at, item_of}
 pub use Rattle.convert_steps.specs.space_items.Chunks.{chunk_item, chunk_items, dev_extent_item, device_body, device_items}
-pub use Rattle.convert_steps.specs.space_items.Laws.{AreIds}
-pub use Rattle.convert_steps.specs.space_items.declared.node.TreeRoot.{TreeRoot}
+pub use Rattle.convert_steps.specs.space_items.Laws.{AreIds, FitTree}
+pub use Rattle.convert_steps.specs.space_items.Sums.{block_sum, run_items, sum_items, sums_item}
 pub use Rattle.convert_steps.specs.unit_plan.Choice.{HasEnoughSpace, IsPlan, is_among, lowest_long}
 pub use Rattle.convert_steps.specs.unit_plan.Chunks.{AreChunks, IsChunk, has_role, role_by, usable_end, use_of}
 unfoldable pub use Rattle.convert_steps.specs.unit_plan.Chunks.{role_of}
 pub use Rattle.convert_steps.specs.unit_plan.Laws.{IsSoundPlan}
-pub use Rattle.convert_steps.specs.unit_plan.Needed.{AreSmall, checksum_tree_bytes, chunk_bound, chunk_nodes, chunk_tree_bytes, device_tree_bytes, extent_nodes, extent_tree_bytes, file_tree_bytes, image_tree_bytes, need, nodes_in_unit, other_nodes}
+pub use Rattle.convert_steps.specs.unit_plan.Needed.{AreSmall, checksum_tree_bytes, chunk_bound, chunk_nodes, chunk_tree_bytes, device_tree_bytes, extent_nodes, extent_tree_bytes, file_tree_bytes, image_tree_bytes, need, nodes_in_unit, other_nodes, tree_bytes}
+pub use Rattle.convert_steps.specs.unit_plan.Trees.{new_trees}
 pub use Rattle.convert_steps.specs.unit_plan.declared.chunk.PlannedChunk.{PlannedChunk}
 pub use Rattle.convert_steps.specs.unit_plan.declared.chunk.Role.{Role}
 pub use Rattle.convert_steps.specs.unit_plan.declared.chunk.Role.TheVariants.{Data, Metadata, System}
@@ -139,6 +141,7 @@ pub use Rattle.convert_steps.specs.unit_plan.declared.counts.Counts.{Counts}
 pub use Rattle.convert_steps.specs.unit_plan.declared.need.Need.{Need}
 pub use Rattle.convert_steps.specs.unit_plan.declared.piece.Piece.{Piece}
 pub use Rattle.convert_steps.specs.unit_plan.declared.plan.Plan.{Plan}
+pub use Rattle.convert_steps.specs.unit_plan.declared.tree.NewTree.{NewTree}
 pub use Rattle.convert_trees_laws.specs.Bounds.{AreCounted, FileTreeIsCounted, PlansSuffice, TreesAreCounted, bytes_in}
 pub use Rattle.convert_trees_laws.specs.Entries.{EntriesAreThere, naming_by, namings_by, unplaced}
 pub use Rattle.convert_trees_laws.specs.Inodes.{InodesAreThere}

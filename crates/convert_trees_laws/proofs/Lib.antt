@@ -9,6 +9,7 @@ pub mod FilesCounted
 pub mod FilesInline
 pub mod FilesObjects
 pub mod FilesSums
+pub mod Fitting
 mod Holding
 pub mod Imports
 pub mod Indexing

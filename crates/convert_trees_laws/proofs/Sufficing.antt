@@ -1,10 +1,13 @@
 -- The units of a plan have the slots for all nodes.
-use Rattle.convert_trees_laws.proofs.Imports.{◌≡◌, ◌≤◌, ◌<◌, ℕ, ◌+◌, ◌*◌, ◌^◌, List, [], ◌∷◌, length, length-append, sym, ap, subst, ◌∙◌, ⊎_elim, arith, div_ceil, flat_map, range_with_len, div_ceil_times, length-map, length-range_with_len, BLOCK_GROUP_BYTES, EXTENT_BYTES, NODE_BYTES, RELOCATION_ROOM, ROOT_TREE_ROOM, Image, Item, IsNodeSize, node_bound, lengths_of, IsMaking, Making, chunk_slots, new_ids, slots, AllFit, chunk_count, file_tree_items, image_tree_items, no_trees, nodes_for, other_count, own_count, root_tree_items, sum_tree_items, relocation_items, FileKeysAscend, ImageKeysAscend, ItemsAreShort, keys, IsOpened, links_in, used_of, chunk_items, device_items, AreIds, bound_up, IsSoundPlan, AreSmall, checksum_tree_bytes, chunk_bound, chunk_nodes, chunk_tree_bytes, device_tree_bytes, extent_nodes, extent_tree_bytes, file_tree_bytes, image_tree_bytes, need, nodes_in_unit, other_nodes, Counts, Options, plans_sound, SumKind, Crc32c, Sha256, AreCounted, FileTreeIsCounted, PlansSuffice, bytes_in}
+use Rattle.convert_trees_laws.proofs.Imports.{◌≡◌, ◌≤◌, ◌<◌, ℕ, ◌+◌, ◌*◌, ◌^◌, List, [], ◌∷◌, length, length-append, sym, ap, subst, ◌∙◌, ⊎_elim, arith, get_or, div_ceil, flat_map, range_with_len, div_ceil_times, length-map, length-range_with_len, BLOCK_GROUP_BYTES, EXTENT_BYTES, NODE_BYTES, ROOT_TREE_ROOM, Image, Item, IsNodeSize, node_bound, lengths_of, IsMaking, Making, chunk_slots, new_ids, slots, AllFit, chunk_count, no_trees, nodes_for, other_count, own_count, root_tree_items, FileKeysAscend, ImageKeysAscend, ItemsAreShort, keys, IsOpened, links_in, used_of, chunk_items, AreIds, bound_up, IsSoundPlan, AreSmall, chunk_bound, chunk_nodes, chunk_tree_bytes, extent_nodes, extent_tree_bytes, need, nodes_in_unit, other_nodes, tree_bytes, Counts, Options, plans_sound, AreCounted, PlansSuffice, bytes_in, TreesAreCounted, All-head, All-tail, sum_by-cons, new_trees, NewTree}
+use Rattle.std.specs.List.{All, sum_by}
+use Rattle.convert_steps.specs.Standing.{items_of}
 use Rattle.convert_steps.proofs.extent_pieces.Small.{counts_small}
 use Rattle.convert_steps.specs.space_items.Own.{extent_bytes}
 use Rattle.convert_steps.specs.unit_plan.Places.{node_places, places_in}
+use Rattle.convert_trees_laws.proofs.Fitting.{bound_low, fits, tree_low}
 use Rattle.convert_trees_laws.proofs.NodeCounts.{nodes_few}
-use Rattle.convert_trees_laws.proofs.Others.{few_chunks, pieces_few, trees_counted}
+use Rattle.convert_trees_laws.proofs.Others.{few_chunks, pieces_few}
 
 -- ---- the slots of units
 
@@ -42,28 +45,22 @@ room_for nodesize nodes units size many =
 
 -- ---- what was counted is small
 
-files_low : (c : Counts) → AreSmall c → file_tree_bytes c < 2 ^ 60
-files_low c small = omega (arith, small.objects, small.names, small.letters, small.pieces, small.inlines, small.inline_bytes)
-
-image_low : (c : Counts) → AreSmall c → image_tree_bytes c < 2 ^ 60
-image_low c small = omega (arith, small.pieces)
-
-sums_low : (sums : SumKind) (c : Counts) → AreSmall c → checksum_tree_bytes sums c < 2 ^ 60
-sums_low Crc32c c small = omega (arith, small.pieces, small.piece_blocks)
-sums_low Sha256 c small = omega (arith, small.pieces, small.piece_blocks)
-
-bound_low : (c : Counts) → AreSmall c → chunk_bound c.runs c.blocks < 2 ^ 52
-bound_low c small = omega (arith, small.runs, small.blocks)
-
-device_low : (c : Counts) → AreSmall c → device_tree_bytes (chunk_bound c.runs c.blocks) < 2 ^ 60
-device_low c small = let low = bound_low c small in omega (arith, low)
-
 chunk_low : (c : Counts) → AreSmall c → chunk_tree_bytes (chunk_bound c.runs c.blocks) < 2 ^ 60
 chunk_low c small = let low = bound_low c small in omega (arith, low)
 
+-- a sum of less is less
+sums_under : (f g : NewTree → ℕ) (trees : List NewTree) → All (λ t. f t ≤ g t) trees → sum_by f trees ≤ sum_by g trees
+sums_under f g [] all = omega arith
+sums_under f g (t ∷ trees) all =
+    let here = All-head (λ (u : NewTree). f u ≤ g u) t trees all in
+    let rest = sums_under f g trees (All-tail (λ (u : NewTree). f u ≤ g u) t trees all) in
+    let one = sum_by-cons f t trees in
+    let other = sum_by-cons g t trees in
+    omega (arith, here, rest, one, other)
+
 -- ---- the nodes
 
-module _ (counted : FileTreeIsCounted) (files_ascend : FileKeysAscend) (small_ascend : ImageKeysAscend) (are_short : ItemsAreShort) (image other : Image) (m : Making) (made : IsMaking image m) (size : IsNodeSize m.options.nodesize) (ids : AreIds (new_ids m)) where
+module _ (counted : TreesAreCounted) (files_ascend : FileKeysAscend) (small_ascend : ImageKeysAscend) (are_short : ItemsAreShort) (image other : Image) (m : Making) (made : IsMaking image m) (size : IsNodeSize m.options.nodesize) (ids : AreIds (new_ids m)) where
   abbrev c : Counts
   c = made.has_pieces.found.counts
 
@@ -76,8 +73,8 @@ module _ (counted : FileTreeIsCounted) (files_ascend : FileKeysAscend) (small_as
       subst AreSmall (sym made.has_pieces.counted.counts_are)
       (counts_small image made.has_pieces.accepted (keys m.volume.named) opened.are_keys m.options.inline opened.visible (links_in m.volume) opened.are_links)
 
-  trees : AreCounted other m c
-  trees = trees_counted image other m made ids
+  trees : AreCounted image other m c
+  trees = counted image other m made ids
 
   few : (items : List Item) (bytes : ℕ) → bytes_in items ≤ bytes → bytes < 2 ^ 60 → nodes_for m items ≤ node_bound bytes o.nodesize
   few items bytes most low = nodes_few o.nodesize bytes (lengths_of items) size most low
@@ -87,16 +84,14 @@ module _ (counted : FileTreeIsCounted) (files_ascend : FileKeysAscend) (small_as
 
   other_nodes_few : other_count image other m no_trees ≤ other_nodes o c
   other_nodes_few =
-      let files = few (file_tree_items image m) (file_tree_bytes c) (counted image m made) (files_low c small) in
-      let saved = few (image_tree_items m) (image_tree_bytes c) trees.saved (image_low c small) in
-      let relocation = few (relocation_items m.now) RELOCATION_ROOM trees.relocation (omega arith) in
-      let sums = few (sum_tree_items other m) (checksum_tree_bytes o.sums c) trees.sums (sums_low o.sums c small) in
-      let device = few (device_items (new_ids m) m.chunks) (device_tree_bytes (chunk_bound c.runs c.blocks)) trees.device (device_low c small) in
+      let row =
+      sums_under (λ t. nodes_for m (items_of image other m t)) (λ t. node_bound (tree_bytes o.sums c t) o.nodesize) new_trees
+      (λ i d inside. few (items_of image other m (get_or new_trees i d)) (tree_bytes o.sums c (get_or new_trees i d)) (trees.each i d inside) (tree_low o.sums c small (get_or new_trees i d))) in
       let root = few (root_tree_items m no_trees) ROOT_TREE_ROOM (trees.root no_trees) (omega arith) in
-      six _ _ _ _ _ _ _ _ _ _ _ _ files saved relocation sums device root
+      both _ _ _ _ row root
     where
-      six : (a b d e f g a' b' d' e' f' g' : ℕ) → a ≤ a' → b ≤ b' → d ≤ d' → e ≤ e' → f ≤ f' → g ≤ g' → a + b + d + e + f + g ≤ a' + b' + e' + f' + g' + d'
-      six a b d e f g a' b' d' e' f' g' p q r s t u = omega arith
+      both : (x x' y y' : ℕ) → x ≤ x' → y ≤ y' → x + y ≤ x' + y'
+      both x x' y y' a b = omega arith
 
   own_nodes_few : own_count image other m ≤ extent_nodes o c
   own_nodes_few =
@@ -129,16 +124,11 @@ module _ (counted : FileTreeIsCounted) (files_ascend : FileKeysAscend) (small_as
       within x x' y y' z a b d = omega arith
 
   all_fit : AllFit image other m
-  all_fit =
-      let ascend = small_ascend m.volume image m.options m.plan m.pieces m.now made.has_pieces in
-      let short = are_short m.volume image m.options m.plan m.pieces m.now made.has_pieces in
-      record {
-        files = record { ascend = files_ascend m.volume image m.options m.plan m.pieces made.has_pieces; short = short.files };
-        saved = record { ascend = ascend.saved; short = short.saved };
-        relocation = record { ascend = ascend.relocation; short = short.relocation };
-        chunk_few = chunk_room;
-        few = other_room;
-      }
+  all_fit = record {
+    each = λ i d inside. fits files_ascend small_ascend are_short image other m made ids (get_or new_trees i d);
+    chunk_few = chunk_room;
+    few = other_room;
+  }
 
-pub plans_suffice : FileTreeIsCounted → FileKeysAscend → ImageKeysAscend → ItemsAreShort → PlansSuffice
+pub plans_suffice : TreesAreCounted → FileKeysAscend → ImageKeysAscend → ItemsAreShort → PlansSuffice
 plans_suffice counted files_ascend small_ascend are_short = λ image other m made size ids. all_fit counted files_ascend small_ascend are_short image other m made size ids

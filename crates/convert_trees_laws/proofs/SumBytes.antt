@@ -1,9 +1,8 @@
 -- The tree of checksums takes no more than was counted.
-use Rattle.convert_trees_laws.proofs.Imports.{◌≡◌, ◌≤◌, ℕ, zero, suc, ◌+◌, ◌-◌, ◌*◌, ◌/◌, min, Bool, true, false, List, [], ◌∷◌, length, get_or, sum_by, if◌then◌else◌, ap, arith, div_ceil, flat_map, range_with_len, length-take, length-range_with_len, sum_by-cons, sum_by-le, ITEM_SIZE, Image, block_at, SumKind, Crc32c, Sha256, checksum_tree_bytes, Counts, Piece, bytes_in}
+use Rattle.convert_trees_laws.proofs.Imports.{◌≡◌, ◌≤◌, ℕ, zero, suc, ◌+◌, ◌-◌, ◌*◌, ◌/◌, min, Bool, true, false, List, [], ◌∷◌, length, get_or, sum_by, if◌then◌else◌, ap, arith, div_ceil, flat_map, range_with_len, length-take, length-range_with_len, sum_by-cons, sum_by-le, ITEM_SIZE, Image, block_at, SumKind, Crc32c, Sha256, checksum_tree_bytes, Counts, Piece, bytes_in, block_sum, run_items, sum_items, sums_item}
 use Rattle.std.proofs.lemmas.List.Concat.{length-flat_map}
 use Rattle.btr_reader.specs.csum_kinds.Kind.{kind_sum, kind_width}
 use Rattle.convert_steps.specs.unit_plan.Sums.{sums_in_item}
-use Rattle.convert_steps.specs.space_items.Sums.{block_sum, run_items, sum_items, sums_item}
 use Rattle.convert_trees_laws.proofs.ItemBytes.{bytes-append, bytes-map}
 
 sums_short : (sums : SumKind) (image : Image) (first count : ℕ) → length (flat_map (block_sum sums image) (range_with_len first count)) ≤ kind_width sums * count

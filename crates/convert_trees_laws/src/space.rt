@@ -8,16 +8,18 @@ pub fn file_tree_is_counted()
     ensures { FileTreeIsCounted }
 {}
 
-/// The same of the items of every other tree whose bytes are counted.
+/// The same of the items of every tree whose bytes are counted.
 pub fn trees_are_counted()
     ensures { TreesAreCounted }
-{}
+{
+    file_tree_is_counted();
+}
 
 /// All nodes of a conversion find slots in the units that its plan takes.
 pub fn plans_suffice()
     ensures { PlansSuffice }
 {
-    file_tree_is_counted();
+    trees_are_counted();
     file_keys_ascend();
     image_keys_ascend();
     items_are_short();

@@ -3,13 +3,12 @@ ghost use Rattle.outside.specs.Fault.{Rose};
 ghost use Rattle.outside.specs.History.{nothing};
 ghost use Rattle.host_edge.specs.FileDisk.{Kept, opened_for, length_of, kept_refl, kept_trans, closed_length, tells_nothing};
 
+use crate::caches::{CACHES, drop_caches};
 use crate::opened::{FailedWrite, Opened};
-use crate::status_line::StatusLine;
-use crate::steps::Task;
 use crate::trouble::{Cause, DiskCall, Trouble};
-use crate::watch::Watch;
 use crate::{FileIdentity, Signature, Use};
 use btrfs_format::block::SUPER_BLOCK;
+use host_edge_progress::{StatusLine, Task, Watch};
 use outside::{Access, Block, BlockNo, BlockSource, Disk, Fault, Format, format_of};
 use std::fs::{File, Files, OpenOptions};
 use std::io::ErrorKind;
@@ -26,6 +25,9 @@ use std::{fs, io};
 /// swapped to, or below another device, where that is true of one of its partitions or of the device that it is a
 /// partition of, where it is the file of a loop device, or where another program holds a lock on it; nor where it is a block device and the system
 /// does not tell whether it is in use; nor where it is read-only. Each of these counts as a failure too. Why the last failure came is kept.
+///
+/// Once a block device is open for writing, what the system keeps of it in memory is dropped, where the system lets the program do so: blocks that an
+/// earlier program wrote in vain may be among it. The disk has to be opened first, so that a write that fails from then on is told by its next sync.
 ///
 /// Where all that it holds is to be overwritten ([`FileDisk::expect_blank`]), it is not opened for writing either where something lies there that the
 /// rest of the program does not know: a table of partitions, another file system, swap space, a member of a RAID and the like. The rest of the
@@ -98,6 +100,10 @@ impl<'a, R: Files<File = File> + AllocGlobal + Clock + Clone + Drop> FileDisk<'a
             .map_err(unopened)?;
         if access == Access::Write && file.try_lock().is_err() {
             return Err(Cause::InUse(Use::Locked));
+        }
+        if access == Access::Write && kind.is_block_device() {
+            // who may not have them dropped goes on with what the system keeps
+            let _ = drop_caches(&self.files, CACHES);
         }
         let opened = Opened::new(file, access)?;
         if access == Access::Write && self.is_overwritten {

@@ -13,7 +13,7 @@
 #![tactic(auto)]
 
 mod btrfs;
-mod census;
+mod caches;
 mod devices;
 mod file_disk;
 mod file_identity;
@@ -23,29 +23,24 @@ mod line_sink;
 mod loops;
 mod mounts;
 mod opened;
-mod pace;
 mod signatures;
-mod status_line;
 mod std_sink;
-mod steps;
 mod streams;
 mod trouble;
-mod volume_use;
-mod watch;
 
 pub use btrfs::is_of_a_volume;
+pub use caches::drop_caches;
 pub use devices::{DeviceNumber, is_held, is_read_only};
 pub use file_disk::FileDisk;
 pub use file_identity::FileIdentity;
 pub use generation::generation_at;
+pub use host_edge_progress::{StatusLine, Task};
 pub use in_use::{Use, is_told};
 pub use line_sink::LineSink;
 pub use loops::is_behind_a_loop;
 pub use mounts::{Mount, is_mounted, is_mounted_for_any, is_swap};
 pub use outside::{Ids, Sink};
 pub use signatures::Signature;
-pub use status_line::StatusLine;
 pub use std_sink::StdSink;
-pub use steps::Task;
 pub use streams::hold_streams;
 pub use trouble::{Cause, DiskCall, Trouble};

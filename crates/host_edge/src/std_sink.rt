@@ -1,7 +1,7 @@
 ghost use Rattle.std.specs.Prelude.{◌≡◌, ◌≤◌, false, []};
 ghost use Rattle.outside.specs.Fault.{Rose};
 
-use crate::status_line::StatusLine;
+use host_edge_progress::StatusLine;
 use outside::{Fault, Sink};
 use std::io::Write;
 

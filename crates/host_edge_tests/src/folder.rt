@@ -1,5 +1,13 @@
+use host_edge::{DeviceNumber, FileIdentity};
 use std::test::Fail;
 use std::{env, fs};
+
+/// A file with this text, or a folder.
+#[derive(Clone, Copy)]
+pub enum Entry {
+    File(&'static str),
+    Folder,
+}
 
 /// A folder for the files of a test.
 #[derive(Drop)]
@@ -23,6 +31,11 @@ impl Folder {
         })
     }
 
+    /// Its path.
+    pub fn text(&self) -> &str {
+        self.path.as_str()
+    }
+
     /// The path of a file in it, or its own of no name.
     pub fn path(&self, rt: &HostRuntime, name: &str) -> Result<String, Fail> {
         if name.is_empty() {
@@ -42,6 +55,37 @@ impl Folder {
     pub fn folder(&self, rt: &HostRuntime, name: &str) -> Result<(), Fail> {
         fs::create_dir(rt, self.path(rt, name)?.as_str())?;
         Ok(())
+    }
+
+    /// These files and folders in it.
+    pub fn fill(&self, rt: &HostRuntime, entries: &[(&'static str, Entry)]) -> Result<(), Fail> {
+        for (name, entry) in entries {
+            match entry {
+                Entry::File(text) => {
+                    self.file(rt, *name, *text)?;
+                }
+                Entry::Folder => self.folder(rt, *name)?,
+            }
+        }
+        Ok(())
+    }
+
+    /// A file in it as one that stands on the devices 8:`minors` too.
+    pub fn identity(
+        &self,
+        rt: &HostRuntime,
+        name: &str,
+        minors: &[u64],
+    ) -> Result<FileIdentity, Fail> {
+        let path = self.path(rt, name)?;
+        let mut place = FileIdentity::new(rt, path.as_str())?;
+        for minor in minors {
+            place.add(DeviceNumber {
+                major: 8,
+                minor: *minor,
+            })?;
+        }
+        Ok(place)
     }
 
     /// Removes it with all that is in it.

@@ -1,4 +1,5 @@
-//! Tests of the edge to the machine: disks over files, sinks over streams, and the look-up of what is in use.
+//! Tests of the edge to the machine: disks over files, sinks over streams, the look-up of what is in use, and what is told of
+//! how far a command is.
 //!
 //! The crate has no code of its own: the calls that it tests are public ones of the crates below.
 #![tactic(auto)]
@@ -7,6 +8,10 @@
 mod blank_disks;
 #[cfg(test)]
 mod btrfs_volumes;
+#[cfg(test)]
+mod caches;
+#[cfg(test)]
+mod census;
 #[cfg(test)]
 mod disks;
 #[cfg(test)]
@@ -24,4 +29,10 @@ mod signatures;
 #[cfg(test)]
 mod sinks;
 #[cfg(test)]
+mod stages;
+#[cfg(test)]
+mod status_lines;
+#[cfg(test)]
 mod tables;
+#[cfg(test)]
+mod watches;

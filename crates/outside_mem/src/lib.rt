@@ -24,6 +24,3 @@ pub use laws::{
     every_crash_has_a_choice, every_torn_choice_is_a_crash, every_torn_crash_has_a_choice,
 };
 pub use sink::MemSink;
-
-#[cfg(test)]
-mod tests;

@@ -5,7 +5,7 @@ use crate::sentences::{
     Sentence, of_btrfs_rule, of_command, of_fault, of_feature, of_line, of_refusal, of_rule,
     of_safety, of_start,
 };
-use crate::space::Space;
+use crate::space::{Space, Wanted};
 use crate::start::Missing;
 use crate::wrong_words::find;
 use host_edge::{Cause, DiskCall, Trouble, Use};
@@ -32,6 +32,8 @@ pub struct Outcome<'a> {
     pub path: &'a str,
     /// The size of a node that was asked for.
     pub size: &'a str,
+    /// Whether checksums by SHA-256 were asked for.
+    pub is_hashed: bool,
 }
 
 impl Outcome<'_> {
@@ -159,7 +161,13 @@ fn tell_refusal(
         text.end()?;
         tell_safety(text, written(outcome, "free"))?;
         match space_of(&refusal, outcome.is_trial()) {
-            Some(space) => space.tell_what_helps(alloc, text, outcome.size, None)?,
+            Some(space) => {
+                let wanted = Wanted {
+                    size: outcome.size,
+                    is_hashed: outcome.is_hashed,
+                };
+                space.tell_what_helps(alloc, text, wanted, None)?
+            }
             None => tell_next(text, next, refusal.numbers)?,
         }
     }

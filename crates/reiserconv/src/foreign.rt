@@ -25,9 +25,7 @@ pub fn of_others(word: &str) -> Option<&'static str> {
         "-O" | "--features" => Some(
             "There is no '{1}' here: the features of the new volume can't be chosen. Leave it out.",
         ),
-        "--csum" | "--checksum" => Some(
-            "There is no '{1}' here: the checksums are always CRC-32C. Leave it out.",
-        ),
+        "--checksum" => Some("'{1}' is '--csum' here, with crc32c or sha256 behind a space."),
         "--dry-run" => Some(
             "There is no '{1}' here: 'reiserconv inspect' only reads, and says whether a volume can be converted.",
         ),

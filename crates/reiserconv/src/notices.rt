@@ -2,7 +2,7 @@
 use crate::asked::{Asked, Verb};
 use crate::paragraph::Paragraph;
 use crate::sizes::Counted;
-use crate::space::Space;
+use crate::space::{Space, Wanted};
 use std::alloc::{AllocError, Global};
 use std::str;
 
@@ -55,14 +55,14 @@ const TRIED: [&str; 2] = [
     "{path} still holds that ReiserFS volume, of 256 MiB, for you to look at. Remove the file when you are done with it. Before another trial take away what tells of the volume ('wipefs -a {path}').",
 ];
 
-/// What is told of a command that is done, by the first bytes that it printed. `size` is the size of a node that was asked for,
-/// and `best` what was counted with another one.
+/// What is told of a command that is done, by the first bytes that it printed. `wanted` is what was asked for, and `best` what was
+/// counted with nodes of another size.
 pub fn behind(
     alloc: Global,
     asked: &Asked<'_>,
     path: &str,
     printed: &[u8],
-    size: &str,
+    wanted: Wanted<'_>,
     best: Option<&Counted>,
 ) -> Result<String, AllocError> {
     let mut text = Paragraph::new(alloc, path);
@@ -74,7 +74,7 @@ pub fn behind(
         Some(Verb::Trial) => tell_all(&mut text, &TRIED, &[files(printed)])?,
         Some(Verb::Inspect) => {
             if let Some(space) = Space::printed(printed) {
-                space.tell(alloc, &mut text, size, best)?;
+                space.tell(alloc, &mut text, wanted, best)?;
             }
         }
         _ => {}

@@ -12,6 +12,7 @@ pub enum Choice {
     Label,
     CopyLabel,
     Uuid,
+    Csum,
     Verbose,
 }
 
@@ -24,6 +25,7 @@ pub fn option_words() -> &'static [&'static str] {
         "--label",
         "--copy-label",
         "--uuid",
+        "--csum",
         "--verbose",
         "--help",
         "--version",
@@ -40,6 +42,7 @@ impl Choice {
             "--label" => Some(Choice::Label),
             "--copy-label" => Some(Choice::CopyLabel),
             "--uuid" => Some(Choice::Uuid),
+            "--csum" => Some(Choice::Csum),
             "--verbose" => Some(Choice::Verbose),
             _ => None,
         }
@@ -54,20 +57,24 @@ impl Choice {
             Choice::Label => "--label",
             Choice::CopyLabel => "--copy-label",
             Choice::Uuid => "--uuid",
+            Choice::Csum => "--csum",
             Choice::Verbose => "--verbose",
         }
     }
 
     /// Whether a value stands behind it.
     pub fn has_value(self) -> bool {
-        matches!(self, Choice::Nodesize | Choice::Label | Choice::Uuid)
+        matches!(
+            self,
+            Choice::Nodesize | Choice::Label | Choice::Uuid | Choice::Csum
+        )
     }
 
     /// Whether a command has it.
     pub fn is_of(self, verb: Verb) -> bool {
         match self {
             Choice::Verbose => true,
-            Choice::Nodesize | Choice::NoInline | Choice::NoDatasum => {
+            Choice::Nodesize | Choice::NoInline | Choice::NoDatasum | Choice::Csum => {
                 matches!(verb, Verb::Inspect | Verb::Convert)
             }
             Choice::Label | Choice::CopyLabel | Choice::Uuid => verb == Verb::Convert,
@@ -90,6 +97,7 @@ impl Choice {
             Choice::Nodesize => wrong_nodesize(alloc, value),
             Choice::Label => wrong_label(alloc, value),
             Choice::Uuid => wrong_uuid(alloc, value),
+            Choice::Csum => wrong_csum(alloc, value),
             _ => Ok(None),
         }
     }
@@ -161,6 +169,41 @@ fn wrong_uuid(alloc: Global, value: &str) -> Result<Option<Finding>, AllocError>
             }
         }
         _ => found(Finding::new(alloc, NO_UUID, value, "")),
+    }
+}
+
+const NO_CSUM: &str = "A value is missing behind '--csum': crc32c or sha256.";
+
+const CSUM: &str = "'{1}' is no kind of checksum: '--csum' takes crc32c or sha256.";
+
+const SO_SPELLED: &str = "'{1}' is written '{2}': write '--csum {2}'.";
+
+/// Two kinds of checksum that Btrfs knows, and that are not made here.
+const OTHER_CSUM: &str =
+    "This program makes no checksums by '{1}': '--csum' takes crc32c or sha256.";
+
+fn wrong_csum(alloc: Global, value: &str) -> Result<Option<Finding>, AllocError> {
+    if value.starts_with('-') {
+        return found(Finding::new(alloc, NO_CSUM, "", ""));
+    }
+    match value {
+        "crc32c" | "sha256" => Ok(None),
+        "xxhash" | "xxhash64" | "blake2" | "blake2b" => {
+            found(Finding::new(alloc, OTHER_CSUM, value, ""))
+        }
+        _ => match well_spelled(value) {
+            Some(name) => found(Finding::new(alloc, SO_SPELLED, value, name)),
+            None => found(Finding::new(alloc, CSUM, value, "")),
+        },
+    }
+}
+
+/// The kind of checksum that is spelled in another way.
+fn well_spelled(value: &str) -> Option<&'static str> {
+    match value {
+        "CRC32C" | "crc-32c" | "CRC-32C" | "crc32" | "CRC32" => Some("crc32c"),
+        "SHA256" | "sha-256" | "SHA-256" | "sha2" | "SHA2" => Some("sha256"),
+        _ => None,
     }
 }
 

@@ -22,6 +22,15 @@ pub const USUAL_SIZE: &str = "16384";
 /// Linux itself needs free units to write to a volume: with fewer to spare it takes few new files, or may only read.
 const GOOD_TO_SPARE: u64 = 16;
 
+/// What was asked for that changes the space of a conversion, as far as it is told.
+#[derive(Clone, Copy, Debug, PartialEq, Eq)]
+pub struct Wanted<'a> {
+    /// The size of a node in bytes.
+    pub size: &'a str,
+    /// Whether the checksums are SHA-256, which are eight times as long as the usual ones.
+    pub is_hashed: bool,
+}
+
 impl Space {
     /// By what `inspect` prints of a ReiserFS volume.
     pub fn printed(text: &str) -> Option<Space> {
@@ -66,22 +75,22 @@ impl Space {
         missing < others || (missing == others && self.needed <= other.needed)
     }
 
-    /// Tells whether the volume can be converted, and else what helps. `size` is the size of a node that was counted with,
-    /// and `best` the best count with another one, where there is one.
+    /// Tells whether the volume can be converted, and else what helps. `wanted` is what was counted with, and `best` the best count with
+    /// nodes of another size, where there is one.
     pub fn tell(
         &self,
         alloc: Global,
         text: &mut Paragraph<'_>,
-        size: &str,
+        wanted: Wanted<'_>,
         best: Option<&Counted>,
     ) -> Result<(), AllocError> {
         if self.suffices() {
-            self.tell_that_it_fits(alloc, text, size)
+            self.tell_that_it_fits(alloc, text, wanted)
         } else {
             let numbers = Numbers::new(alloc, self)?;
             text.say(TOO_FEW, &numbers.parts())?;
             text.end()?;
-            self.tell_what_helps(alloc, text, size, best)
+            self.tell_what_helps(alloc, text, wanted, best)
         }
     }
 
@@ -89,13 +98,16 @@ impl Space {
         &self,
         alloc: Global,
         text: &mut Paragraph<'_>,
-        size: &str,
+        wanted: Wanted<'_>,
     ) -> Result<(), AllocError> {
         let numbers = Numbers::new(alloc, self)?;
         let fits = if self.run > 1 { FITS_IN_A_ROW } else { FITS };
         text.say(fits, &numbers.parts())?;
-        if size != USUAL_SIZE {
-            text.say(WITH_SIZE, &[size])?;
+        if wanted.size != USUAL_SIZE {
+            text.say(WITH_SIZE, &[wanted.size])?;
+        }
+        if wanted.is_hashed {
+            text.say(WITH_HASHES, &[])?;
         }
         self.tell_if_tight(text)?;
         text.end()
@@ -114,12 +126,12 @@ impl Space {
         Ok(())
     }
 
-    /// Tells what helps where the space does not suffice. The size and the best count are as for `tell`.
+    /// Tells what helps where the space does not suffice. `wanted` and `best` are as for `tell`.
     pub fn tell_what_helps(
         &self,
         alloc: Global,
         text: &mut Paragraph<'_>,
-        size: &str,
+        wanted: Wanted<'_>,
         best: Option<&Counted>,
     ) -> Result<(), AllocError> {
         let numbers = Numbers::new(alloc, self)?;
@@ -131,8 +143,11 @@ impl Space {
         )?;
         text.say(ENLARGE, &numbers.parts())?;
         match best {
-            Some(best) => self.tell_of_size(alloc, text, size, best)?,
-            None => text.say(OTHER_NODES, &other_sizes(size))?,
+            Some(best) => self.tell_of_size(alloc, text, wanted.size, best)?,
+            None => text.say(OTHER_NODES, &other_sizes(wanted.size))?,
+        }
+        if wanted.is_hashed {
+            text.say(SHORTER_SUMS, &[])?;
         }
         text.end()
     }
@@ -165,6 +180,11 @@ const FITS_IN_A_ROW: &str =
     "It can be converted if of the free units of 1 MiB {4} lie in one row, which 'convert' sees before it writes: {2} are needed, {1} are free as a whole, and so {3} are to spare.";
 
 const WITH_SIZE: &str = "This is with nodes of {1} bytes: give 'convert' the same '--nodesize'.";
+
+const WITH_HASHES: &str = "This is with checksums by SHA-256: give 'convert' '--csum sha256' too.";
+
+const SHORTER_SUMS: &str =
+    "Or leave '--csum sha256' out: checksums by CRC-32C take some 7 MiB less for each GiB in use.";
 
 const HARDLY: &str =
     "Linux takes such units too when it writes to the new volume: have 16 to spare, or it may only be able to read there until more is free.";

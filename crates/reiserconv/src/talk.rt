@@ -3,12 +3,15 @@ use crate::asked::{Asked, Verb};
 use crate::notices::{before, behind};
 use crate::shell::quoted;
 use crate::sizes::{Counted, NODESIZE};
-use crate::space::{Space, USUAL_SIZE};
+use crate::space::{Space, USUAL_SIZE, Wanted};
 use crate::start::Missing;
 use host_edge::{LineSink, StatusLine, Trouble};
 use std::alloc::Global;
 use std::io::Write;
 use std::str;
+
+/// The option of the kind of checksum.
+const CSUM: &str = "--csum";
 
 /// What a person is told of a run, beside its lines.
 #[derive(Drop)]
@@ -106,13 +109,14 @@ impl<'a> Talk<'a> {
         err: &mut LineSink<'_, W>,
     ) {
         let size = asked_size(self.words);
+        let is_hashed = is_hashed(self.words);
         let text = if ended.status == 0 {
             behind(
                 self.alloc,
                 &self.asked,
                 self.path.as_str(),
                 out.line(),
-                size,
+                Wanted { size, is_hashed },
                 best,
             )
         } else {
@@ -125,6 +129,7 @@ impl<'a> Talk<'a> {
                 words: self.words,
                 path: self.path.as_str(),
                 size,
+                is_hashed,
             };
             advice(self.alloc, &outcome)
         };
@@ -150,12 +155,22 @@ pub fn tell_start<W: Write + Drop>(
 
 /// The size of a node that the words ask for.
 fn asked_size(words: &[String]) -> &str {
+    value_of(words, NODESIZE).unwrap_or(USUAL_SIZE)
+}
+
+/// Whether they ask for checksums by SHA-256.
+fn is_hashed(words: &[String]) -> bool {
+    value_of(words, CSUM) == Some("sha256")
+}
+
+/// The word behind this option, where it is among the words.
+fn value_of<'a>(words: &'a [String], option: &str) -> Option<&'a str> {
     let mut is_next = false;
     for word in words {
         if is_next {
-            return word.as_str();
+            return Some(word.as_str());
         }
-        is_next = word.as_str() == NODESIZE;
+        is_next = word.as_str() == option;
     }
-    USUAL_SIZE
+    None
 }

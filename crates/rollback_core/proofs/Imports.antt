@@ -86,4 +86,4 @@ pub use Rattle.volume_state.specs.Laws.{CanGoBackToo}
 pub use Rattle.volume_state.specs.Moved.{IsOld, TellsMoved}
 pub use Rattle.volume_state.specs.Saved.{block_or_hole, blocks_by, blocks_by_map, file_blocks, place_by_file, saved_file, saved_place}
 unfoldable pub use Rattle.volume_state.specs.Saved.{image_blocks}
-pub use Rattle.volume_state.specs.Using.{HoldsExtent, HoldsNode, HoldsNodeOf, HoldsPartOf, IsInUse, IsReservedFree, IsWayRefusal, RefusesUse, chunk_node, content_range, file_part, file_pointer, file_trees, has_log, item_range, named_by, numbered, root_node, tree_if, unreadable}
+pub use Rattle.volume_state.specs.Using.{HoldsExtent, HoldsNode, HoldsNodeOf, HoldsPartOf, IsInUse, IsReservedFree, IsWayRefusal, RefusesUse, TellsReserved, chunk_node, content_range, file_part, file_pointer, file_trees, has_log, item_range, named_by, numbered, root_node, tree_if, unreadable}

@@ -5,6 +5,7 @@ ghost use Rattle.reiser_bitmap.specs.outside.Fault.{HasCauseOf};
 ghost use Rattle.reiser_bitmap.specs.outside.History.{Image, OverTold};
 ghost use Rattle.volume_state.specs.Saved.{image_blocks};
 ghost use Rattle.volume_state.specs.GoingBack.{CanGoBack, old_used};
+ghost use Rattle.volume_state.specs.Using.{IsInUse, TellsReserved};
 ghost use Rattle.reiser_volume.specs.Volume.{superblock};
 ghost use Rattle.rollback_core.specs.RollbackAnswers.{HasPlaces, HasVolume, IsRollbackAnswer, RefusesRollback};
 ghost use Rattle.rollback_core.specs.Opened.{IsBtrfsOn, IsMapOn, IsOldOf, IsOpenedOn, LiesWithin};
@@ -19,10 +20,10 @@ use btr_reader::{Btrfs, ImageMap};
 use btr_super::Super;
 use btrfs_format::block::SUPER_BLOCK;
 use convert_steps::{Answer, find_format};
-use reiser_bitmap::{Bitmap, Block, BlockSource, BtrRefusal, Format, VolumeRefusal};
+use reiser_bitmap::{Bitmap, Block, BlockNo, BlockSource, BtrRefusal, Format, VolumeRefusal};
 use reiser_volume::Volume;
 use std::alloc::Global;
-use volume_state::{ImageSource, image_moved, reserved_used};
+use volume_state::{ImageSource, Reserved, Way, image_moved, read_way, reserved_used};
 
 /// Reads the Btrfs volume of a disk and the volume in its saved image, and says what is to be written to have that back. Nothing is
 /// written.
@@ -42,28 +43,37 @@ pub fn prepare<S: BlockSource>(alloc: Global, src: &mut S) -> Result<WayBack, An
 {
     let block = find_superblock(src)?;
     let volume = open_volume(alloc, src, &block)?;
-    let map = read_map(alloc, src, &volume)?;
-    prepare_old(alloc, src, &volume, &map)
+    let found = find_image(alloc, src, &volume)?;
+    prepare_old(alloc, src, &volume, &found)
 }
 
-/// The same from the saved image on, whose map was read.
+/// The saved image that was found, and what was noted on the way to it.
+#[derive(Drop)]
+struct ImageFound {
+    map: ImageMap,
+    /// A reserved block in use.
+    reserved: Reserved,
+}
+
+/// The same from the saved image on, which was found.
 fn prepare_old<S: BlockSource>(
     alloc: Global,
     src: &mut S,
     volume: &Btrfs,
-    map: &ImageMap,
+    found: &ImageFound,
 ) -> Result<WayBack, Answer>
-    requires device { map.now.device ≡ S.size src.old }
+    requires device { found.now.map.device ≡ S.size src.old }
     ensures kept { S.kept src.old src.new }
-    ensures prepared { OverTold S.tells (S.blocks src.old) (λ disk. IsOpenedOn disk volume.now → IsMapOn disk map.now → MatchResult result (IsWayBack disk) (RefusesRollback disk)) }
+    ensures prepared { OverTold S.tells (S.blocks src.old) (λ disk. IsOpenedOn disk volume.now → IsMapOn disk found.now.map → TellsReserved (IsInUse disk) found.now.reserved.blocks found.now.reserved.used → MatchResult result (IsWayBack disk) (RefusesRollback disk)) }
     ensures room { IfOk result (HasRoom (S.size src.old)) }
     ensures apart { IfOk result AreWritesApart }
     ensures cause { HasCauseOf Answer.Fault (S.faults src.old) (S.faults src.new) result }
     ensures answers { IfErr result IsRollbackAnswer }
 {
+    let map = &found.map;
     let old = open_old(alloc, src, map)?;
     check_places(map, old.bitmap())?;
-    check_reserved(alloc, src, volume, old.bitmap().len())?;
+    check_reserved(alloc, src, volume, &found.reserved, old.bitmap().len())?;
     plan(alloc, src, map, old.bitmap())
 }
 
@@ -98,16 +108,23 @@ fn open_volume<S: BlockSource>(alloc: Global, src: &mut S, block: &Block) -> Res
     Ok(Btrfs::open_by(alloc, src, block)?)
 }
 
-/// The map of the saved image.
-fn read_map<S: BlockSource>(alloc: Global, src: &mut S, volume: &Btrfs) -> Result<ImageMap, Answer>
+/// Finds the saved image.
+fn find_image<S: BlockSource>(
+    alloc: Global,
+    src: &mut S,
+    volume: &Btrfs,
+) -> Result<ImageFound, Answer>
     ensures kept { S.kept src.old src.new }
-    ensures device { IfOk result (λ map. map.device ≡ S.size src.old) }
-    ensures read { OverTold S.tells (S.blocks src.old) (λ disk. IsOpenedOn disk volume.now → MatchResult result (IsMapOn disk) (RefusesRollback disk)) }
+    ensures device { IfOk result (λ found. found.map.device ≡ S.size src.old) }
+    ensures read { OverTold S.tells (S.blocks src.old) (λ disk. IsOpenedOn disk volume.now → MatchResult result (λ found. IsMapOn disk found.map) (RefusesRollback disk)) }
+    ensures reserved { OverTold S.tells (S.blocks src.old) (λ disk. IsOpenedOn disk volume.now → IfOk result (λ found. TellsReserved (IsInUse disk) found.reserved.blocks found.reserved.used)) }
     ensures cause { HasCauseOf Answer.Fault (S.faults src.old) (S.faults src.new) result }
     ensures answers { IfErr result IsRollbackAnswer }
 {
-    match volume.image_map(alloc, src)? {
-        Some(map) => Ok(map),
+    let way = read_way(alloc, volume, src)?;
+    let Way { map, reserved } = way;
+    match map {
+        Some(map) => Ok(ImageFound { map, reserved }),
         None => Err(Answer::ImageMissing),
     }
 }
@@ -144,20 +161,33 @@ fn check_places(map: &ImageMap, used: &Bitmap) -> Result<(), Answer>
     }
 }
 
-/// Whether the Btrfs volume leaves alone what is reserved on the old volume, which has so many blocks.
+/// Whether the Btrfs volume leaves alone what is reserved on the old volume, which has so many blocks. The trees are gone through once
+/// more only where the length that was thought of tells nothing of this one.
 fn check_reserved<S: BlockSource>(
     alloc: Global,
     src: &mut S,
     volume: &Btrfs,
+    reserved: &Reserved,
     blocks: u64,
 ) -> Result<(), Answer>
     ensures kept { S.kept src.old src.new }
-    ensures told { OverTold S.tells (S.blocks src.old) (λ disk. IsOpenedOn disk volume.now → HasPlaces disk → blocks ≡ (superblock (image_blocks disk)).blocks →
+    ensures told { OverTold S.tells (S.blocks src.old) (λ disk. IsOpenedOn disk volume.now → TellsReserved (IsInUse disk) reserved.now.blocks reserved.now.used → HasPlaces disk → blocks ≡ (superblock (image_blocks disk)).blocks →
         MatchResult result (λ _. CanGoBack disk) (RefusesRollback disk)) }
     ensures cause { HasCauseOf Answer.Fault (S.faults src.old) (S.faults src.new) result }
     ensures answers { IfErr result IsRollbackAnswer }
 {
-    match reserved_used(alloc, volume, src, blocks)? {
+    if reserved.holds_of(blocks) {
+        return refuse_used(reserved.used);
+    }
+    refuse_used(reserved_used(alloc, volume, src, blocks)?)
+}
+
+/// The answer where a reserved block is in use.
+fn refuse_used(used: Option<BlockNo>) -> Result<(), Answer>
+    ensures told { (disk : Image) → HasPlaces disk → TellsReserved (IsInUse disk) (superblock (image_blocks disk)).blocks used → MatchResult result (λ _. CanGoBack disk) (RefusesRollback disk) }
+    ensures answers { IfErr result (λ e. (b : ℕ) × (e ≡ Answer.ReservedUsed b)) }
+{
+    match used {
         None => Ok(()),
         Some(block) => Err(Answer::ReservedUsed { block }),
     }

@@ -10,7 +10,7 @@ use std::alloc::Global;
 use std::test::Fail;
 use vol_block::{Block, BlockNo};
 use volume_samples::Sample;
-use volume_state::{ImageSource, image_moved, reserved_used};
+use volume_state::{ImageSource, Reserved, image_moved, read_way, reserved_used};
 
 fn filled(byte: u8) -> Block {
     Block {
@@ -226,5 +226,45 @@ fn another_device_is_told(rt: HostRuntime) -> Result<(), Fail> {
         rule: BtrRule::SuperField,
     };
     assert_eq!(rt; told, Err(BtrAnswer::Refused(size)));
+    Ok(())
+}
+
+#[test]
+fn the_way_reads_each_node_once(rt: HostRuntime) -> Result<(), Fail> {
+    let mut disk = btrfs(rt.alloc(), &Sample::PLAIN)?;
+    let volume = Btrfs::open(rt.alloc(), &mut disk)?;
+    let before = disk.reads();
+    let way = read_way(rt.alloc(), &volume, &mut disk)?;
+    // Four blocks: the file tree is one leaf, and names no tree of an image.
+    assert_eq!(rt; disk.reads().saturating_sub(before), 4);
+    assert!(rt; way.map.is_none());
+    assert_eq!(rt; way.reserved.used, None);
+    assert!(rt; way.reserved.holds_of(12_288));
+    Ok(())
+}
+
+#[test]
+fn what_is_told_of_one_length_holds_of_others(rt: HostRuntime) -> Result<(), Fail> {
+    let free = Reserved {
+        blocks: 8463,
+        used: None,
+    };
+    for (blocks, expected) in [
+        (8448, true),
+        (8449, true),
+        (8463, true),
+        (8465, false),
+        (8447, false),
+        (9600, true),
+    ] {
+        assert_eq!(rt; free.holds_of(blocks), expected);
+    }
+    let used = Reserved {
+        blocks: 8463,
+        used: Some(8450),
+    };
+    for (blocks, expected) in [(8450, false), (8451, true), (8464, false)] {
+        assert_eq!(rt; used.holds_of(blocks), expected);
+    }
     Ok(())
 }

@@ -8,8 +8,9 @@ pub use Rattle.std.proofs.lemmas.List.FromFn.{get_or-range_with_len, length-rang
 pub use Rattle.std.proofs.lemmas.List.Sums.{fold_more, sum_by-append, sum_by-cons, sum_by-take-le}
 pub use Rattle.std.proofs.lemmas.Option.{get_or_from_slice_get}
 pub use Rattle.std.specs.Int.{div_ceil}
-pub use Rattle.std.specs.List.{filter, flat_map, fold, list_all, list_any, range_with_len}
+pub use Rattle.std.specs.List.{filter, flat_map, fold, list_all, list_any, range_with_len, sum_by}
 pub use Rattle.std.specs.Prelude.{All, AllPairs, Any, Contains, MatchOption, max, ◌==◌}
+pub use Rattle.btr_tree.specs.Counting.{node_bound}
 pub use Rattle.reiser_bitmap.proofs.FreeUnits.{decides_free_unit, past_units}
 pub use Rattle.reiser_bitmap.proofs.MaximalRuns.{runs_are_maximal}
 pub use Rattle.reiser_bitmap.proofs.Ranges.{all_from_contains, contains_filter, contains_range, count_more_yes, filter_contains, filter_more_no, filter_more_yes, filter_range_none, filter_range_same, range_contains, range_cut}
@@ -27,6 +28,7 @@ pub use Rattle.unit_plan.specs.Chunks.{AreChunksBy, ChunksAreFew, HoldsUnit, IsC
 unfoldable pub use Rattle.unit_plan.specs.Chunks.{has_role, role_of}
 pub use Rattle.unit_plan.specs.Dividing.{AreBegun, IsJoined, IsWithChunk, chunk_from}
 pub use Rattle.unit_plan.specs.Laws.{AreFreeUnits, AreLongRuns, AreUnitsApart, IsSoundPlan, PlansAreSound}
+pub use Rattle.unit_plan.specs.Needed.{nodes_in_unit, tree_bytes}
 pub use Rattle.unit_plan.specs.Places.{ArePlaces, PlacesServe, places_in}
 unfoldable pub use Rattle.unit_plan.specs.Places.{node_places}
 pub use Rattle.unit_plan.specs.Roles.{RoleSets, role_in}

@@ -1,5 +1,5 @@
 -- Parts of lists and of ranges.
-use Rattle.unit_plan.proofs.Imports.{◌≡◌, ℕ, zero, suc, ◌+◌, ◌-◌, ◌<◌, ◌≤◌, ◌&&◌, ◌||◌, ltb, leb, Bool, true, false, List, [], ◌∷◌, ◌++◌, length, take, drop, get_or, cond, refl, sym, ◌∙◌, ap, arith, ⊎_elim, filter, range_with_len, list_any, cases_lt, and_from, and_left, and_right, lt-ltb, le-ltb, le-leb, lt-leb, take-append-drop, drop_more, take_more, take_all, drop_all, drop-append-le, take-append-le, length-drop, length_push, filter-append, list_any-append, range_cut}
+use Rattle.unit_plan.proofs.Imports.{◌≡◌, ℕ, zero, suc, ◌+◌, ◌-◌, ◌<◌, ◌≤◌, ◌&&◌, ◌||◌, ltb, leb, Bool, true, false, List, [], ◌∷◌, ◌++◌, length, take, drop, get_or, cond, refl, sym, ◌∙◌, ap, arith, ⊎_elim, sum_by-append, sum_by-cons, filter, range_with_len, list_any, sum_by, cases_lt, and_from, and_left, and_right, lt-ltb, le-ltb, le-leb, lt-leb, take-append-drop, drop_more, take_more, take_all, drop_all, drop-append-le, take-append-le, length-drop, length_push, filter-append, list_any-append, range_cut}
 
 -- one number more in a range
 pub range_more : (a n j : ℕ) → a + n ≡ j → range_with_len a (n + 1) ≡ range_with_len a n ++ j ∷ []
@@ -78,3 +78,8 @@ any_range_past p a m n k j sum at none past =
     none_of : (j n : ℕ) → ((b : ℕ) → j ≤ b → p b ≡ false) → list_any p (range_with_len j n) ≡ false
     none_of j zero past = refl
     none_of j (suc n) past = rw (past j (omega arith), none_of (j + 1) n (λ b low. past b (omega arith))) refl
+
+-- a sum with one element more
+pub sum_next : {X : Type 0} (f : X → ℕ) (xs : List X) (i : ℕ) (d : X) (before one : ℕ) → i < length xs → before ≡ sum_by f (take i xs) → one ≡ f (get_or xs i d) → before + one ≡ sum_by f (take (i + 1) xs)
+sum_next f xs i d before one inside is also =
+    omega (arith, is, also, ap (λ ys. sum_by f ys) (take_more xs i d inside), sum_by-append f (take i xs) (get_or xs i d ∷ []), sum_by-cons f (get_or xs i d) [])

@@ -1,10 +1,9 @@
 -- Where the nodes of units lie.
-use Rattle.unit_plan.proofs.Imports.{◌≡◌, ◌≢◌, ◌⊎◌, ℕ, suc, ◌+◌, ◌-◌, ◌*◌, ◌/◌, ◌%◌, ◌^◌, ◌<◌, ◌≤◌, List, [], ◌∷◌, ◌++◌, length, map, take, get_or, refl, sym, ◌∙◌, ap, subst, arith, ⊎_elim, append_assoc, length-append, All, AllPairs, flat_map, range_with_len, cases_lt, append-nil, map-append, take_more, get_or_append_left, get_or-map, length-map, All-append, length-range_with_len, get_or-range_with_len, places_in, node_places, ArePlaces, PlacesServe}
+use Rattle.unit_plan.proofs.Imports.{◌≡◌, ◌≢◌, ◌⊎◌, ℕ, suc, ◌+◌, ◌-◌, ◌*◌, ◌/◌, ◌%◌, ◌^◌, ◌<◌, ◌≤◌, List, [], ◌∷◌, ◌++◌, length, map, take, get_or, refl, sym, ◌∙◌, ap, subst, arith, ⊎_elim, append_assoc, length-append, All, AllPairs, flat_map, range_with_len, cases_lt, append-nil, map-append, take_more, get_or_append_left, get_or-map, length-map, All-append, length-range_with_len, get_or-range_with_len, places_in, node_places, ArePlaces, PlacesServe, nodes_in_unit}
 use Rattle.std.proofs.Math.Seq.{get_or-append_right}
 use Rattle.std.proofs.lemmas.List.Concat.{flat_map-append}
 use Rattle.btr_tree.specs.btr_node.NodeSize.{IsNodeSize}
 use Rattle.btr_tree.specs.Building.{AreSlots}
-use Rattle.unit_plan.specs.Needed.{nodes_in_unit}
 use Rattle.unit_plan.proofs.Lists.{range_more}
 
 pub places_none : (n : ℕ) (units : List ℕ) → [] ≡ node_places n (take 0 units)

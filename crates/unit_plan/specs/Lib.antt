@@ -13,3 +13,4 @@ pub mod Places
 pub mod Roles
 pub mod Staying
 pub mod Sums
+pub mod Trees

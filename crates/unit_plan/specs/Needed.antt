@@ -2,13 +2,17 @@
 -- by the counts alone.
 use Rattle.std.specs.Prelude.{ℕ, ◌+◌, ◌*◌, ◌/◌, ◌^◌, ◌<◌}
 use Rattle.std.specs.Int.{div_ceil}
+use Rattle.std.specs.List.{sum_by}
 use Rattle.unit_plan.specs.declared.item_bytes.TheConstants.{BLOCK_GROUP_BYTES, CHUNK_BYTES, DEVICE_BYTES, DEV_EXTENT_BYTES, EXTENT_BYTES, FILE_EXTENT_BYTES, HEAD_BYTES, IMAGE_ROOM, INLINE_BYTES, INODE_BYTES, NAME_BYTES, NAME_COPIES, NODE_BYTES, RELOCATION_ROOM, ROOT_DIRECTORY_ROOM, ROOT_TREE_ROOM}
 use Rattle.btr_tree.specs.csum_kinds.declared.kind.SumKind.{SumKind}
 use Rattle.btr_tree.specs.csum_kinds.Kind.{kind_width}
 use Rattle.btr_tree.specs.Counting.{node_bound}
 use Rattle.unit_plan.specs.Sums.{sums_in_item}
+use Rattle.unit_plan.specs.Trees.{new_trees}
 use Rattle.unit_plan.specs.declared.counts.Counts.{Counts}
 use Rattle.unit_plan.specs.declared.need.Need.{Need}
+use Rattle.unit_plan.specs.declared.tree.NewTree.{NewTree}
+use Rattle.unit_plan.specs.declared.tree.NewTree.TheVariants.{Files, SavedImage, Relocation, Checksums, Devices}
 use Rattle.convert_options.specs.declared.options.Options.{Options}
 
 -- how many nodes fill a unit
@@ -44,11 +48,17 @@ chunk_tree_bytes chunks = CHUNK_BYTES * chunks + DEVICE_BYTES
 abbrev pub chunk_nodes : Options → Counts → ℕ
 chunk_nodes o c = node_bound (chunk_tree_bytes (chunk_bound c.runs c.blocks)) o.nodesize
 
+-- a bound of the bytes of a tree's items
+abbrev pub tree_bytes : SumKind → Counts → NewTree → ℕ
+tree_bytes sums c Files = file_tree_bytes c
+tree_bytes sums c SavedImage = image_tree_bytes c
+tree_bytes sums c Relocation = RELOCATION_ROOM
+tree_bytes sums c Checksums = checksum_tree_bytes sums c
+tree_bytes sums c Devices = device_tree_bytes (chunk_bound c.runs c.blocks)
+
 -- the nodes of all trees but the chunk tree and the extent tree
 abbrev pub other_nodes : Options → Counts → ℕ
-other_nodes o c =
-    node_bound (file_tree_bytes c) o.nodesize + node_bound (image_tree_bytes c) o.nodesize + node_bound (checksum_tree_bytes o.sums c) o.nodesize
-    + node_bound (device_tree_bytes (chunk_bound c.runs c.blocks)) o.nodesize + node_bound ROOT_TREE_ROOM o.nodesize + node_bound RELOCATION_ROOM o.nodesize
+other_nodes o c = sum_by (λ t. node_bound (tree_bytes o.sums c t) o.nodesize) new_trees + node_bound ROOT_TREE_ROOM o.nodesize
 
 -- an extent for each piece and each node of the other trees, and a block group for each chunk
 abbrev pub extent_tree_bytes : Options → Counts → ℕ

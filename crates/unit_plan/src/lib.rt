@@ -19,6 +19,7 @@ mod roles;
 mod spare;
 mod staying;
 mod sums;
+mod tree;
 mod units;
 
 pub use btr_tree::{DirEntry, Extref, Inode, InodeRef, Key};
@@ -32,4 +33,5 @@ pub use piece::{Piece, PieceList};
 pub use places::slots_of;
 pub use plan::{Plan, PlanAnswer};
 pub use sums::sums_in_item;
+pub use tree::{NewTree, new_trees};
 pub use units::Units;

@@ -1,4 +1,5 @@
-ghost use Rattle.std.specs.Prelude.{◌≡◌, ◌+◌, ◌*◌, ◌≤◌, ◌<◌, ◌^◌};
+ghost use Rattle.std.specs.Prelude.{◌≡◌, ◌+◌, ◌*◌, ◌≤◌, ◌<◌, ◌^◌, length};
+ghost use Rattle.std.specs.List.{sum_by};
 ghost use Rattle.btr_tree.specs.btr_node.NodeSize.{IsNodeSize};
 ghost use Rattle.btr_tree.specs.Counting.{node_bound};
 ghost use Rattle.btr_tree.specs.csum_kinds.Kind.{kind_width};
@@ -12,6 +13,7 @@ ghost use Rattle.unit_plan.specs.Needed.{
   image_tree_bytes,
   checksum_tree_bytes,
   chunk_nodes,
+  tree_bytes,
   other_nodes,
   extent_nodes,
 };
@@ -23,6 +25,7 @@ use crate::item_bytes::{
     NODE_BYTES, RELOCATION_ROOM, ROOT_DIRECTORY_ROOM, ROOT_TREE_ROOM,
 };
 use crate::sums::{sum_width, sums_in_item};
+use crate::tree::{NewTree, new_trees};
 use btr_tree::{SumKind, node_bound};
 use convert_options::Options;
 
@@ -117,12 +120,37 @@ fn other_nodes(counts: &Counts, options: &Options) -> u64
     ensures exact { result ≡ other_nodes options.now counts.now }
     ensures small { result < 2 ^ 53 }
 {
-    nodes_for(file_tree_bytes(counts), options)
-        + nodes_for(image_tree_bytes(counts), options)
-        + nodes_for(checksum_tree_bytes(counts, options.sums), options)
-        + nodes_for(DEV_EXTENT_BYTES * chunk_bound(counts), options)
-        + nodes_for(ROOT_TREE_ROOM, options)
-        + nodes_for(RELOCATION_ROOM, options)
+    nodes_together(&new_trees(), counts, options) + nodes_for(ROOT_TREE_ROOM, options)
+}
+
+/// A bound of the nodes of a few trees together.
+fn nodes_together(trees: &[NewTree], counts: &Counts, options: &Options) -> u64
+    requires counts { AreSmall counts.now }
+    requires size { IsNodeSize options.now.nodesize }
+    requires few { length trees.now ≤ 7 }
+    ensures exact { result ≡ sum_by (λ t. node_bound (tree_bytes options.now.sums counts.now t) options.now.nodesize) trees.now }
+    ensures small { result ≤ 2 ^ 50 * length trees.now }
+{
+    let mut nodes = 0;
+    for tree in trees {
+        nodes += nodes_for(tree_bytes(*tree, counts, options.sums), options);
+    }
+    nodes
+}
+
+/// A bound of the bytes of a tree's items.
+fn tree_bytes(tree: NewTree, counts: &Counts, sums: SumKind) -> u64
+    requires { AreSmall counts.now }
+    ensures exact { result ≡ tree_bytes sums counts.now tree }
+    ensures small { result < 2 ^ 60 }
+{
+    match tree {
+        NewTree::Files => file_tree_bytes(counts),
+        NewTree::SavedImage => image_tree_bytes(counts),
+        NewTree::Relocation => RELOCATION_ROOM,
+        NewTree::Checksums => checksum_tree_bytes(counts, sums),
+        NewTree::Devices => DEV_EXTENT_BYTES * chunk_bound(counts),
+    }
 }
 
 fn file_tree_bytes(counts: &Counts) -> u64

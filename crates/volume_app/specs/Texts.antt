@@ -26,6 +26,7 @@ help_text =
     ++ codes "  --nodesize N   bytes of a tree's node: 4096, 8192, 16384 (the default), 32768 or 65536" ++ 10 ∷ []
     ++ codes "  --no-inline    keep no small file in the tree" ++ 10 ∷ []
     ++ codes "  --no-datasum   make no checksums of data" ++ 10 ∷ []
+    ++ codes "  --csum NAME    make checksums by crc32c (the default) or sha256" ++ 10 ∷ []
     ++ codes "Options of convert alone, before the path:" ++ 10 ∷ []
     ++ codes "  --label TEXT   give the new volume this label, of at most 255 bytes" ++ 10 ∷ []
     ++ codes "  --copy-label   keep the label of the volume" ++ 10 ∷ []

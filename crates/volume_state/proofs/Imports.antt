@@ -6,15 +6,17 @@ pub use Rattle.std.proofs.lemmas.List.{append-nil, ext_get_or, get_or_default, m
 pub use Rattle.std.proofs.lemmas.List.Elements.{All-cons, All-head, All-more, All-nil, All-tail, Contains-append_cases, Contains-append_left, Contains-append_right}
 pub use Rattle.std.proofs.lemmas.Result.{err_from_is_err_and}
 pub use Rattle.std.specs.List.{All, flat_map}
-pub use Rattle.std.specs.Option.{option_and_then, option_map}
+pub use Rattle.std.specs.Option.{option_and_then, option_map, option_or}
 pub use Rattle.btr_node.specs.Inner.{children_in}
 pub use Rattle.btr_node.specs.Leaf.{items_in}
 pub use Rattle.btr_node.specs.Rules.{broken, inner_damages, leaf_damages}
 pub use Rattle.btr_node.specs.btr_keys.FileExtent.{ContentValue, FileExtentValue, Inline, Prealloc, Regular, file_extent_of}
 pub use Rattle.btr_node.specs.btr_keys.declared.file_extent.DiskRange.{DiskRange}
 pub use Rattle.btr_node.specs.declared.child.Child.{Child}
+pub use Rattle.btr_reader.proofs.Among.{among_first, among_left, among_none}
+pub use Rattle.btr_reader.proofs.MapApart.{opened_apart}
 pub use Rattle.btr_reader.proofs.PartsRead.{no_log, none_in, of_disk, of_volume, one_log, opened_super}
-pub use Rattle.btr_reader.proofs.Stages.{file_tree_refused, later_none, saved_refused}
+pub use Rattle.btr_reader.proofs.Stages.{file_tree_refused, later_none, none_saved, saved_refused, top_read}
 pub use Rattle.btr_reader.specs.Apart.{AreExtentsApart, AreNodesApart, IsApart, IsContentApart, IsSameOutside, IsVolumeApart, boot_map, root_of, saved_tree}
 pub use Rattle.btr_reader.specs.Chunks.{chunk_in, items_refusals, range_of, with_chunk, with_items}
 pub use Rattle.btr_reader.specs.Image.{ImageFile, after_pointer, after_root, block_by_extent, content_block, entry_refusals, file_block, file_if_image, file_refusals, if_there, image_at, image_below, image_entry, image_in, image_place, image_refusals, image_refusals_in, inode_number, is_file_mode, is_image, items_at, own_refusals, pointer_in, refusals_below, root_refusals, saved_image, saved_location, saved_refusals, tree_number}
@@ -64,4 +66,4 @@ pub use Rattle.volume_state.specs.Nodes.{below_faults, below_nodes, own_faults}
 pub use Rattle.volume_state.specs.Reserved.{IsBetween, IsMapApart, LieInCopy, LieInRange, LieInSecond, TellsBetween}
 pub use Rattle.volume_state.specs.Saved.{IsImageMissing, block_or_hole, blocks_by, blocks_by_map, file_blocks, place_by_file, saved_file, saved_place}
 unfoldable pub use Rattle.volume_state.specs.Saved.{image_blocks}
-pub use Rattle.volume_state.specs.Using.{HoldsExtent, HoldsNode, HoldsNodeOf, HoldsPartOf, IsInFiles, IsInUse, LieIn, RefusesUse, TellsReserved, chunk_node, content_range, file_part, file_pointer, file_trees, has_log, item_range, named_by, numbered, root_node, tree_if, unreadable}
+pub use Rattle.volume_state.specs.Using.{HoldsExtent, HoldsNode, HoldsNodeOf, HoldsPartOf, IsInFiles, IsInRoots, IsInUse, LieIn, RefusesUse, TellsReserved, chunk_node, content_range, file_part, file_pointer, file_trees, has_log, item_range, named_by, numbered, root_node, tree_if, unreadable}

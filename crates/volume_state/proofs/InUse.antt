@@ -1,5 +1,5 @@
 -- What is told of the blocks that a volume uses, from its trees to the whole.
-use Rattle.volume_state.proofs.Imports.{◌≡◌, ◌≢◌, inr, ℕ, List, [], ◌∷◌, ◌++◌, length, Contains, Option, Some, None, refl, sym, ◌∙◌, subst, arith, All-cons, All-head, All-nil, All-tail, SUPER_BLOCK, Image, block_at, BtrAnswer, Refused, Fault, Memory, BtrRefusal, LogPending, IsReserved, none_left, AreInBlocks, IsInBlocks, no_log, of_disk, of_volume, one_log, opened_super, items_refusals, IsSuperInBounds, IsBtrfsOpened, boot_chunks, boot_list, boot_refusals, chunk_tree, map_from, or_later, root_tree, trees_refusals, way_refusals, ChunkAt, Super, IsAmong, found, met, wrong, MapRange, boot_map, HoldsNodeOf, IsInFiles, IsInUse, RefusesUse, TellsReserved, chunk_node, file_part, has_log, root_node, unreadable, later_none}
+use Rattle.volume_state.proofs.Imports.{◌≡◌, ◌≢◌, ⊎_elim, inl, inr, ℕ, List, [], ◌∷◌, ◌++◌, length, Contains, Option, Some, None, refl, sym, ◌∙◌, subst, arith, All-cons, All-head, All-nil, All-tail, SUPER_BLOCK, Image, block_at, BtrAnswer, Refused, Fault, Memory, BtrRefusal, LogPending, IsReserved, none_left, AreInBlocks, IsInBlocks, no_log, of_disk, of_volume, one_log, opened_super, items_refusals, IsSuperInBounds, IsBtrfsOpened, boot_chunks, boot_list, boot_refusals, chunk_tree, map_from, or_later, root_tree, trees_refusals, way_refusals, ChunkAt, Super, IsAmong, found, met, wrong, MapRange, boot_map, HoldsNodeOf, IsInFiles, IsInRoots, IsInUse, RefusesUse, TellsReserved, chunk_node, file_part, has_log, root_node, unreadable, option_or, later_none}
 use Rattle.btr_reader.proofs.MapBlocks.{opened_in_blocks}
 use Rattle.btr_reader.proofs.Opens.{opening_is}
 use Rattle.btr_reader.proofs.Supers.{in_bounds}
@@ -77,6 +77,15 @@ module _ (image : Image) (s : Super) (ranges : List MapRange) (opened : IsBtrfsO
           chunks b reserved (chunk_by_map b (subst (λ (t : Super). HoldsNodeOf image (boot_map t) (chunk_tree t) b) (sym (opened_super image s ranges opened)) holding))
       unused b reserved (root_node holding) = roots b reserved (of_volume image s ranges (λ t m. HoldsNodeOf image m (root_tree t) b) opened holding)
       unused b reserved (file_part holding) = files b reserved holding
+
+  -- the chunk tree and the root tree, and then the two of files
+  pub roots_told : (blocks : ℕ) (o : Option ℕ) → TellsReserved (HoldsNodeOf image ranges (chunk_tree s)) blocks None → TellsReserved (HoldsNodeOf image ranges (root_tree s)) blocks o → TellsReserved (IsInRoots image s ranges) blocks o
+  roots_told blocks None chunks roots = λ b reserved holds. ⊎_elim (chunks b reserved) (roots b reserved) holds
+  roots_told blocks (Some b) chunks roots = (roots.0, inr roots.1)
+
+  pub whole_told : (blocks : ℕ) (first second : Option ℕ) → TellsReserved (IsInRoots image s ranges) blocks first → TellsReserved (IsInFiles image) blocks second → TellsReserved (IsInUse image) blocks (option_or first second)
+  whole_told blocks None second roots files = all_told blocks second (λ b reserved holds. roots b reserved (inl holds)) (λ b reserved holds. roots b reserved (inr holds)) files
+  whole_told blocks (Some b) second roots files = ⊎_elim (λ chunk. chunk_used blocks b (roots.0, chunk)) (λ root. root_used blocks b (roots.0, root)) roots.1
 
   -- ---- what is answered
   pub log_refused : s.log_root ≢ 0 → RefusesUse image (Refused (LogPending s.log_root))

@@ -1,7 +1,6 @@
 -- What is told of reserved blocks, from the parts of a volume to the whole.
-use Rattle.volume_state.proofs.Imports.{◌≡◌, ⊎_elim, inr, ℕ, List, [], ◌∷◌, ◌++◌, Contains, Option, Some, None, Result, Ok, Err, refl, sym, ◌∙◌, ap, subst, arith, option_and_then, Contains-append_right, FS_TREE, Image, BtrAnswer, BtrRefusal, entry_refusals, if_there, image_refusals, image_refusals_in, items_at, pointer_in, refusals_below, root_refusals, saved_location, saved_refusals, tree_number, IsBtrfsOpened, or_later, tree_of, own_map, own_super, way_refusals, FindsNumbered, FindsSaved, FindsTree, pointer_of, root_item, roots_on, of_disk, Super, TreeItem, order_damages, IsAmong, found, wrong, MapRange, NodePointer, Tree, at_head, head_or_tail, below_faults, HoldsExtent, HoldsNodeOf, HoldsPartOf, IsInFiles, TellsReserved, file_trees, named_by, numbered, tree_if}
+use Rattle.volume_state.proofs.Imports.{◌≡◌, ⊎_elim, inl, inr, ℕ, List, [], ◌∷◌, ◌++◌, Contains, Option, Some, None, Result, Ok, Err, refl, sym, ◌∙◌, ap, subst, arith, option_and_then, option_or, Contains-append_right, FS_TREE, Image, BtrAnswer, BtrRefusal, entry_refusals, if_there, image_refusals, image_refusals_in, items_at, pointer_in, refusals_below, root_refusals, saved_location, saved_refusals, tree_number, IsBtrfsOpened, or_later, tree_of, own_map, own_super, way_refusals, FindsNumbered, FindsSaved, FindsTree, pointer_of, root_item, roots_on, of_disk, Super, TreeItem, order_damages, IsAmong, found, wrong, MapRange, NodePointer, Tree, at_head, head_or_tail, below_faults, HoldsExtent, HoldsNodeOf, HoldsPartOf, IsInFiles, TellsReserved, file_trees, named_by, numbered, tree_if, among_first, among_left}
 use Rattle.std.specs.Result.{MatchResult}
-use Rattle.btr_reader.proofs.Among.{among_first, among_left}
 use Rattle.volume_state.proofs.Placed.{no_some, some_is}
 use Rattle.volume_state.proofs.Reaching.{at_root, there}
 
@@ -22,6 +21,12 @@ pub part_told : (image : Image) (ranges : List MapRange) (t : Tree) (blocks : �
     → TellsReserved (HoldsPartOf image ranges t) blocks o
 part_told image ranges t blocks None nodes extents = λ b reserved holds. ⊎_elim (nodes b reserved) (extents b reserved) holds
 part_told image ranges t blocks (Some b) nodes extents = (extents.0, inr extents.1)
+
+-- a tree by what was found of its nodes and of its extents, the nodes first
+pub parts_told : (image : Image) (ranges : List MapRange) (t : Tree) (blocks : ℕ) (first second : Option ℕ) → TellsReserved (HoldsNodeOf image ranges t) blocks first → TellsReserved (HoldsExtent (found image ranges t) ranges) blocks second
+    → TellsReserved (HoldsPartOf image ranges t) blocks (option_or first second)
+parts_told image ranges t blocks None second nodes extents = part_told image ranges t blocks second nodes extents
+parts_told image ranges t blocks (Some b) second nodes extents = (nodes.0, inl nodes.1)
 
 -- ---- the two trees of files
 module _ (image : Image) (s : Super) (ranges : List MapRange) where
@@ -146,6 +151,15 @@ module _ (image : Image) (s : Super) (ranges : List MapRange) where
         (head_or_tail file (t ∷ []) holds.tree (subst (λ (ts : List Tree). Contains ts holds.tree) (both_are t is_other) holds.among))
     both_told blocks t (Some b) is_other none other =
         (other.0, record { tree = t; among = subst (λ (ts : List Tree). Contains ts t) (sym (both_are t is_other)) (Contains-append_right (file ∷ []) (t ∷ []) t (at_head t [])); holds = other.1 })
+
+    -- by what was found of each
+    pub alone_by_own : (blocks : ℕ) (own : Option ℕ) → FindsSaved s roots (entries p) (found image ranges file) (Ok None) → TellsReserved (HoldsPartOf image ranges file) blocks own → TellsReserved InTrees blocks own
+    alone_by_own blocks None finds told = alone_told blocks finds told
+    alone_by_own blocks (Some b) finds told = file_told blocks b told
+
+    pub both_by_each : (blocks : ℕ) (t : Tree) (own other : Option ℕ) → IsOther t → TellsReserved (HoldsPartOf image ranges file) blocks own → TellsReserved (HoldsPartOf image ranges t) blocks other → TellsReserved InTrees blocks (option_or own other)
+    both_by_each blocks t None other is_other first second = both_told blocks t other is_other first second
+    both_by_each blocks t (Some b) other is_other first second = file_told blocks b first
 
 -- the file tree that was found
 pub record IsFile (image : Image) (s : Super) (ranges : List MapRange) (t : Tree) : Type 0 where

@@ -109,6 +109,10 @@ pub record IsInFiles (disk : Image) (b : ℕ) : Type 0 where
   pub among : Contains (file_trees disk (own_super disk) (own_map disk)) tree
   pub holds : HoldsPartOf disk (own_map disk) tree b
 
+-- by this map it holds a node of the chunk tree or of the root tree
+abbrev pub IsInRoots : Image → Super → List MapRange → ℕ → Type 0
+IsInRoots disk s ranges b = HoldsNodeOf disk ranges (chunk_tree s) b ⊎ HoldsNodeOf disk ranges (root_tree s) b
+
 -- Block b of the disk holds a node of the chunk tree, the root tree, the file tree or the tree of the saved image, or a file extent of
 -- one of the last two. The chunk tree lies where the chunks in the superblock say.
 pub data IsInUse (disk : Image) (b : ℕ) : Type 0 where

@@ -1,12 +1,7 @@
 // The file extents of a tree.
-ghost use Rattle.std.specs.Prelude.{◌≡◌, IfErr};
-ghost use Rattle.std.specs.Result.{MatchResult};
-ghost use Rattle.reiser_bitmap.specs.outside.Fault.{HasCauseOf};
-ghost use Rattle.reiser_bitmap.specs.outside.History.{OverTold};
+ghost use Rattle.std.specs.Prelude.{◌≡◌, []};
 ghost use Rattle.btr_node.specs.btr_keys.FileExtent.{content_value};
-ghost use Rattle.btr_reader.specs.Reading.{IsWalkable};
 ghost use Rattle.btr_reader_walk.specs.Events.{TreeItem};
-ghost use Rattle.btr_reader_walk.specs.Walks.{IsAmong, IsBadOrFailed, LieOn, found, wrong};
 ghost use Rattle.volume_state.specs.Extents.{TellsRange};
 ghost use Rattle.volume_state.specs.Reserved.{IsMapApart};
 ghost use Rattle.volume_state.specs.Using.{HoldsExtent, TellsReserved, content_range, item_range, range_unless_hole};
@@ -14,9 +9,9 @@ ghost use Rattle.volume_state.specs.Using.{HoldsExtent, TellsReserved, content_r
 use crate::reserved::reserved_in;
 use btr_node::{DiskRange, ExtentContent, FileExtent, Key};
 use btr_reader_contents::is_hole;
-use btr_reader_walk::{MapRange, Notes, Tree, note_items};
+use btr_reader_walk::{MapRange, Notes};
 use btrfs_format::key::EXTENT_DATA;
-use reiser_bitmap::{BlockNo, BlockSource, BtrAnswer, Memory};
+use reiser_bitmap::{BlockNo, Memory};
 use std::alloc::Global;
 
 /// The range on the device, unless it is a hole.
@@ -52,11 +47,26 @@ fn item_range(key: &Key, body: &[u8]) -> Option<DiskRange>
 
 /// A reserved block in which a file extent lies, of those that were noted.
 #[derive(Drop)]
-struct ReservedExtent<'a> {
+pub struct ReservedExtent<'a> {
     ranges: &'a [MapRange],
     /// The blocks of the volume whose blocks are reserved.
     blocks: u64,
-    found: Option<BlockNo>,
+    pub found: Option<BlockNo>,
+}
+
+impl<'a> ReservedExtent<'a> {
+    /// None so far, on a volume of so many blocks.
+    pub fn new(ranges: &'a [MapRange], blocks: u64) -> ReservedExtent<'a>
+        ensures ranges { result.ranges.now ≡ ranges.now }
+        ensures blocks { result.blocks ≡ blocks }
+        ensures begun { IsMapApart ranges.now → TellsReserved (HoldsExtent [] ranges.now) blocks result.found }
+    {
+        ReservedExtent {
+            ranges,
+            blocks,
+            found: None,
+        }
+    }
 }
 
 impl Notes for ReservedExtent<'_> {
@@ -91,29 +101,4 @@ fn reserved_extent_of(key: &Key, body: &[u8], ranges: &[MapRange], blocks: u64) 
         range.disk_num_bytes,
         blocks,
     )
-}
-
-/// A reserved block of a volume of so many blocks in which a disk extent that a tree names lies. None exactly where there is none.
-pub fn reserved_extent<S: BlockSource>(
-    alloc: Global,
-    src: &mut S,
-    tree: &Tree,
-    ranges: &[MapRange],
-    blocks: u64,
-) -> Result<Option<BlockNo>, BtrAnswer>
-    requires walkable { IsWalkable tree.now }
-    requires inside { LieOn (S.size src.old) ranges.now }
-    ensures kept { S.kept src.old src.new }
-    ensures cause { HasCauseOf BtrAnswer.Fault (S.faults src.old) (S.faults src.new) result }
-    ensures answers { IfErr result IsBadOrFailed }
-    ensures told { OverTold S.tells (S.blocks src.old) (λ image. IsMapApart ranges.now →
-        MatchResult result (TellsReserved (HoldsExtent (found image ranges.now tree.now) ranges.now) blocks) (IsAmong (wrong image ranges.now tree.now))) }
-{
-    let mut extent = ReservedExtent {
-        ranges,
-        blocks,
-        found: None,
-    };
-    note_items(alloc, src, *tree, ranges, &mut extent)?;
-    Ok(extent.found)
 }

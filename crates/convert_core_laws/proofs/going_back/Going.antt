@@ -1,5 +1,5 @@
 -- A converted volume can be turned back.
-use Rattle.convert_core_laws.proofs.Imports.{◌≡◌, ℕ, ◌*◌, ◌/◌, Bool, true, false, List, length, Option, Some, None, sym, ap, subst, ◌∙◌, arith, Image, IsReserved, is_reserved, Ids, ImageFile, image_in, saved_image, own_map, own_super, AreUnreserved, Super, found, IsMaking, Making, VolumeTrees, blocks_inside, NewIdsFit, ChunksMap, ConvertedIsReadable, IsReadableWithTrees, IsNewVolume, used_inside, EntriesAreThere, IsSpareFree, ConvertedVolumesOpen, OpensAsBefore, has, used_length, IsSameVolume, UsedBlocksDecide, superblock, used_of, NamesKeepRules, image_blocks, saved_place, IsInUse, IsReservedFree, ConvertedReservedAreSound, recount_for, TreeNode, blocks_are, Options}
+use Rattle.convert_core_laws.proofs.Imports.{◌≡◌, ℕ, ◌*◌, ◌/◌, Bool, true, false, List, length, Option, Some, None, sym, ap, subst, ◌∙◌, arith, Image, IsReserved, is_reserved, Ids, ImageFile, image_in, saved_image, own_map, own_super, AreUnreserved, Super, found, IsMaking, Making, TreeRoots, blocks_inside, NewIdsFit, ChunksMap, ConvertedIsReadable, IsReadableWithTrees, IsNewVolume, used_inside, EntriesAreThere, IsSpareFree, ConvertedVolumesOpen, OpensAsBefore, has, used_length, IsSameVolume, UsedBlocksDecide, superblock, used_of, NamesKeepRules, image_blocks, saved_place, IsInUse, IsReservedFree, ConvertedReservedAreSound, recount_for, TreeNode, blocks_are, Options, SavedImage}
 use Rattle.reiser_volume.specs.reiser_volume_contents.Laws.{SameUsed}
 use Rattle.reiser_volume.specs.reiser_super.declared.superblock.Super.{Super as OldSuper}
 use Rattle.volume_state.specs.Moved.{AreInPlace}
@@ -13,8 +13,9 @@ use Rattle.convert_core_laws.proofs.going_back.Places.{image_in_place, image_unr
 use Rattle.convert_core_laws.proofs.going_back.Reserved.{in_use_free}
 use Rattle.convert_core_laws.proofs.going_back.Spare.{lies_apart}
 use Rattle.convert_core_laws.proofs.going_back.Way.{image_is, saved_tree, trees_are}
+use Rattle.convert_core_laws.proofs.reading.Named.{tree_read}
 
-module _ (o : Options) (ids : Ids) (now : ℕ) (image other : Image) (m : Making) (r : VolumeTrees) (nodes : List TreeNode) (v : IsNewVolume o ids now image other m r nodes) (opens : OpensAsBefore image other) where
+module _ (o : Options) (ids : Ids) (now : ℕ) (image other : Image) (m : Making) (r : TreeRoots) (nodes : List TreeNode) (v : IsNewVolume o ids now image other m r nodes) (opens : OpensAsBefore image other) where
   abbrev made : IsMaking image m
   made = v.new.conversion.making
 
@@ -58,7 +59,7 @@ module _ (o : Options) (ids : Ids) (now : ℕ) (image other : Image) (m : Making
     old_in_place : (b : ℕ) → has (used_of image) b ≡ true → is_reserved b (length (used_of image)) ≡ false → saved_place other b ≡ Some b
     old_in_place b t free =
         let at = opens.saved.is.used_ b t in
-        let same : at.0 ≡ b = image_in_place image m made (own_map other) is.own (found other (own_map other) (saved_tree entries names image other m r nodes made is)) is.trees.saved.items_are file (found_in file saved) b at.0 at.1 free in
+        let same : at.0 ≡ b = image_in_place image m made (own_map other) is.own (found other (own_map other) (saved_tree entries names image other m r nodes made is)) (tree_read image other (own_super other) (own_map other) m r nodes is.trees SavedImage).items_are file (found_in file saved) b at.0 at.1 free in
         place_is other file saved b ∙ (at.1 ∙ ap (λ (n : ℕ). let p : Option ℕ = Some n in p) same)
 
     -- ---- blocks in use
@@ -69,7 +70,7 @@ module _ (o : Options) (ids : Ids) (now : ℕ) (image other : Image) (m : Making
     apart : IsSpareFree other
     apart =
         lies_apart other (length (used_of image)) total used_free
-        (λ f b at there placed. image_unreserved image m made (own_map other) is.own (found other (own_map other) (saved_tree entries names image other m r nodes made is)) is.trees.saved.items_are f (found_in f there) b at placed)
+        (λ f b at there placed. image_unreserved image m made (own_map other) is.own (found other (own_map other) (saved_tree entries names image other m r nodes made is)) (tree_read image other (own_super other) (own_map other) m r nodes is.trees SavedImage).items_are f (found_in f there) b at placed)
       where
         total : (own_super other).total_bytes / 4096 ≡ length (used_of image)
         total =

@@ -1,11 +1,13 @@
 -- No part of a converted volume lies in a reserved block.
-use Rattle.convert_core_laws.proofs.Imports.{◌≡◌, ◌≤◌, ◌<◌, ℕ, ◌+◌, ◌-◌, ◌*◌, ◌/◌, eqb, Bool, true, false, List, [], ◌∷◌, ◌++◌, length, map, Option, None, Some, refl, sym, ap, subst, ◌∙◌, ⊎_elim, arith, Contains, if◌then◌else◌, map-append, Contains-permutation, IsPermutation-sym, map-map, IsPermutation, EXTENT_DATA, CHUNK_TREE, CONV_IMAGE_SUBVOL, FS_TREE, ROOT_TREE, in_map, Image, IsReserved, Ids, DiskRange, Item, IsNodeSize, range_of, boot_list, chunk_map, chunk_tree, form_of, root_tree, tree_of, own_map, own_super, ChunkAt, AreUnreserved, IsExtent, a_node, node_kind, Recount, Span, TreeOn, all_trees, Super, GivesItself, Root, TreeItem, nodes_in, walk_events, holds, place, second_place, bare_item, found, MapRange, Form, NodePointer, Tree, IsMaking, Making, chunk_slots, new_ids, HasTrees, file_tree_items, form, image_tree_items, root_tree_items, VolumeTrees, piece_apart, new_super, IsReadableWithTrees, MapsChunks, IsNewVolume, boot_part, chunk_at, map_for, other_part, range_for, super_for, boot_map, all_from_contains, contains_cases, used_of, HasPlace, HoldsExtent, HoldsNodeOf, HoldsPartOf, IsInUse, chunk_node, file_part, file_trees, root_node, recount_for, tree_for, chunk_items, TreeNode, blocks_are, pointer_to_root, Options, PlannedChunk, Piece}
+use Rattle.convert_core_laws.proofs.Imports.{◌≡◌, ◌≤◌, ◌<◌, ℕ, ◌+◌, ◌-◌, ◌*◌, ◌/◌, eqb, Bool, true, false, List, [], ◌∷◌, ◌++◌, length, map, Option, None, Some, refl, sym, ap, subst, ◌∙◌, ⊎_elim, arith, Contains, if◌then◌else◌, map-append, Contains-permutation, IsPermutation-sym, map-map, IsPermutation, EXTENT_DATA, CHUNK_TREE, CONV_IMAGE_SUBVOL, FS_TREE, ROOT_TREE, in_map, Image, IsReserved, Ids, DiskRange, Item, IsNodeSize, range_of, boot_list, chunk_map, chunk_tree, form_of, root_tree, tree_of, own_map, own_super, ChunkAt, AreUnreserved, IsExtent, a_node, node_kind, Recount, Span, TreeOn, all_trees, Super, GivesItself, Root, TreeItem, nodes_in, walk_events, holds, place, second_place, bare_item, found, MapRange, Form, NodePointer, Tree, IsMaking, Making, chunk_slots, new_ids, TreesStand, file_tree_items, form, image_tree_items, root_tree_items, TreeRoots, piece_apart, new_super, IsReadableWithTrees, MapsChunks, IsNewVolume, boot_part, chunk_at, map_for, other_part, range_for, super_for, boot_map, all_from_contains, contains_cases, used_of, HasPlace, HoldsExtent, HoldsNodeOf, HoldsPartOf, IsInUse, chunk_node, file_part, file_trees, root_node, recount_for, tree_for, chunk_items, TreeNode, blocks_are, pointer_to_root, Options, PlannedChunk, Piece, Files, SavedImage}
 use Rattle.convert_core_laws.proofs.reading.Mapped.{boot_nodes}
 use Rattle.convert_core_laws.proofs.reading.Superblock.{size}
 use Rattle.convert_core_laws.proofs.soundness.Nodes.{chunk_at as chunk_nodes_at, met as met_by, packed_at}
 use Rattle.convert_core_laws.proofs.soundness.Recounting.{form_is, total_is}
 use Rattle.convert_core_laws.proofs.going_back.Extents.{IsOfPiece, body_range, file_range, saved_range}
 use Rattle.convert_core_laws.proofs.going_back.Options.{no_some, some_is, when_true}
+use Rattle.convert_core_laws.proofs.reading.Named.{tree_read}
+use Rattle.convert_core_laws.proofs.soundness.Among.{tree_there}
 
 -- more ranges behind a map change no place
 place_before : (xs ys : List MapRange) (a p : ℕ) → place xs a ≡ Some p → place (xs ++ ys) a ≡ Some p
@@ -28,7 +30,7 @@ no_second (c ∷ cs) a = by (holds (range_for c) a) (no_second cs a)
 only_first : (cs : List PlannedChunk) (a p : ℕ) → HasPlace (map range_for cs) a p → place (map range_for cs) a ≡ Some p
 only_first cs a p placed = ⊎_elim (λ is. is) (λ is. absurd (no_some p (sym (no_second cs a) ∙ is))) placed
 
-module _ (m : Making) (r : VolumeTrees) (nodes : List TreeNode) where
+module _ (m : Making) (r : TreeRoots) (nodes : List TreeNode) where
   chunk_tree_is : chunk_tree (super_for m r nodes) ≡ tree_of (super_for m r nodes) CHUNK_TREE (pointer_to_root r.chunk)
   unfolding new_super
   chunk_tree_is = refl
@@ -37,12 +39,12 @@ module _ (m : Making) (r : VolumeTrees) (nodes : List TreeNode) where
   unfolding new_super
   root_tree_is = refl
 
-module _ (o : Options) (ids : Ids) (now : ℕ) (image other : Image) (m : Making) (r : VolumeTrees) (nodes : List TreeNode) (v : IsNewVolume o ids now image other m r nodes) (maps : MapsChunks other m r nodes)
+module _ (o : Options) (ids : Ids) (now : ℕ) (image other : Image) (m : Making) (r : TreeRoots) (nodes : List TreeNode) (v : IsNewVolume o ids now image other m r nodes) (maps : MapsChunks other m r nodes)
     (is : IsReadableWithTrees image other m r nodes) (sound : AreUnreserved (recount_for image other m r nodes)) where
   abbrev making : IsMaking image m
   making = v.new.conversion.making
 
-  abbrev stand : HasTrees image other other m r nodes
+  abbrev stand : TreesStand image other other m r nodes
   stand = v.new.stands.trees
 
   abbrev s : Super
@@ -164,20 +166,20 @@ module _ (o : Options) (ids : Ids) (now : ℕ) (image other : Image) (m : Making
   bare_in items list i are h = subst (λ (l : List Item). Contains l (bare_item i)) are (in_map bare_item items i h)
 
   abbrev file_tree : Tree
-  file_tree = tree_of (own_super other) FS_TREE (pointer_to_root r.files)
+  file_tree = tree_of (own_super other) FS_TREE (pointer_to_root (r.tree Files))
 
   abbrev saved_tree : Tree
-  saved_tree = tree_of (own_super other) CONV_IMAGE_SUBVOL (pointer_to_root r.image)
+  saved_tree = tree_of (own_super other) CONV_IMAGE_SUBVOL (pointer_to_root (r.tree SavedImage))
 
   files_free : (b : ℕ) → HoldsPartOf other (own_map other) file_tree b → ¬ IsReserved b volume
   files_free b held =
-      ⊎_elim (λ node. own_tree_free FS_TREE r.files (file_tree_items image m) b (4, omega arith, refl) node)
-      (λ extent. extents_free (found other (own_map other) file_tree) b (λ i range h kind told. file_range image m making (bare_item i) range (bare_in (found other (own_map other) file_tree) (file_tree_items image m) i is.trees.files.items_are h) kind told) extent) held
+      ⊎_elim (λ node. own_tree_free FS_TREE (r.tree Files) (file_tree_items image m) b (tree_there image other m r nodes Files) node)
+      (λ extent. extents_free (found other (own_map other) file_tree) b (λ i range h kind told. file_range image m making (bare_item i) range (bare_in (found other (own_map other) file_tree) (file_tree_items image m) i (tree_read image other (own_super other) (own_map other) m r nodes is.trees Files).items_are h) kind told) extent) held
 
   saved_free : (b : ℕ) → HoldsPartOf other (own_map other) saved_tree b → ¬ IsReserved b volume
   saved_free b held =
-      ⊎_elim (λ node. own_tree_free CONV_IMAGE_SUBVOL r.image (image_tree_items m) b (6, omega arith, refl) node)
-      (λ extent. extents_free (found other (own_map other) saved_tree) b (λ i range h kind told. saved_range image m making (bare_item i) range (bare_in (found other (own_map other) saved_tree) (image_tree_items m) i is.trees.saved.items_are h) kind told) extent) held
+      ⊎_elim (λ node. own_tree_free CONV_IMAGE_SUBVOL (r.tree SavedImage) (image_tree_items m) b (tree_there image other m r nodes SavedImage) node)
+      (λ extent. extents_free (found other (own_map other) saved_tree) b (λ i range h kind told. saved_range image m making (bare_item i) range (bare_in (found other (own_map other) saved_tree) (image_tree_items m) i (tree_read image other (own_super other) (own_map other) m r nodes is.trees SavedImage).items_are h) kind told) extent) held
 
   -- ---- all of them
 

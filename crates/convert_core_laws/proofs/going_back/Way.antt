@@ -1,10 +1,12 @@
 -- The two file trees of a converted volume.
-use Rattle.convert_core_laws.proofs.Imports.{◌≡◌, ℕ, ◌-◌, ◌^◌, eqb, true, List, [], ◌∷◌, ◌++◌, map, Option, Some, refl, sym, ap, subst, ◌∙◌, arith, Contains, codes, if◌then◌else◌, unwrap_or, flat_map, option_and_then, Contains-append_left, Contains-append_right, ROOT_ITEM, CONV_IMAGE_SUBVOL, FS_TREE, from_map, in_map, Image, make_key, Key, names_tree, dir_indexes, has_root, DirIndex, Item, image_below, image_in, items_at, pointer_in, saved_location as entry_of_saved, saved_image, tree_number, tree_of, own_map, own_super, root_item, roots_on, Super, Root, TreeItem, bare_item, found, MapRange, NodePointer, Tree, IsMaking, Making, made_from, file_tree_items, image_tree_items, VolumeTrees, IsReadableWithTrees, ReadsTree, KeepsFileNames, Indexed, entry_to, indexed_in, names_in, next_index, saved_entry, Source, kind_in, ino_of, stat_in, EntriesAreThere, naming_by, namings_by, unplaced, root_first, Kind, Directory, File, ino_of_key, root, same_key, IsDirectory, ObjectStat, kind_by, no_stat, by_inode, volume_items, NamesKeepRules, file_pointer, file_trees, named_by, tree_if, TreeNode, pointer_to_root}
+use Rattle.convert_core_laws.proofs.Imports.{◌≡◌, ℕ, ◌-◌, eqb, true, List, [], ◌∷◌, ◌++◌, Option, Some, ap, ◌∙◌, option_and_then, ROOT_ITEM, CONV_IMAGE_SUBVOL, FS_TREE, Image, Key, names_tree, has_root, image_below, image_in, items_at, pointer_in, saved_location as entry_of_saved, saved_image, tree_of, own_map, own_super, root_item, roots_on, Super, TreeItem, found, MapRange, NodePointer, Tree, IsMaking, Making, file_tree_items, image_tree_items, TreeRoots, IsReadableWithTrees, ReadsTree, KeepsFileNames, EntriesAreThere, NamesKeepRules, file_pointer, file_trees, named_by, tree_if, TreeNode, pointer_to_root, Files, SavedImage}
+use Rattle.btr_reader.specs.Image.{tree_number}
 use Rattle.volume_state.specs.Using.{numbered}
 use Rattle.convert_core_laws.proofs.reading.SavedWay.{HasSavedEntry, pointer_by, saved_there}
 use Rattle.convert_core_laws.proofs.reading.RootKept.{saved_found}
+use Rattle.convert_core_laws.proofs.reading.Named.{tree_read}
 
-module _ (entries : EntriesAreThere) (names : NamesKeepRules) (image other : Image) (m : Making) (r : VolumeTrees) (nodes : List TreeNode) (made : IsMaking image m) (is : IsReadableWithTrees image other m r nodes) where
+module _ (entries : EntriesAreThere) (names : NamesKeepRules) (image other : Image) (m : Making) (r : TreeRoots) (nodes : List TreeNode) (made : IsMaking image m) (is : IsReadableWithTrees image other m r nodes) where
   abbrev t : Super
   t = own_super other
 
@@ -12,13 +14,13 @@ module _ (entries : EntriesAreThere) (names : NamesKeepRules) (image other : Ima
   ranges = own_map other
 
   abbrev files : List TreeItem
-  files = found other (own_map other) (tree_of (own_super other) FS_TREE (pointer_to_root r.files))
+  files = found other (own_map other) (tree_of (own_super other) FS_TREE (pointer_to_root (r.tree Files)))
 
-  tree5 : ReadsTree other (own_super other) (own_map other) FS_TREE r.files (file_tree_items image m)
-  tree5 = is.trees.files
+  tree5 : ReadsTree other (own_super other) (own_map other) FS_TREE (r.tree Files) (file_tree_items image m)
+  tree5 = tree_read image other (own_super other) (own_map other) m r nodes is.trees Files
 
   keeps : KeepsFileNames other r
-  keeps = names m.volume image m.options m.plan m.pieces files (has_root (roots_on other (own_super other) (own_map other))) r.files.address made.has_pieces tree5.items_are
+  keeps = names m.volume image m.options m.plan m.pieces files (has_root (roots_on other (own_super other) (own_map other))) (r.tree Files).address made.has_pieces tree5.items_are
 
   there : HasSavedEntry files
   there = saved_there image m made entries files tree5.items_are
@@ -28,20 +30,20 @@ module _ (entries : EntriesAreThere) (names : NamesKeepRules) (image other : Ima
 
   number_is : option_and_then tree_number (entry_of_saved files) ≡ Some 256
   number_is =
-      ap (λ (k : Option Key). option_and_then tree_number k) (saved_found (has_root (roots_on other (own_super other) (own_map other))) files r.files.address keeps there.entry there.among there.dir there.name leads)
+      ap (λ (k : Option Key). option_and_then tree_number k) (saved_found (has_root (roots_on other (own_super other) (own_map other))) files (r.tree Files).address keeps there.entry there.among there.dir there.name leads)
       ∙ ap tree_number there.location
 
-  file_root : file_pointer other (own_super other) (own_map other) ≡ Some (pointer_to_root r.files)
-  file_root = pointer_by other t ranges FS_TREE r.files (file_tree_items image m) tree5
+  file_root : file_pointer other (own_super other) (own_map other) ≡ Some (pointer_to_root (r.tree Files))
+  file_root = pointer_by other t ranges FS_TREE (r.tree Files) (file_tree_items image m) tree5
 
-  saved_root : pointer_in (root_item CONV_IMAGE_SUBVOL (roots_on other (own_super other) (own_map other))) ≡ Some (pointer_to_root r.image)
-  saved_root = pointer_by other t ranges CONV_IMAGE_SUBVOL r.image (image_tree_items m) is.trees.saved
+  saved_root : pointer_in (root_item CONV_IMAGE_SUBVOL (roots_on other (own_super other) (own_map other))) ≡ Some (pointer_to_root (r.tree SavedImage))
+  saved_root = pointer_by other t ranges CONV_IMAGE_SUBVOL (r.tree SavedImage) (image_tree_items m) (tree_read image other (own_super other) (own_map other) m r nodes is.trees SavedImage)
 
   abbrev pub file_tree : Tree
-  file_tree = tree_of (own_super other) FS_TREE (pointer_to_root r.files)
+  file_tree = tree_of (own_super other) FS_TREE (pointer_to_root (r.tree Files))
 
   abbrev pub saved_tree : Tree
-  saved_tree = tree_of (own_super other) CONV_IMAGE_SUBVOL (pointer_to_root r.image)
+  saved_tree = tree_of (own_super other) CONV_IMAGE_SUBVOL (pointer_to_root (r.tree SavedImage))
 
   -- the file tree names tree 256 as that of the saved image
   pub trees_are : file_trees other (own_super other) (own_map other) ≡ file_tree ∷ (saved_tree ∷ [])

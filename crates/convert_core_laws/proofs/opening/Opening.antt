@@ -1,9 +1,10 @@
 -- A converted volume opens as it was before.
-use Rattle.convert_core_laws.proofs.Imports.{◌≡◌, inr, ◌<◌, ℕ, ◌^◌, nat_le, nat_lt, Bool, true, false, List, [], ◌∷◌, length, Ok, refl, sym, ap, subst, ◌∙◌, ⊎_elim, arith, Contains, if◌then◌else◌, and_parts, nat_tests, SUPER_BLOCK, SUPER_INFO_OFFSET, SUPER_MAGIC_OFFSET, FS_TREE, format_in, Image, block_at, BtrRefusal, BadBtrfs, Unsupported, SuperCsum, ChecksumType, format, has_bytes_at, has_reiser_magic, Btrfs, Neither, Reiser, Ids, has_root, KeepsNames, BtrfsRowsAreOne, opening_refusals, super_on, tree_of, AreRowsOfBtrfs, IsReadable, own_map, own_super, roots_on, bad_field, failing, field_rules, is_super, super_of, super_refusals, unless_refused, csum_type_of, has_sum, known_kind, super_in, Super, TreeItem, found, ConvertedFilesAreRead, ReadsFiles, BytesAreKept, AreRangesOf, IsMaking, Making, made_from, file_tree_items, VolumeTrees, IsNew, HasFsid, NewIdsFit, ConvertedIsReadable, IsReadableWithTrees, SuperblockReads, IsNewVolume, ReadsTree, super_for, ReadsSavedImage, SavedImageIsReadable, AreRowsOf, NamesKeepRules, HasBytes, KeepsBytes, RowsAreKept, AreIds, TreeNode, pointer_to_root, Options, ConvertedVolumesOpen, OpensAsBefore}
+use Rattle.convert_core_laws.proofs.Imports.{◌≡◌, inr, ◌<◌, ℕ, ◌^◌, nat_le, nat_lt, Bool, true, false, List, [], ◌∷◌, length, Ok, refl, sym, ap, subst, ◌∙◌, ⊎_elim, arith, Contains, if◌then◌else◌, and_parts, nat_tests, SUPER_BLOCK, SUPER_INFO_OFFSET, SUPER_MAGIC_OFFSET, FS_TREE, format_in, Image, block_at, BtrRefusal, BadBtrfs, Unsupported, SuperCsum, ChecksumType, format, has_bytes_at, has_reiser_magic, Btrfs, Neither, Reiser, Ids, has_root, KeepsNames, BtrfsRowsAreOne, opening_refusals, super_on, tree_of, AreRowsOfBtrfs, IsReadable, own_map, own_super, roots_on, bad_field, failing, field_rules, is_super, super_of, super_refusals, unless_refused, csum_type_of, has_sum, known_kind, super_in, Super, TreeItem, found, ConvertedFilesAreRead, ReadsFiles, BytesAreKept, AreRangesOf, IsMaking, Making, made_from, file_tree_items, TreeRoots, IsNew, HasFsid, NewIdsFit, ConvertedIsReadable, IsReadableWithTrees, SuperblockReads, IsNewVolume, ReadsTree, super_for, ReadsSavedImage, SavedImageIsReadable, AreRowsOf, NamesKeepRules, HasBytes, KeepsBytes, RowsAreKept, AreIds, TreeNode, pointer_to_root, Options, ConvertedVolumesOpen, OpensAsBefore, Files}
 use Rattle.std.proofs.Common.{codes, is_some}
 use Rattle.btr_reader.specs.Parts.{Tree}
 use Rattle.convert_core.proofs.Wholeness.{blocks_are}
 use Rattle.reiser_volume.specs.fs_rows.Rows.{WholeRow}
+use Rattle.convert_core_laws.proofs.reading.Named.{tree_read}
 
 -- ---- the format of a disk whose superblock is read
 
@@ -39,21 +40,21 @@ no_members [] none = refl
 no_members (x ∷ xs) none = absurd (none x (0, omega arith, refl))
 
 module _ (reads : SuperblockReads) (readable : ConvertedIsReadable) (saved : SavedImageIsReadable) (names : NamesKeepRules) (kept : RowsAreKept) (bytes : BytesAreKept) (files : ConvertedFilesAreRead) (one : BtrfsRowsAreOne)
-    (o : Options) (ids : Ids) (now : ℕ) (image other : Image) (m : Making) (r : VolumeTrees) (nodes : List TreeNode) (v : IsNewVolume o ids now image other m r nodes) (low : now < 2 ^ 63) (blocks : HasBytes image) where
+    (o : Options) (ids : Ids) (now : ℕ) (image other : Image) (m : Making) (r : TreeRoots) (nodes : List TreeNode) (v : IsNewVolume o ids now image other m r nodes) (low : now < 2 ^ 63) (blocks : HasBytes image) where
   abbrev making : IsMaking image m
   making = v.new.conversion.making
 
   is : IsReadableWithTrees image other m r nodes
   is = readable o ids now image other m r nodes v
 
-  tree : ReadsTree other (own_super other) (own_map other) FS_TREE r.files (file_tree_items image m)
-  tree = is.trees.files
+  tree : ReadsTree other (own_super other) (own_map other) FS_TREE (r.tree Files) (file_tree_items image m)
+  tree = tree_read image other (own_super other) (own_map other) m r nodes is.trees Files
 
   abbrev items : List TreeItem
-  items = found other (own_map other) (tree_of (own_super other) FS_TREE (pointer_to_root r.files))
+  items = found other (own_map other) (tree_of (own_super other) FS_TREE (pointer_to_root (r.tree Files)))
 
-  names_kept : KeepsNames (has_root (roots_on other (own_super other) (own_map other))) items r.files.address
-  names_kept = names m.volume image m.options m.plan m.pieces items (has_root (roots_on other (own_super other) (own_map other))) r.files.address making.has_pieces tree.items_are
+  names_kept : KeepsNames (has_root (roots_on other (own_super other) (own_map other))) items (r.tree Files).address
+  names_kept = names m.volume image m.options m.plan m.pieces items (has_root (roots_on other (own_super other) (own_map other))) (r.tree Files).address making.has_pieces tree.items_are
 
   ranges_of : AreRangesOf m.chunks (own_map other)
   ranges_of = record { each = is.ranges.each; whole = is.ranges.whole }
@@ -73,7 +74,7 @@ module _ (reads : SuperblockReads) (readable : ConvertedIsReadable) (saved : Sav
     readable = λ refusal broken. tree_readable refusal (inr (no_opening, broken));
     item = tree.item;
     has_item = tree.has_item;
-    at = pointer_to_root r.files;
+    at = pointer_to_root (r.tree Files);
     has_root = tree.leads;
     rows_are = kept m.volume image other m.options m.plan m.pieces (own_map other) items rows making.has_pieces tree.items_are blocks keeps_bytes are;
   }

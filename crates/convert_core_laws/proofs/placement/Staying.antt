@@ -1,5 +1,5 @@
 -- The data of files stays where it is.
-use Rattle.convert_core_laws.proofs.Imports.{ℕ, ◌+◌, ◌<◌, List, subst, FS_TREE, Image, Ids, items_at, own_map, own_super, TreeItem, IsMaking, Making, HasPieces, made_from, file_tree_items, VolumeTrees, taken_free, NewIdsFit, ConvertedIsReadable, IsReadableWithTrees, IsNewVolume, ReadsTree, Source, ino_of, FilesAreHeld, root, ObjectKey, Naming, LeadsToObject, volume_items, HasSamePaths, NamesAreKept, TreeNode, pointer_to_root, Options, ConvertedDataStays, IsInPlace, StaysInPlace}
+use Rattle.convert_core_laws.proofs.Imports.{ℕ, ◌+◌, ◌<◌, List, subst, FS_TREE, Image, Ids, items_at, own_map, own_super, TreeItem, IsMaking, Making, HasPieces, made_from, file_tree_items, TreeRoots, taken_free, NewIdsFit, ConvertedIsReadable, IsReadableWithTrees, IsNewVolume, ReadsTree, Source, ino_of, FilesAreHeld, root, ObjectKey, Naming, LeadsToObject, volume_items, HasSamePaths, NamesAreKept, TreeNode, pointer_to_root, Options, ConvertedDataStays, IsInPlace, StaysInPlace, Files}
 use Rattle.reiser_volume.specs.reiser_super.declared.superblock.Super.{Super}
 use Rattle.convert_core.specs.convert_steps.Switch.{IsMirrorOf}
 use Rattle.convert_core.proofs.Putting.{used_not_free}
@@ -8,9 +8,10 @@ use Rattle.reiser_volume.specs.Opened.{links_in}
 use Rattle.convert_core_laws.proofs.reading.SavedWay.{pointer_by}
 use Rattle.convert_core_laws.proofs.soundness.Recounting.{volume_for}
 use Rattle.convert_core_laws.proofs.placement.Files.{blocks_in_place}
+use Rattle.convert_core_laws.proofs.reading.Named.{tree_read}
 
 module _ (readable : ConvertedIsReadable) (held : FilesAreHeld) (names : NamesAreKept)
-    (o : Options) (ids : Ids) (now : ℕ) (image other : Image) (m : Making) (r : VolumeTrees) (nodes : List TreeNode) (v : IsNewVolume o ids now image other m r nodes) where
+    (o : Options) (ids : Ids) (now : ℕ) (image other : Image) (m : Making) (r : TreeRoots) (nodes : List TreeNode) (v : IsNewVolume o ids now image other m r nodes) where
   abbrev made : IsMaking image m
   made = v.new.conversion.making
 
@@ -24,10 +25,10 @@ module _ (readable : ConvertedIsReadable) (held : FilesAreHeld) (names : NamesAr
   is = readable o ids now image other m r nodes v
 
   abbrev items : List TreeItem
-  items = items_at other (own_super other) (own_map other) FS_TREE (pointer_to_root r.files)
+  items = items_at other (own_super other) (own_map other) FS_TREE (pointer_to_root (r.tree Files))
 
-  tree : ReadsTree other (own_super other) (own_map other) FS_TREE r.files (file_tree_items image m)
-  tree = is.trees.files
+  tree : ReadsTree other (own_super other) (own_map other) FS_TREE (r.tree Files) (file_tree_items image m)
+  tree = tree_read image other (own_super other) (own_map other) m r nodes is.trees Files
 
   paths : HasSamePaths s items
   paths = names m.volume image m.options m.plan m.pieces items of tree.items_are
@@ -44,8 +45,8 @@ module _ (readable : ConvertedIsReadable) (held : FilesAreHeld) (names : NamesAr
   pub in_place : IsInPlace image other
   in_place = record {
     used = λ b used super mirror. v.new.others b super (λ (is : IsMirrorOf m.volume.sup.blocks b). mirror (is.0, subst (λ (s : Super). b + 1 < s.blocks) of.opened.sup is.1)) (λ taken. used_not_free image b used (taken_free m.volume image m.options m.plan m.pieces of b taken));
-    at = pointer_to_root r.files;
-    has_root = pointer_by other (own_super other) (own_map other) FS_TREE r.files (file_tree_items image m) tree;
+    at = pointer_to_root (r.tree Files);
+    has_root = pointer_by other (own_super other) (own_map other) FS_TREE (r.tree Files) (file_tree_items image m) tree;
     files = λ key named. file_stays key;
   }
 

@@ -1,8 +1,10 @@
 -- The numbers of a converted volume fit their fields.
-use Rattle.convert_core_laws.proofs.Imports.{◌≡◌, ◌≤◌, ◌<◌, ℕ, suc, ◌+◌, ◌-◌, ◌*◌, ◌^◌, Bool, List, [], ◌∷◌, ◌++◌, length, take, drop, refl, sym, ap, subst, ◌∙◌, ⊎_elim, arith, length-append, length-drop, AllPairs, flat_map, range_with_len, sum, length-map, length-take, length-range_with_len, sum_by-cons, sum_by-le, mul-le, nat_cmp, CHUNK_TREE, CONV_IMAGE_SUBVOL, CSUM_TREE, DATA_RELOC_TREE, DEV_TREE, EXTENT_TREE, FS_TREE, ROOT_TREE, Image, IsNodeSize, Item, tree_nodes, packed_leaves, tree_levels, level_pointers, lengths_of, pointers_to, pointer_to, Root, IsMaking, Making, chunk_slots, new_ids, slots, HasPieces, HasTrees, device_from, extents_from, file_tree_items, form, image_from, image_tree_items, nodes_from, nodes_of_others, relocation_from, root_from, root_tree_items, sum_tree_items, sums_from, used_bytes, VolumeTrees, sound, are_pieces, relocation_items, free_units, is_free_unit, unit_count, used_of, chunk_items, device_items, bytes_of_nodes, bytes_of_pieces, extent_items, merged_nodes, nodes_of_tree, TreeNode, length-merge, chunks_of, used_few, TreeStands, IsSoundPlan, need, nodes_in_unit, node_places, places_in, PlannedChunk}
+use Rattle.convert_core_laws.proofs.Imports.{◌≡◌, ◌≤◌, ◌<◌, ℕ, suc, ◌+◌, ◌-◌, ◌*◌, ◌^◌, Bool, List, [], ◌∷◌, ◌++◌, length, take, drop, refl, sym, ap, subst, ◌∙◌, ⊎_elim, arith, length-append, length-drop, AllPairs, flat_map, range_with_len, sum, length-map, length-take, length-range_with_len, sum_by-cons, sum_by-le, mul-le, nat_cmp, CHUNK_TREE, EXTENT_TREE, ROOT_TREE, Image, IsNodeSize, Item, tree_nodes, packed_leaves, tree_levels, level_pointers, lengths_of, pointers_to, pointer_to, Root, IsMaking, Making, chunk_slots, new_ids, slots, HasPieces, TreesStand, extents_from, form, nodes_from, nodes_of_others, root_from, root_tree_items, used_bytes, TreeRoots, placed_trees, sound, are_pieces, free_units, is_free_unit, unit_count, used_of, chunk_items, bytes_of_nodes, bytes_of_pieces, extent_items, merged_nodes, nodes_of_tree, TreeNode, length-merge, chunks_of, used_few, TreeStands, IsSoundPlan, need, nodes_in_unit, node_places, places_in, PlannedChunk, nodes_behind}
 use Rattle.std.proofs.Common.{sum_by}
+use Rattle.convert_core.specs.convert_steps.Standing.{items_of}
 use Rattle.convert_core.proofs.extent_pieces.Bounding.{filter_few}
 use Rattle.convert_core.proofs.space_items.Counting.{apart_counted, node_place, piece_bytes, piece_place, pieces_fit}
+use Rattle.convert_core_laws.proofs.reading.Named.{row_places}
 
 -- ---- the slots of units
 
@@ -104,7 +106,7 @@ module _ (image : Image) (m : Making) (made : IsMaking image m) (size : IsNodeSi
   later_few : (k : ℕ) → length (drop k (slots m)) ≤ 2 ^ 37
   later_few k = let long = length-drop k (slots m) in let few = slots_few in omega (arith, long, few)
 
-  module _ (other : Image) (r : VolumeTrees) (nodes : List TreeNode) (has : HasTrees image other other m r nodes) where
+  module _ (other : Image) (r : TreeRoots) (nodes : List TreeNode) (has : TreesStand image other other m r nodes) where
     -- the nodes of the root tree lie at the first slots behind the others
     root_few : length (nodes_from m ROOT_TREE (root_from r) (root_tree_items m r)) ≤ 2 ^ 37
     root_few =
@@ -115,40 +117,31 @@ module _ (image : Image) (m : Making) (made : IsMaking image m) (size : IsNodeSi
         let few = later_few (root_from r) in
         omega (arith, most, count, fits, long, few)
 
-    six : (a b c d e f : List TreeNode) → length a ≤ 2 ^ 37 → length b ≤ 2 ^ 37 → length c ≤ 2 ^ 37 → length d ≤ 2 ^ 37 → length e ≤ 2 ^ 37 → length f ≤ 2 ^ 37
-        → length (a ++ (b ++ (c ++ (d ++ (e ++ f))))) ≤ 6 * 2 ^ 37
-    six a b c d e f p q s t u v =
-        let first = length-append a (b ++ (c ++ (d ++ (e ++ f)))) in
-        let second = length-append b (c ++ (d ++ (e ++ f))) in
-        let third = length-append c (d ++ (e ++ f)) in
-        let fourth = length-append d (e ++ f) in
-        let fifth = length-append e f in
-        omega (arith, first, second, third, fourth, fifth, p, q, s, t, u, v)
-
     merge_few : (xs ys : List TreeNode) → length (merged_nodes xs ys) ≤ length xs + length ys
     merge_few xs ys = length-merge (λ (a b : TreeNode). nat_cmp a.address b.address) xs ys
 
     pub nodes_few : length nodes ≤ 2 ^ 40
     nodes_few =
-        let saved = tree_fits other CONV_IMAGE_SUBVOL (drop (image_from r) (slots m)) (image_tree_items m) r.image has.image_ (later_few (image_from r)) in
-        let relocation = tree_fits other DATA_RELOC_TREE (drop (relocation_from r) (slots m)) (relocation_items m.now) r.relocation has.relocation (later_few (relocation_from r)) in
-        let sums = tree_fits other CSUM_TREE (drop (sums_from r) (slots m)) (sum_tree_items other m) r.sums has.sums (later_few (sums_from r)) in
-        let device = tree_fits other DEV_TREE (drop (device_from r) (slots m)) (device_items (new_ids m) m.chunks) r.device has.device (later_few (device_from r)) in
         let chunk = tree_fits other CHUNK_TREE (chunk_slots m) (chunk_items (new_ids m) m.volume.sup.blocks m.chunks) r.chunk has.chunk chunk_slots_few in
         let extents = tree_fits other EXTENT_TREE (drop (extents_from r) (slots m)) (extent_items m.chunks m.pieces nodes m.options.nodesize) r.extents has.extents (later_few (extents_from r)) in
-        let first : length front ≤ 6 * 2 ^ 37 = six _ _ _ _ _ _ files saved relocation sums device root_few in
-        let inner = merge_few front (nodes_of_tree CHUNK_TREE m.options.nodesize (lengths_of (chunk_items (new_ids m) m.volume.sup.blocks m.chunks)) (chunk_slots m)) in
+        let many = length-append first (nodes_from m ROOT_TREE (root_from r) (root_tree_items m r)) in
+        let inner = merge_few (first ++ nodes_from m ROOT_TREE (root_from r) (root_tree_items m r)) (nodes_of_tree CHUNK_TREE m.options.nodesize (lengths_of (chunk_items (new_ids m) m.volume.sup.blocks m.chunks)) (chunk_slots m)) in
         let all = merge_few (nodes_of_others image other m r) (nodes_from m EXTENT_TREE (extents_from r) (extent_items m.chunks m.pieces nodes m.options.nodesize)) in
         let is = ap (λ (ns : List TreeNode). length ns) has.nodes_are.is in
-        omega (arith, first, inner, all, is, chunk, extents)
+        let rooted = root_few in
+        omega (arith, many, inner, all, is, chunk, extents, rooted, first_few)
       where
-        front : List TreeNode
-        front =
-            nodes_from m FS_TREE 0 (file_tree_items image m) ++ (nodes_from m CONV_IMAGE_SUBVOL (image_from r) (image_tree_items m) ++ (nodes_from m DATA_RELOC_TREE (relocation_from r) (relocation_items m.now)
-            ++ (nodes_from m CSUM_TREE (sums_from r) (sum_tree_items other m) ++ (nodes_from m DEV_TREE (device_from r) (device_items (new_ids m) m.chunks) ++ nodes_from m ROOT_TREE (root_from r) (root_tree_items m r)))))
+        first : List TreeNode
+        first = nodes_behind m.options.nodesize (slots m) (items_of image other m) 0 (placed_trees r)
 
-        files : length (nodes_from m FS_TREE 0 (file_tree_items image m)) ≤ 2 ^ 37
-        files = tree_fits other FS_TREE (slots m) (file_tree_items image m) r.files has.files slots_few
+        -- as many as there are slots, at most
+        first_few : length first ≤ 2 ^ 37
+        first_few =
+            let long = length-map first (λ (t : TreeNode). t.address) in
+            let at = ap (λ (xs : List ℕ). length xs) (row_places other (form m) (slots m) (items_of image other m) 0 (placed_trees r) has.row) in
+            let few = length-take (root_from r - 0) (slots m) in
+            let most = slots_few in
+            omega (arith, long, at, few, most)
 
     sum_both : (f g : PlannedChunk → ℕ) (cs : List PlannedChunk) → sum_by (λ c. f c + g c) cs ≡ sum_by f cs + sum_by g cs
     sum_both f g [] = refl

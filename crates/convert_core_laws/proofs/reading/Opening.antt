@@ -1,5 +1,5 @@
 -- A converted volume is opened.
-use Rattle.convert_core_laws.proofs.Imports.{◌≡◌, ◌⊎◌, ◌≤◌, ◌<◌, ℕ, ◌+◌, ◌-◌, ◌^◌, inl, inr, true, false, List, [], ◌++◌, length, map, take, drop, get_or, replicate, Option, Some, Ok, refl, sym, ap, subst, ◌∙◌, ⊎_elim, arith, All, AllPairs, Contains, unwrap_or, flat_map, both_ways, cases_lt, get_or_default, All-drop, All-take, AllPairs-filter, map-map, CHUNK_TREE, ROOT_TREE, from_filter, in_filter, Image, BtrRefusal, Ids, Item, IsNodeSize, SumKind, Crc32c, csum_number, known_kind, chunks_refusals, items_refusals, range_of, with_items, array_entry, IsBtrfsOpened, boot_chunks, boot_list, boot_refusals, chunk_tree, form_of, map_from, opening_refusals, or_later, refusals_after, root_tree, super_on, tree_of, trees_refusals, ChunkAt, arrays_read_back, Super, GivesItself, Root, bare_item, found, wrong, MapRange, Form, NodePointer, Tree, IsMaking, Making, chunk_slots, new_ids, slots, HasTrees, form, root_from, root_tree_items, VolumeTrees, blocks_inside, boot_bytes, is_system_role, new_super, all_at, all_from_contains, used_of, chunk_items, TreeNode, chunk_ends, blocks_are, chunks_of, used_few, TreeStands, pointer_to_root, AreChunks, IsChunk, role_of, usable_end, PlannedChunk, Options, ChunksMap, MapsChunks, IsNewVolume, boot_part, chunk_at, map_for, range_for, super_for, known-number}
+use Rattle.convert_core_laws.proofs.Imports.{◌≡◌, ◌⊎◌, ◌≤◌, ◌<◌, ℕ, ◌+◌, ◌-◌, ◌^◌, inl, inr, true, false, List, [], ◌++◌, length, map, take, drop, get_or, replicate, Option, Some, Ok, refl, sym, ap, subst, ◌∙◌, ⊎_elim, arith, All, AllPairs, Contains, unwrap_or, flat_map, both_ways, cases_lt, get_or_default, All-drop, All-take, AllPairs-filter, map-map, CHUNK_TREE, ROOT_TREE, from_filter, in_filter, Image, BtrRefusal, Ids, Item, IsNodeSize, SumKind, Crc32c, csum_number, known_kind, chunks_refusals, items_refusals, range_of, with_items, array_entry, IsBtrfsOpened, boot_chunks, boot_list, boot_refusals, chunk_tree, form_of, map_from, opening_refusals, or_later, refusals_after, root_tree, super_on, tree_of, trees_refusals, ChunkAt, arrays_read_back, Super, GivesItself, Root, bare_item, found, wrong, MapRange, Form, NodePointer, Tree, IsMaking, Making, chunk_slots, new_ids, slots, TreesStand, form, root_from, root_tree_items, TreeRoots, blocks_inside, boot_bytes, is_system_role, new_super, all_at, all_from_contains, used_of, chunk_items, TreeNode, chunk_ends, blocks_are, chunks_of, used_few, TreeStands, pointer_to_root, AreChunks, IsChunk, role_of, usable_end, PlannedChunk, Options, ChunksMap, MapsChunks, IsNewVolume, boot_part, chunk_at, map_for, range_for, super_for, known-number}
 use Rattle.convert_core_laws.proofs.reading.Chunks.{AreApart, AreRead, Come, LiesOn, all_fit, array_sound, entries_are, tree_read}
 use Rattle.convert_core_laws.proofs.reading.Mapped.{all_itself, boot_nodes, ranges_are as are_ranges_of}
 use Rattle.convert_core_laws.proofs.reading.Stood.{IsRead, read_by}
@@ -21,7 +21,7 @@ two_of cs c d ascend h k =
 
 -- ---- fields of the superblock
 
-module _ (m : Making) (r : VolumeTrees) (nodes : List TreeNode) where
+module _ (m : Making) (r : TreeRoots) (nodes : List TreeNode) where
   array_is : (super_for m r nodes).sys_chunk_array ≡ boot_bytes (new_ids m) m.chunks ++ replicate (2048 - length (boot_bytes (new_ids m) m.chunks)) 0
   unfolding new_super
   array_is = refl
@@ -92,11 +92,11 @@ opened_by image s boot all read array sound trees map_is = record {
   map_is = sym (ap (λ (o : Option (List ChunkAt)). map_from image s (boot_list o)) array ∙ map_is);
 }
 
-module _ (o : Options) (ids : Ids) (now : ℕ) (image other : Image) (m : Making) (r : VolumeTrees) (nodes : List TreeNode) (v : IsNewVolume o ids now image other m r nodes) where
+module _ (o : Options) (ids : Ids) (now : ℕ) (image other : Image) (m : Making) (r : TreeRoots) (nodes : List TreeNode) (v : IsNewVolume o ids now image other m r nodes) where
   abbrev making : IsMaking image m
   making = v.new.conversion.making
 
-  abbrev trees : HasTrees image other other m r nodes
+  abbrev trees : TreesStand image other other m r nodes
   trees = v.new.stands.trees
 
   abbrev s : Super

@@ -1,9 +1,11 @@
 -- The trees of a converted volume are read, and it is readable.
-use Rattle.convert_core_laws.proofs.Imports.{◌≡◌, ◌⊎◌, ◌≤◌, ◌<◌, ℕ, ◌^◌, ◌-◌, inl, inr, List, [], ◌∷◌, map, drop, length, Option, Some, None, Ok, Err, sym, ap, subst, ◌∙◌, ⊎_elim, arith, length-drop, Contains, All-drop, SUPER_BLOCK, CONV_IMAGE_SUBVOL, CSUM_TREE, DATA_RELOC_TREE, DEV_TREE, EXTENT_TREE, FIRST_FREE_OBJECTID, FS_TREE, Image, block_at, BtrRefusal, Ids, has_root, BreaksNames, Item, chunk_map, opening_refusals, tree_of, own_map, own_super, pointer_of, root_item, BreaksExtents, IsFileTreeRefusal, roots_on, no_root_item, bad_root_item, bad_tree, bad_names, bad_extents, Super, super_refusals, unless_refused, super_of, super_in, Root, TreeItem, bare_item, found, wrong, MapRange, NodePointer, IsMaking, Making, new_ids, saved_index, slots, HasTrees, device_from, extents_from, file_tree_items, form, image_from, image_tree_items, relocation_from, root_tree_items, sum_tree_items, sums_from, VolumeTrees, relocation_items, all_from_contains, device_items, extent_items, tree_root_item as item_of_root, TreeNode, TreeRoot, TreeStands, pointer_to_root, Options, ConvertedIsReadable, IsReadableWithTrees, OpensWithTrees, TreesRead, AreRangesFor, GivesItsOwn, IsNewVolume, ReadsTree, ReadsTrees, map_for, super_for}
+use Rattle.convert_core_laws.proofs.Imports.{◌≡◌, ◌⊎◌, ◌≤◌, ◌<◌, ℕ, ◌^◌, ◌-◌, inl, inr, List, [], ◌∷◌, map, drop, length, Option, Some, None, Ok, Err, sym, ap, subst, ◌∙◌, ⊎_elim, arith, length-drop, Contains, All, All-drop, SUPER_BLOCK, CONV_IMAGE_SUBVOL, EXTENT_TREE, FIRST_FREE_OBJECTID, FS_TREE, Image, block_at, BtrRefusal, Ids, has_root, BreaksNames, Item, chunk_map, opening_refusals, tree_of, own_map, own_super, pointer_of, root_item, BreaksExtents, IsFileTreeRefusal, roots_on, no_root_item, bad_root_item, bad_tree, bad_names, bad_extents, Super, super_refusals, unless_refused, super_of, super_in, Root, TreeItem, bare_item, found, wrong, MapRange, NodePointer, IsMaking, Making, new_ids, saved_index, slots, TreesStand, extents_from, file_tree_items, form, root_tree_items, TreeRoots, NamedTree, named_trees, all_from_contains, extent_items, tree_root_item as item_of_root, TreeNode, TreeRoot, TreeStands, pointer_to_root, Options, ConvertedIsReadable, IsReadableWithTrees, OpensWithTrees, TreesRead, AreRangesFor, GivesItsOwn, IsNewVolume, ReadsTree, ReadsTrees, map_for, super_for, Files, SavedImage, tree_number}
+use Rattle.convert_core.specs.convert_steps.Standing.{items_of}
 use Rattle.convert_core_laws.proofs.reading.Mapped.{slot_small}
 use Rattle.convert_core_laws.proofs.reading.Numbers.{size_small, slots_few}
 use Rattle.convert_core_laws.proofs.reading.Opening.{later_read, maps_chunks, opened, root_read}
-use Rattle.convert_core_laws.proofs.reading.Rooted.{IsFoundRoot, device_found, extents_found, files_found, leads, named, relocation_found, saved_found, sums_found}
+use Rattle.convert_core_laws.proofs.reading.Rooted.{IsFoundRoot, extents_found, leads, named, tree_found}
+use Rattle.convert_core_laws.proofs.reading.Named.{every_named, tree_read, tree_stands}
 use Rattle.convert_core_laws.proofs.reading.Stood.{root_at, root_low}
 use Rattle.convert_core_laws.proofs.reading.Superblock.{reads, size, super_reads}
 
@@ -48,11 +50,11 @@ module _ (image : Image) (s : Super) (ranges : List MapRange) (root : Root) (ite
       inl (subst (λ (q : NodePointer). BreaksNames (has_root (roots_on image s ranges)) (found image ranges (tree_of s FS_TREE q)) q.address r) (pointer_is i p has leads_to) breaks)
   rest r (bad_extents i p has leads_to breaks) = inr (subst (λ (q : NodePointer). BreaksExtents ranges (found image ranges (tree_of s FS_TREE q)) r) (pointer_is i p has leads_to) breaks)
 
-module _ (o : Options) (ids : Ids) (now : ℕ) (image other : Image) (m : Making) (r : VolumeTrees) (nodes : List TreeNode) (v : IsNewVolume o ids now image other m r nodes) where
+module _ (o : Options) (ids : Ids) (now : ℕ) (image other : Image) (m : Making) (r : TreeRoots) (nodes : List TreeNode) (v : IsNewVolume o ids now image other m r nodes) where
   abbrev making : IsMaking image m
   making = v.new.conversion.making
 
-  abbrev trees : HasTrees image other other m r nodes
+  abbrev trees : TreesStand image other other m r nodes
   trees = v.new.stands.trees
 
   abbrev s : Super
@@ -92,17 +94,20 @@ module _ (o : Options) (ids : Ids) (now : ℕ) (image other : Image) (m : Making
   all_read = record {
     roots_sound = (root_read o ids now image other m r nodes v).0;
     roots_are = roots_are;
-    extents = read_tree EXTENT_TREE (extents_from r) r.extents (extent_items m.chunks m.pieces nodes m.options.nodesize) trees.extents (extents_found r (saved_index m) (new_ids m) m.now m.options.nodesize roots roots_are);
-    device = read_tree DEV_TREE (device_from r) r.device (device_items (new_ids m) m.chunks) trees.device (device_found r (saved_index m) (new_ids m) m.now m.options.nodesize roots roots_are);
-    files = read_tree FS_TREE 0 r.files (file_tree_items image m) trees.files (files_found r (saved_index m) (new_ids m) m.now m.options.nodesize roots roots_are);
-    sums = read_tree CSUM_TREE (sums_from r) r.sums (sum_tree_items other m) trees.sums (sums_found r (saved_index m) (new_ids m) m.now m.options.nodesize roots roots_are);
-    saved = read_tree CONV_IMAGE_SUBVOL (image_from r) r.image (image_tree_items m) trees.image_ saved_root;
-    relocation = read_tree DATA_RELOC_TREE (relocation_from r) r.relocation (relocation_items m.now) trees.relocation (relocation_found r (saved_index m) (new_ids m) m.now m.options.nodesize roots roots_are);
+    each = each_read;
     names_saved = named FIRST_FREE_OBJECTID roots saved_root.item saved_root.has;
   }
     where
-      saved_root : IsFoundRoot CONV_IMAGE_SUBVOL roots (item_of_root (new_ids m) m.options.nodesize (record { tree = CONV_IMAGE_SUBVOL; root = r.image }))
-      saved_root = saved_found r (saved_index m) (new_ids m) m.now m.options.nodesize roots roots_are
+      saved_root : IsFoundRoot CONV_IMAGE_SUBVOL roots (item_of_root (new_ids m) m.options.nodesize (record { tree = CONV_IMAGE_SUBVOL; root = r.tree SavedImage }))
+      saved_root = tree_found r (saved_index m) (new_ids m) m.now m.options.nodesize roots roots_are SavedImage
+
+      each_read : All (λ t. ReadsTree other (super_for m r nodes) (map_for m.chunks) t.number t.root t.items) (named_trees image other m r nodes)
+      each_read =
+          every_named image other m r nodes (λ (t : NamedTree). ReadsTree other (super_for m r nodes) (map_for m.chunks) t.number t.root t.items)
+          (read_tree EXTENT_TREE (extents_from r) r.extents (extent_items m.chunks m.pieces nodes m.options.nodesize) trees.extents (extents_found r (saved_index m) (new_ids m) m.now m.options.nodesize roots roots_are))
+          (λ t.
+          let at = tree_stands image other m r nodes other trees t in
+          read_tree (tree_number t) at.first (r.tree t) (items_of image other m t) at.stands (tree_found r (saved_index m) (new_ids m) m.now m.options.nodesize roots roots_are t))
 
   pub opens : OpensWithTrees image other m r nodes
   opens = record { opened = opened o ids now image other m r nodes v; trees = all_read }
@@ -130,7 +135,7 @@ module _ (o : Options) (ids : Ids) (now : ℕ) (image other : Image) (m : Making
     trees = own_trees;
     rest = λ refusal after.
         ⊎_elim (λ early. absurd (none_of (opening_refusals other) refusal (opened o ids now image other m r nodes v).sound early))
-        (λ late. rest other (own_super other) (own_map other) r.files (file_tree_items image m) own_trees.files refusal late.1) after;
+        (λ late. rest other (own_super other) (own_map other) (r.tree Files) (file_tree_items image m) (tree_read image other (own_super other) (own_map other) m r nodes own_trees Files) refusal late.1) after;
   }
     where
       not_both : (t : Super) (refusal : BtrRefusal) → Ok t ≡ Err refusal → ⊥

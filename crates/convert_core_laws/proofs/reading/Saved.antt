@@ -1,5 +1,5 @@
 -- The saved image of a converted volume is read.
-use Rattle.convert_core_laws.proofs.Imports.{◌≡◌, ◌≤◌, ◌<◌, ℕ, ◌+◌, ◌-◌, ◌*◌, ◌/◌, ◌%◌, ◌^◌, ◌&&◌, eqb, nat_lt, Bool, true, false, not, cond, List, [], ◌∷◌, ◌++◌, map, Option, Some, None, refl, sym, ap, subst, ◌∙◌, ⊎_elim, arith, Contains, codes, if◌then◌else◌, pos, w64, list_any, option_and_then, both_ways, eq-eqb, lt-ltb, fits_signed_from_abs, append-nil, DIR_INDEX, DIR_ITEM, EXTENT_DATA, INODE_ITEM, INODE_REF, FIRST_FREE_OBJECTID, DIRECTORY_MODE, IMAGE_MODE, name_hash, Image, block_at, BtrRefusal, Ids, File, extents_of, extents_refusals, DirEntryValue, dir_entry_bytes, dir_entry_head, dir_items_of, FileExtentValue, file_extent_bytes, file_extent_of, inode_bytes, inode_layout, inode_of, key_layout, make_key, stamp_layout, Inode, Key, dir_items_read_back, inodes_read_back, find_inode_item, index_entry, naming_at, dir_indexes, only_one, own_naming, DirIndex, Item, keys_of, IsNodeSize, ascends, ImageFile, entry_named, file_if_image, file_refusals, if_there, image_at, image_entry, image_in, image_place, image_refusals_in, index_refusals, index_refusals_at, inode_number, is_called, is_inline, own_index_refusals, own_refusals, root_refusals, twice_refusals, TreeItem, bare_item, MapRange, IsMaking, Making, image_tree_items, VolumeTrees, can_move, blocks_few, used_inside, extents_at, piece_bytes, pieces_of_volume, source_block, entry_to, letters, root_ref, image_entries, image_flags, image_head, image_items, image_name, ImageKeysAscend, regular_extent, inode_item as new_item, inode_made, ref_item, stamp_of, has, contains_head, contains_tail, used_of, TreeNode, blocks_are, Options, Piece, IsNewVolume, map_for, HasSavedImage, IsImageOf, SavedImageReads}
+use Rattle.convert_core_laws.proofs.Imports.{◌≡◌, ◌≤◌, ◌<◌, ℕ, ◌+◌, ◌-◌, ◌*◌, ◌/◌, ◌%◌, ◌^◌, ◌&&◌, eqb, nat_lt, Bool, true, false, not, cond, List, [], ◌∷◌, ◌++◌, map, Option, Some, None, refl, sym, ap, subst, ◌∙◌, ⊎_elim, arith, Contains, codes, if◌then◌else◌, pos, w64, list_any, option_and_then, both_ways, eq-eqb, lt-ltb, fits_signed_from_abs, append-nil, DIR_INDEX, DIR_ITEM, EXTENT_DATA, INODE_ITEM, INODE_REF, FIRST_FREE_OBJECTID, DIRECTORY_MODE, IMAGE_MODE, name_hash, Image, block_at, BtrRefusal, Ids, File, extents_of, extents_refusals, DirEntryValue, dir_entry_bytes, dir_entry_head, dir_items_of, FileExtentValue, file_extent_bytes, file_extent_of, inode_bytes, inode_layout, inode_of, key_layout, make_key, stamp_layout, Inode, Key, dir_items_read_back, inodes_read_back, find_inode_item, index_entry, naming_at, dir_indexes, only_one, own_naming, DirIndex, Item, keys_of, IsNodeSize, ascends, ImageFile, entry_named, file_if_image, file_refusals, if_there, image_at, image_entry, image_in, image_place, image_refusals_in, index_refusals, index_refusals_at, inode_number, is_called, is_inline, own_index_refusals, own_refusals, root_refusals, twice_refusals, TreeItem, bare_item, MapRange, IsMaking, Making, image_tree_items, TreeRoots, can_move, blocks_few, used_inside, extents_at, piece_bytes, pieces_of_volume, source_block, entry_to, letters, root_ref, image_entries, image_flags, image_head, image_items, image_name, ImageKeysAscend, regular_extent, inode_item as new_item, inode_made, ref_item, stamp_of, has, contains_head, contains_tail, used_of, TreeNode, blocks_are, Options, Piece, IsNewVolume, map_for, HasSavedImage, IsImageOf, SavedImageReads}
 use Rattle.std.specs.Prelude.{◌||◌}
 use Rattle.btr_reader.specs.Image.{file_block}
 use Rattle.convert_core_laws.proofs.reading.Chunks.{item_parts}
@@ -241,7 +241,7 @@ module _ (blocks : ℕ) (pieces : List Piece) (datasum : Bool) (now : ℕ) (item
         whole : (a b : Bool) → a ≡ true → b ≡ false → (if true && (a && not b) then Some file else None) ≡ Some file
         whole a b s r = rw (s, r) refl
 
-module _ (rising : ImageKeysAscend) (o : Options) (ids : Ids) (now : ℕ) (image other : Image) (m : Making) (r : VolumeTrees) (nodes : List TreeNode) (items : List TreeItem) (v : IsNewVolume o ids now image other m r nodes) (low : now < 2 ^ 63) (are : map bare_item items ≡ image_tree_items m) where
+module _ (rising : ImageKeysAscend) (o : Options) (ids : Ids) (now : ℕ) (image other : Image) (m : Making) (r : TreeRoots) (nodes : List TreeNode) (items : List TreeItem) (v : IsNewVolume o ids now image other m r nodes) (low : now < 2 ^ 63) (are : map bare_item items ≡ image_tree_items m) where
   abbrev making : IsMaking image m
   making = v.new.conversion.making
 

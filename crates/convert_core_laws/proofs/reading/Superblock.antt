@@ -1,5 +1,5 @@
 -- The superblock of a converted volume reads back.
-use Rattle.convert_core_laws.proofs.Imports.{◌≡◌, ◌≤◌, ◌<◌, ℕ, ◌-◌, ◌*◌, ◌%◌, ◌^◌, ◌++◌, ◌&&◌, eqb, Bool, true, false, List, [], ◌∷◌, length, take, drop, replicate, Some, None, Ok, refl, sym, ap, subst, ◌∙◌, ⊎_elim, arith, length-append, length-drop, ◌+◌, if◌then◌else◌, bit_and, sum_by, eq-eqb, le-leb, length-replicate, length-take, All-drop, All-take, SUPER_BLOCK, BIG_METADATA, EXTENDED_IREF, MIXED_BACKREF, NO_HOLES, SKINNY_METADATA, METADATA_UUID, Image, BtrRefusal, Unsupported, DeviceCount, Incompat, NodeSize, SectorSize, Ids, IsNodeSize, device_layout, SumKind, bad_field, failing, field_rules, has_fields, is_node_size, super_of, unread_bits, csum_number, known_kind, super_bytes, super_layout, node_fsid, super_on, log_of, IsMaking, Making, chunk_slots, label_by, label_field, new_ids, slots, HasTrees, form, root_from, root_tree_items, used_bytes, VolumeTrees, blocks_few, blocks_inside, blocks_some, boot_bytes, features, is_system_role, new_super, record_bytes, chunk_item, chunk_items, device_body, all_from_contains, AreIds, TreeNode, chunk_blocks_fit, boot_fits, PlannedChunk, Options, ReadsSuperblock, SuperblockReads, IsNewVolume, super_for, known-number, number-small}
+use Rattle.convert_core_laws.proofs.Imports.{◌≡◌, ◌≤◌, ◌<◌, ℕ, ◌-◌, ◌*◌, ◌%◌, ◌^◌, ◌++◌, ◌&&◌, eqb, Bool, true, false, List, [], ◌∷◌, length, take, drop, replicate, Some, None, Ok, refl, sym, ap, subst, ◌∙◌, ⊎_elim, arith, length-append, length-drop, ◌+◌, if◌then◌else◌, bit_and, sum_by, eq-eqb, le-leb, length-replicate, length-take, All-drop, All-take, SUPER_BLOCK, BIG_METADATA, EXTENDED_IREF, MIXED_BACKREF, NO_HOLES, SKINNY_METADATA, METADATA_UUID, Image, BtrRefusal, Unsupported, DeviceCount, Incompat, NodeSize, SectorSize, Ids, IsNodeSize, device_layout, SumKind, bad_field, failing, field_rules, has_fields, is_node_size, super_of, unread_bits, csum_number, known_kind, super_bytes, super_layout, node_fsid, super_on, log_of, IsMaking, Making, chunk_slots, label_by, label_field, new_ids, slots, TreesStand, form, root_from, root_tree_items, used_bytes, TreeRoots, blocks_few, blocks_inside, blocks_some, boot_bytes, features, is_system_role, new_super, record_bytes, chunk_item, chunk_items, device_body, all_from_contains, AreIds, TreeNode, chunk_blocks_fit, boot_fits, PlannedChunk, Options, ReadsSuperblock, SuperblockReads, IsNewVolume, super_for, known-number, number-small}
 use Rattle.btr_reader.proofs.btr_super.ReadBack.{supers_read_back}
 use Rattle.convert_core.specs.convert_steps.declared.fields.NewRoots.{NewRoots}
 use Rattle.convert_core.proofs.convert_steps.Booting.{length_record}
@@ -42,7 +42,7 @@ nodes_fsid ids blocks nodesize sums label chunks roots = by (eqb nodesize 4096)
     by true = refl
     by false = refl
 
-pub own_fsid : (m : Making) (r : VolumeTrees) (nodes : List TreeNode) → node_fsid (super_for m r nodes) ≡ (new_ids m).fsid
+pub own_fsid : (m : Making) (r : TreeRoots) (nodes : List TreeNode) → node_fsid (super_for m r nodes) ≡ (new_ids m).fsid
 own_fsid m r nodes =
     nodes_fsid (new_ids m) m.volume.sup.blocks m.options.nodesize m.options.sums (label_field (label_by m.volume.sup m.options.label)) m.chunks (record { chunk = r.chunk; root = r.root; used = used_bytes m nodes })
 
@@ -158,14 +158,14 @@ module _ (ids : Ids) (blocks nodesize : ℕ) (sums : SumKind) (label : List ℕ)
       known = ap known_kind kind_is ∙ known-number sums
 
 -- of a converted volume
-module _ (o : Options) (ids : Ids) (now : ℕ) (image other : Image) (m : Making) (r : VolumeTrees) (nodes : List TreeNode) (v : IsNewVolume o ids now image other m r nodes) where
+module _ (o : Options) (ids : Ids) (now : ℕ) (image other : Image) (m : Making) (r : TreeRoots) (nodes : List TreeNode) (v : IsNewVolume o ids now image other m r nodes) where
   abbrev making : IsMaking image m
   making = v.new.conversion.making
 
   pub size : IsNodeSize m.options.nodesize
   size = subst (λ (p : Options). IsNodeSize p.nodesize) (sym v.new.conversion.options_are) v.size
 
-  abbrev trees : HasTrees image other other m r nodes
+  abbrev trees : TreesStand image other other m r nodes
   trees = v.new.stands.trees
 
   root_small : r.root.address < 2 ^ 41

@@ -1,12 +1,13 @@
 -- The uses of data by all trees.
-use Rattle.convert_core_laws.proofs.Imports.{◌≡◌, ◌≤◌, ℕ, ◌+◌, ◌-◌, ◌*◌, ◌^◌, eqb, Bool, true, false, List, [], ◌∷◌, map, filter, Option, Some, None, refl, sym, ap, subst, ◌∙◌, ⊎_elim, arith, All, Contains, MatchOption, if◌then◌else◌, is_some, option_map_or, All-contains, All-cons, All-map, Contains-append_cases, DEV_ITEM, EXTENT_DATA, CONV_IMAGE_SUBVOL, CSUM_TREE, DATA_RELOC_TREE, DEV_ITEMS_OBJECTID, DEV_TREE, EXTENT_TREE, FS_TREE, from_flat_map, from_map, in_filter, Image, file_extent_of, make_key, Item, IsNodeSize, DataUse, IsData, Recount, Span, TreeOn, all_trees, data_uses, use_in, uses_in, device_bytes, IsMaking, Making, new_ids, file_tree_items, image_tree_items, root_tree_items, sum_tree_items, VolumeTrees, well, super_for, all_at, extents_at, piece_bytes, pieces_of_volume, source_block, image_head, image_items, relocation_items, extent_item, regular_extent, all_from_contains, contains_cases, used_of, chunk_item, chunk_items, dev_extent_item, device_body, device_items, extent_items, group_item, node_item, piece_item, used_in, item_cmp, merged, run_items, sum_items, TreeNode, all-merge, used_few, PlannedChunk, Piece, recount_for, tree_for}
+use Rattle.convert_core_laws.proofs.Imports.{◌≡◌, ◌≤◌, ℕ, ◌+◌, ◌-◌, ◌*◌, ◌^◌, eqb, Bool, true, false, List, [], ◌∷◌, map, filter, Option, Some, None, refl, sym, ap, subst, ◌∙◌, ⊎_elim, arith, All, Contains, MatchOption, if◌then◌else◌, is_some, option_map_or, All-contains, All-cons, All-map, Contains-append_cases, DEV_ITEM, EXTENT_DATA, CONV_IMAGE_SUBVOL, DEV_ITEMS_OBJECTID, from_flat_map, from_map, in_filter, Image, file_extent_of, make_key, Item, IsNodeSize, DataUse, IsData, Recount, Span, TreeOn, all_trees, data_uses, use_in, uses_in, device_bytes, IsMaking, Making, new_ids, image_tree_items, root_tree_items, sum_tree_items, TreeRoots, well, all_at, extents_at, piece_bytes, pieces_of_volume, source_block, image_head, image_items, relocation_items, extent_item, regular_extent, all_from_contains, contains_cases, used_of, chunk_item, chunk_items, dev_extent_item, device_body, device_items, extent_items, group_item, node_item, piece_item, used_in, item_cmp, merged, run_items, sum_items, TreeNode, all-merge, used_few, PlannedChunk, Piece, recount_for, NewTree, Files, SavedImage, Relocation, Checksums, Devices}
 use Rattle.std.specs.Prelude.{length}
+use Rattle.convert_core.specs.convert_steps.Standing.{items_of}
 use Rattle.convert_core_laws.proofs.reading.SavedPieces.{member}
 use Rattle.convert_core_laws.proofs.soundness.Lists.{filter_none}
-use Rattle.convert_core_laws.proofs.soundness.Trees.{six_all}
+use Rattle.convert_core_laws.proofs.soundness.Among.{extents_in, tree_in, trees_all}
 use Rattle.convert_core_laws.proofs.soundness.Uses.{IsUse, by_file, by_image, file_uses, piece_use, use_at, uses_from}
 
-abbrev is_file_extent : Item → Bool
+abbrev pub is_file_extent : Item → Bool
 is_file_extent i = eqb i.0.kind EXTENT_DATA
 
 -- the range of a piece
@@ -66,7 +67,7 @@ module _ (image : Image) (m : Making) (made : IsMaking image m) (size : IsNodeSi
   no_uses : (t : TreeOn) → filter is_file_extent t.items ≡ [] → OnlyUses t
   no_uses t none u h = let at = uses_from t u h in absurd (no_head at.0 t.items none at.1 at.2)
 
-  module _ (other : Image) (r : VolumeTrees) (nodes : List TreeNode) where
+  module _ (other : Image) (r : TreeRoots) (nodes : List TreeNode) where
     abbrev k : Recount
     k = recount_for image other m r nodes
 
@@ -107,20 +108,39 @@ module _ (image : Image) (m : Making) (made : IsMaking image m) (size : IsNodeSi
     unfolding relocation_items
     relocation_none = refl
 
+    -- which trees of the list have file extents
+    pub data HasUses (t : NewTree) : Type 0 where
+      of_files : t ≡ Files → HasUses t
+      of_image : t ≡ SavedImage → HasUses t
+      of_none : filter is_file_extent (items_of image other m t) ≡ [] → HasUses t
+
+    pub has_uses : (t : NewTree) → HasUses t
+    has_uses Files = of_files refl
+    has_uses SavedImage = of_image refl
+    has_uses Relocation = of_none relocation_none
+    has_uses Checksums = of_none sums_none
+    has_uses Devices = of_none device_none
+
+    -- where there are none there is no use
+    pub none_used : (t : NewTree) → filter is_file_extent (items_of image other m t) ≡ [] → (u : DataUse) → Contains (uses_in (tree_in image other m r nodes t)) u → ⊥
+    none_used t none u h = let at = uses_from (tree_in image other m r nodes t) u h in no_head at.0 (items_of image other m t) none at.1 at.2
+
+    file_tree_uses : OnlyUses (tree_in image other m r nodes Files)
+    file_tree_uses = λ u h. let at = uses_from (tree_in image other m r nodes Files) u h in file_uses image m made at.0 u at.1 at.2 at.3
+
+    image_tree_uses : OnlyUses (tree_in image other m r nodes SavedImage)
+    image_tree_uses = λ u h. let at = uses_from (tree_in image other m r nodes SavedImage) u h in image_uses at.0 u at.1 at.2 at.3
+
+    tree_uses : (t : NewTree) → OnlyUses (tree_in image other m r nodes t)
+    tree_uses t = by (has_uses t)
+      where
+        by : HasUses t → OnlyUses (tree_in image other m r nodes t)
+        by (of_files is) = subst (λ (x : NewTree). OnlyUses (tree_in image other m r nodes x)) (sym is) file_tree_uses
+        by (of_image is) = subst (λ (x : NewTree). OnlyUses (tree_in image other m r nodes x)) (sym is) image_tree_uses
+        by (of_none none) = λ u h. absurd (none_used t none u h)
+
     all_uses : All OnlyUses (all_trees k)
-    all_uses =
-        let s = super_for m r nodes in
-        let extents : TreeOn = tree_for other s EXTENT_TREE r.extents (extent_items m.chunks m.pieces nodes m.options.nodesize) in
-        let device : TreeOn = tree_for other s DEV_TREE r.device (device_items (new_ids m) m.chunks) in
-        let files : TreeOn = tree_for other s FS_TREE r.files (file_tree_items image m) in
-        let sums : TreeOn = tree_for other s CSUM_TREE r.sums (sum_tree_items other m) in
-        let saved : TreeOn = tree_for other s CONV_IMAGE_SUBVOL r.image (image_tree_items m) in
-        let relocation : TreeOn = tree_for other s DATA_RELOC_TREE r.relocation (relocation_items m.now) in
-        All-cons OnlyUses k.chunk_tree (k.root_tree ∷ k.others) (no_uses k.chunk_tree chunk_none)
-        (All-cons OnlyUses k.root_tree k.others (no_uses k.root_tree root_none)
-        (six_all OnlyUses extents device files sums saved relocation (no_uses extents extents_none) (no_uses device device_none)
-        (λ u h. let at = uses_from files u h in file_uses image m made at.0 u at.1 at.2 at.3) (no_uses sums sums_none)
-        (λ u h. let at = uses_from saved u h in image_uses at.0 u at.1 at.2 at.3) (no_uses relocation relocation_none)))
+    all_uses = trees_all image other m r nodes OnlyUses (no_uses k.chunk_tree chunk_none) (no_uses k.root_tree root_none) (no_uses (extents_in image other m r nodes) extents_none) tree_uses
 
     -- each use of data is that of a piece
     pub uses_are : (u : DataUse) → Contains (data_uses k) u → IsUse m u

@@ -1,5 +1,5 @@
 -- The extents of a converted volume lie apart.
-use Rattle.convert_core_laws.proofs.Imports.{◌≡◌, ◌≢◌, ◌⊎◌, ◌≤◌, ◌<◌, ℕ, zero, suc, ◌+◌, ◌*◌, ◌/◌, ◌%◌, ◌^◌, inl, inr, eqb, Bool, cond, List, [], ◌∷◌, length, length-drop, drop, get_or, refl, sym, ap, subst, ◌∙◌, ⊎_elim, arith, All, AllPairs, Contains, flat_map, sum_by, cases_eq, cases_lt, eq-eqb, ne_eqb, sum_by-cons, CHUNK_TREE, EXTENT_TREE, Image, Ids, IsNodeSize, EndsBefore, IsExtent, a_node, node_kind, some_data, Recount, Span, TreeOn, all_trees, IsInSlots, NodePointer, IsMaking, Making, chunk_slots, new_ids, slots, HasTrees, extents_from, nodes_of_others, VolumeTrees, piece_not_metadata, piece_not_system, sound, well, slot_unit, IsNewVolume, tree_nodes, lengths_of, all_at, pairs_head, pairs_tail, two_cases, used_of, chunk_items, extent_items, AreNodes, TreeNode, merged_ascend, nodes_at_slots, tree_at, used_few, node_places, places_serve, Options, Piece, recount_for}
+use Rattle.convert_core_laws.proofs.Imports.{◌≡◌, ◌≢◌, ◌⊎◌, ◌≤◌, ◌<◌, ℕ, zero, suc, ◌+◌, ◌*◌, ◌/◌, ◌%◌, ◌^◌, inl, inr, eqb, Bool, cond, List, [], ◌∷◌, length, length-drop, drop, get_or, refl, sym, ap, subst, ◌∙◌, ⊎_elim, arith, All, AllPairs, Contains, flat_map, sum_by, cases_eq, cases_lt, eq-eqb, ne_eqb, sum_by-cons, CHUNK_TREE, EXTENT_TREE, Image, Ids, IsNodeSize, EndsBefore, IsExtent, a_node, node_kind, some_data, Recount, Span, TreeOn, all_trees, IsInSlots, NodePointer, IsMaking, Making, chunk_slots, new_ids, slots, TreesStand, extents_from, nodes_of_others, TreeRoots, piece_not_metadata, piece_not_system, sound, well, slot_unit, IsNewVolume, tree_nodes, lengths_of, all_at, pairs_head, pairs_tail, two_cases, used_of, chunk_items, extent_items, AreNodes, TreeNode, merged_ascend, nodes_at_slots, tree_at, used_few, node_places, places_serve, Options, Piece, recount_for}
 use Rattle.reiser_volume.proofs.Reaching.{sum_two}
 use Rattle.convert_core_laws.proofs.reading.Numbers.{chunk_slots_few, slots_few}
 use Rattle.convert_core_laws.proofs.soundness.AllUses.{data_is, span_of}
@@ -80,11 +80,11 @@ two_nodes n a b fit first second apart =
         rest)
         fit
 
-module _ (o : Options) (ids : Ids) (now : ℕ) (image other : Image) (m : Making) (r : VolumeTrees) (nodes : List TreeNode) (v : IsNewVolume o ids now image other m r nodes) where
+module _ (o : Options) (ids : Ids) (now : ℕ) (image other : Image) (m : Making) (r : TreeRoots) (nodes : List TreeNode) (v : IsNewVolume o ids now image other m r nodes) where
   abbrev making : IsMaking image m
   making = v.new.conversion.making
 
-  abbrev stand : HasTrees image other other m r nodes
+  abbrev stand : TreesStand image other other m r nodes
   stand = v.new.stands.trees
 
   abbrev k : Recount

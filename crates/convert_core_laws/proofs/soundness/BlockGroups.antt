@@ -1,5 +1,5 @@
 -- The block groups of a converted volume tell what its chunks hold.
-use Rattle.convert_core_laws.proofs.Imports.{◌≡◌, ◌≤◌, ℕ, ◌+◌, ◌*◌, ◌&&◌, Bool, cond, List, [], ◌∷◌, map, get_or, Some, refl, sym, ap, subst, ◌∙◌, ⊎_elim, arith, nat_le, nat_lt, All, AllPairs, Contains, flat_map, sum_by, All-map, sum_by-cons, FIRST_CHUNK_TREE_OBJECTID, from_map, in_map, Image, Ids, Item, IsNodeSize, AreBlockGroups, AreRanges, IsGroupOf, chunk_span, data_bytes_in, groups, node_bytes_in, bytes_used_in, IsData, Recount, Span, TreeOn, all_trees, is_within, ChunkAt, BlockGroup, NodePointer, IsMaking, Making, new_ids, VolumeTrees, well, NewIdsFit, IsNewVolume, chunk_at, pairs_map, FilesAreHeld, sum_alike, sum_kept, sum_mapped, all_from_contains, contains_cases, chunk_kind, bytes_of_nodes, bytes_of_pieces, group_item, is_in_chunk, used_in as used_of_chunk, TreeNode, PlannedChunk, Options, Piece, ConvertedBlockGroupsAreSound, recount_for}
+use Rattle.convert_core_laws.proofs.Imports.{◌≡◌, ◌≤◌, ℕ, ◌+◌, ◌*◌, ◌&&◌, Bool, cond, List, [], ◌∷◌, map, get_or, Some, refl, sym, ap, subst, ◌∙◌, ⊎_elim, arith, nat_le, nat_lt, All, AllPairs, Contains, flat_map, sum_by, All-map, sum_by-cons, FIRST_CHUNK_TREE_OBJECTID, from_map, in_map, Image, Ids, Item, IsNodeSize, AreBlockGroups, AreRanges, IsGroupOf, chunk_span, data_bytes_in, groups, node_bytes_in, bytes_used_in, IsData, Recount, Span, TreeOn, all_trees, is_within, ChunkAt, BlockGroup, NodePointer, IsMaking, Making, new_ids, TreeRoots, well, NewIdsFit, IsNewVolume, chunk_at, pairs_map, FilesAreHeld, sum_alike, sum_kept, sum_mapped, all_from_contains, contains_cases, chunk_kind, bytes_of_nodes, bytes_of_pieces, group_item, is_in_chunk, used_in as used_of_chunk, TreeNode, PlannedChunk, Options, Piece, ConvertedBlockGroupsAreSound, recount_for}
 use Rattle.convert_core_laws.proofs.reading.Numbers.{used_small}
 use Rattle.convert_core_laws.proofs.soundness.AllUses.{data_is, span_of}
 use Rattle.convert_core_laws.proofs.soundness.Recounting.{nodesize_is, volume_for}
@@ -19,7 +19,7 @@ part_of_sum {X} f (y ∷ ys) x h =
 same_test : (ids : Ids) (c : PlannedChunk) (a : ℕ) → is_within (chunk_span (chunk_at ids c)) a ≡ is_in_chunk c a
 same_test ids c a = let end : 4096 * c.start + 4096 * c.length ≡ 4096 * (c.start + c.length) = omega arith in ap (λ (n : ℕ). nat_le (4096 * c.start) a && nat_lt a n) end
 
-module _ (o : Options) (ids : Ids) (now : ℕ) (image other : Image) (m : Making) (r : VolumeTrees) (nodes : List TreeNode) (v : IsNewVolume o ids now image other m r nodes) (held : FilesAreHeld) where
+module _ (o : Options) (ids : Ids) (now : ℕ) (image other : Image) (m : Making) (r : TreeRoots) (nodes : List TreeNode) (v : IsNewVolume o ids now image other m r nodes) (held : FilesAreHeld) where
   abbrev making : IsMaking image m
   making = v.new.conversion.making
 

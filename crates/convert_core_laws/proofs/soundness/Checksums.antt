@@ -1,5 +1,5 @@
 -- The checksums of a converted volume are sound.
-use Rattle.convert_core_laws.proofs.Imports.{◌≡◌, ◌≢◌, ◌≤◌, ◌<◌, ℕ, ◌+◌, ◌*◌, ◌/◌, ◌%◌, ◌^◌, Bool, true, false, List, [], map, Option, Some, None, refl, sym, ap, subst, ◌∙◌, ⊎_elim, true≢false, arith, All, AllPairs, Contains, if◌then◌else◌, is_some, ◌↔◌, append-nil, INODE_ITEM, CONV_IMAGE_SUBVOL, CSUM_TREE, FS_TREE, from_flat_map, in_flat_map, Image, Ids, inode_bytes, inode_of, make_key, Inode, Item, IsNodeSize, data_kind, range_of, form_of, has_no_sums, IsExtent, some_data, DataUse, Recount, TreeOn, all_trees, data_uses, recounted_items, uses_in, AreSums, HasBlockSum, AreSumsRight, IsSumItem, WantsSum, sum_count, place, Form, IsMaking, Making, HasPieces, made_from, file_tree_items, image_tree_items, sum_tree_items, VolumeTrees, well, blocks_few, NewIdsFit, IsNewVolume, map_for, super_for, SumKind, two_cases, piece_bytes, pieces_of_volume, source_block, Source, inode_in, kind_in, ino_of, FilesAreHeld, InodesAreThere, ImageKeysAscend, File, all_from_contains, ObjectKey, HasBytes, block_sum, sum_items, sums_item, TreeNode, Options, Piece, recount_for, tree_for, ConvertedChecksumsAreSound}
+use Rattle.convert_core_laws.proofs.Imports.{◌≡◌, ◌≢◌, ◌≤◌, ◌<◌, ℕ, ◌+◌, ◌*◌, ◌/◌, ◌%◌, ◌^◌, Bool, true, false, List, [], map, Option, Some, None, refl, sym, ap, subst, ◌∙◌, ⊎_elim, true≢false, arith, All, AllPairs, Contains, if◌then◌else◌, is_some, ◌↔◌, append-nil, INODE_ITEM, CONV_IMAGE_SUBVOL, CSUM_TREE, FS_TREE, from_flat_map, in_flat_map, Image, Ids, inode_bytes, inode_of, make_key, Inode, Item, IsNodeSize, data_kind, range_of, form_of, has_no_sums, IsExtent, some_data, DataUse, Recount, TreeOn, all_trees, data_uses, recounted_items, uses_in, AreSums, HasBlockSum, AreSumsRight, IsSumItem, WantsSum, sum_count, place, Form, IsMaking, Making, HasPieces, made_from, file_tree_items, image_tree_items, sum_tree_items, TreeRoots, well, blocks_few, NewIdsFit, IsNewVolume, map_for, super_for, SumKind, two_cases, piece_bytes, pieces_of_volume, source_block, Source, inode_in, kind_in, ino_of, FilesAreHeld, InodesAreThere, ImageKeysAscend, File, all_from_contains, ObjectKey, HasBytes, block_sum, sum_items, sums_item, TreeNode, Options, Piece, recount_for, tree_for, ConvertedChecksumsAreSound, Files, SavedImage}
 use Rattle.convert_core_laws.proofs.reading.SavedExtents.{AreSources, sources_bytes}
 use Rattle.convert_core_laws.proofs.reading.SavedPieces.{are_sources}
 use Rattle.convert_core_laws.proofs.soundness.AllUses.{span_of, uses_are}
@@ -11,11 +11,12 @@ use Rattle.convert_core_laws.proofs.soundness.Flags.{file_no_sums, file_sums, im
 use Rattle.convert_core_laws.proofs.soundness.Keyed.{all_other, files_rise, saved_rise, uses_tree}
 use Rattle.convert_core_laws.proofs.soundness.Runs.{Covers}
 use Rattle.convert_core_laws.proofs.soundness.SumItems.{EndsFirst, IsOfPiece, count_of, form_of_item, items_apart, of_piece, piece_covered, sum_of}
+use Rattle.convert_core_laws.proofs.soundness.Among.{tree_there}
 
 some_same : {A : Type 0} (a b : A) → Some a ≡ Some b → a ≡ b
 some_same a b e = cc
 
-module _ (o : Options) (ids : Ids) (now : ℕ) (image other : Image) (m : Making) (r : VolumeTrees) (nodes : List TreeNode) (v : IsNewVolume o ids now image other m r nodes) (held : FilesAreHeld) (rising : ImageKeysAscend) (are_there : InodesAreThere) (now_low : now < 2 ^ 63) (bytes : HasBytes image) where
+module _ (o : Options) (ids : Ids) (now : ℕ) (image other : Image) (m : Making) (r : TreeRoots) (nodes : List TreeNode) (v : IsNewVolume o ids now image other m r nodes) (held : FilesAreHeld) (rising : ImageKeysAscend) (are_there : InodesAreThere) (now_low : now < 2 ^ 63) (bytes : HasBytes image) where
   abbrev making : IsMaking image m
   making = v.new.conversion.making
 
@@ -38,10 +39,10 @@ module _ (o : Options) (ids : Ids) (now : ℕ) (image other : Image) (m : Making
   items = sum_tree_items other m
 
   abbrev files : TreeOn
-  files = tree_for other (super_for m r nodes) FS_TREE r.files (file_tree_items image m)
+  files = tree_for other (super_for m r nodes) FS_TREE (r.tree Files) (file_tree_items image m)
 
   abbrev saved : TreeOn
-  saved = tree_for other (super_for m r nodes) CONV_IMAGE_SUBVOL r.image (image_tree_items m)
+  saved = tree_for other (super_for m r nodes) CONV_IMAGE_SUBVOL (r.tree SavedImage) (image_tree_items m)
 
   kind_is : (form_of k.super).sums ≡ sums
   kind_is = ap (λ (f : Form). f.sums) (form_is m r nodes)
@@ -110,22 +111,22 @@ module _ (o : Options) (ids : Ids) (now : ℕ) (image other : Image) (m : Making
 
   -- ---- the trees that use data
 
-  tree_there : (t : TreeOn) → Contains (all_trees k) t → (u : TreeOn) → Contains (all_trees k) u → t.number ≡ u.number → t ≡ u
-  tree_there t h u l same =
+  one_tree : (t : TreeOn) → Contains (all_trees k) t → (u : TreeOn) → Contains (all_trees k) u → t.number ≡ u.number → t ≡ u
+  one_tree t h u l same =
       ⊎_elim (λ (e : t ≡ u). e) (λ either. ⊎_elim (λ (apart : t.number ≢ u.number). absurd (apart same)) (λ (apart : u.number ≢ t.number). absurd (apart (sym same))) either)
       (two_cases (λ (x y : TreeOn). x.number ≢ y.number) (all_trees k) t u (all_other o ids now image other m r nodes v rising) h l)
 
   files_there : Contains (all_trees k) files
-  files_there = (4, omega arith, refl)
+  files_there = tree_there image other m r nodes Files
 
   saved_there : Contains (all_trees k) saved
-  saved_there = (6, omega arith, refl)
+  saved_there = tree_there image other m r nodes SavedImage
 
   -- a use by a tree is one of this tree
   used_by : (u : DataUse) (t : TreeOn) → Contains (all_trees k) t → u.tree ≡ t.number → Contains (data_uses k) u → Contains (uses_in t) u
   used_by u t h is l =
       let at = from_flat_map uses_in (all_trees k) u l in
-      let same : at.0 ≡ t = tree_there at.0 at.1 t h (sym (uses_tree at.0 u at.2) ∙ is) in
+      let same : at.0 ≡ t = one_tree at.0 at.1 t h (sym (uses_tree at.0 u at.2) ∙ is) in
       subst (λ (x : TreeOn). Contains (uses_in x) u) same at.2
 
   -- ---- inodes
@@ -213,7 +214,7 @@ module _ (o : Options) (ids : Ids) (now : ℕ) (image other : Image) (m : Making
   wants_on : (a : ℕ) (w : WantsSum k a) → IsUse m w.is_use → m.options.datasum ≡ false → ⊥
   wants_on a w (by_file p inode block h own e) off =
       let f : HasFile inode = file_of p inode block h own in
-      let tree : w.tree ≡ files = tree_there w.tree w.among files files_there (sym (uses_tree w.tree w.is_use w.used) ∙ ap (λ (u : DataUse). u.tree) e) in
+      let tree : w.tree ≡ files = one_tree w.tree w.among files files_there (sym (uses_tree w.tree w.is_use w.used) ∙ ap (λ (u : DataUse). u.tree) e) in
       let number : w.is_use.inode ≡ inode = ap (λ (u : DataUse). u.inode) e in
       let item : Contains (file_tree_items image m) (make_key inode INODE_ITEM 0, w.body) =
       subst (λ (n : ℕ). Contains (file_tree_items image m) (make_key n INODE_ITEM 0, w.body)) number (subst (λ (t : TreeOn). Contains t.items (make_key w.is_use.inode INODE_ITEM 0, w.body)) tree w.item) in
@@ -222,7 +223,7 @@ module _ (o : Options) (ids : Ids) (now : ℕ) (image other : Image) (m : Making
       let same : inode_in s f.key ≡ w.inode = some_same (inode_in s f.key) w.inode (sym (file_reads f.key f.among) ∙ (ap (λ (i : Item). inode_of i.1) one ∙ w.inode_is)) in
       true≢false (sym (file_no_sums s f.key off f.file) ∙ (ap has_no_sums same ∙ w.with_sums))
   wants_on a w (by_image p block h from e) off =
-      let tree : w.tree ≡ saved = tree_there w.tree w.among saved saved_there (sym (uses_tree w.tree w.is_use w.used) ∙ ap (λ (u : DataUse). u.tree) e) in
+      let tree : w.tree ≡ saved = one_tree w.tree w.among saved saved_there (sym (uses_tree w.tree w.is_use w.used) ∙ ap (λ (u : DataUse). u.tree) e) in
       let number : w.is_use.inode ≡ 257 = ap (λ (u : DataUse). u.inode) e in
       let item : Contains (image_tree_items m) (make_key 257 INODE_ITEM 0, w.body) =
       subst (λ (n : ℕ). Contains (image_tree_items m) (make_key n INODE_ITEM 0, w.body)) number (subst (λ (t : TreeOn). Contains t.items (make_key w.is_use.inode INODE_ITEM 0, w.body)) tree w.item) in

@@ -1,5 +1,5 @@
 -- What the entries of the file tree lead to is there, and so is what the root tree tells of the saved image's tree.
-use Rattle.convert_core_laws.proofs.Imports.{◌≡◌, ◌<◌, ℕ, ◌^◌, Bool, true, false, List, [], ◌∷◌, map, Some, refl, sym, ap, subst, ◌∙◌, ⊎_elim, true≢false, arith, Contains-append_cases, ROOT_BACKREF, ROOT_ITEM, ROOT_REF, CONV_IMAGE_SUBVOL, FIRST_FREE_OBJECTID, FS_TREE, keys, Image, inode_bytes, make_key, Item, AreTreeNames, IndexEntry, IsThere, IsTreeEntry, names_inode_item, root_refs_read_back, NodePointer, IsMaking, Making, new_ids, saved_index, HasPieces, rooted_trees as trees_listed, root_tree_items, VolumeTrees, IndexedLink as Link, Indexed, indexed, names_in, next_index, saved_entry, Source, inode_in, kind_in, ino_of, index_small, FilesAreHeld, InodesAreThere, Kind, Directory, File, Symlink, Character, Block, Fifo, Socket, Subvolume, from_flat_map, from_map, head_or_tail, saved_name, root, same_key, ObjectKey, same_key-true, HasBytes, good_link, root_number, item_cmp, other_root_items, tree_root_item, saved_ref}
+use Rattle.convert_core_laws.proofs.Imports.{◌≡◌, ◌<◌, ℕ, ◌^◌, Bool, true, false, List, [], ◌∷◌, map, Some, refl, sym, ap, subst, ◌∙◌, ⊎_elim, true≢false, arith, Contains-append_cases, ROOT_BACKREF, ROOT_ITEM, ROOT_REF, CONV_IMAGE_SUBVOL, FIRST_FREE_OBJECTID, FS_TREE, keys, Image, inode_bytes, make_key, Item, AreTreeNames, IndexEntry, IsThere, IsTreeEntry, names_inode_item, root_refs_read_back, NodePointer, IsMaking, Making, new_ids, saved_index, HasPieces, root_tree_items, TreeRoots, rooted_trees as trees_listed, IndexedLink as Link, Indexed, indexed, names_in, next_index, saved_entry, Source, inode_in, kind_in, ino_of, index_small, FilesAreHeld, InodesAreThere, Kind, Directory, File, Symlink, Character, Block, Fifo, Socket, Subvolume, from_flat_map, from_map, head_or_tail, saved_name, root, same_key, ObjectKey, same_key-true, HasBytes, good_link, root_number, item_cmp, other_root_items, tree_root_item, saved_ref}
 use Rattle.std.proofs.Common.{flat_map, Contains, if◌then◌else◌}
 use Rattle.btr_reader.specs.btr_space_items.RootRef.{RootRefValue, root_ref_head, root_ref_of}
 use Rattle.convert_core_laws.proofs.soundness.Flags.{inode_there}
@@ -18,7 +18,7 @@ unfolding root_ref_head
 saved_fits index low = (((tt, omega arith), omega (arith, low)), omega arith)
 
 -- an item of the others is one of the root tree's
-in_roots : (m : Making) (r : VolumeTrees) (t : Item) → (t.0.kind ≡ ROOT_ITEM → ⊥) → Contains (other_root_items (saved_index m) m.now) t → Contains (root_tree_items m r) t
+in_roots : (m : Making) (r : TreeRoots) (t : Item) → (t.0.kind ≡ ROOT_ITEM → ⊥) → Contains (other_root_items (saved_index m) m.now) t → Contains (root_tree_items m r) t
 in_roots m r t apart h =
     in_second item_cmp t (map (tree_root_item (new_ids m) m.options.nodesize) (trees_listed r)) (other_root_items (saved_index m) m.now)
     (λ x l e. let at = from_map (tree_root_item (new_ids m) m.options.nodesize) (trees_listed r) x l in kinds_apart x.0 t.0 (λ same. apart (sym same ∙ sym (ap (λ (i : Item). i.0.kind) at.2))) e) h
@@ -69,7 +69,7 @@ module _ (image : Image) (m : Making) (made : IsMaking image m) where
       let x = from_map (index_by (ino_of src at.0)) (listed image m made at.0 (kind_in src at.0)) e at.2 in
       record { key = at.0; among = from_order image m made at.0 at.1; x = x.0; is = x.2; entry = entry_at at.0 (kind_in src at.0) x.0 x.1 }
 
-  module _ (nodes : List NodePointer) (r : VolumeTrees) where
+  module _ (nodes : List NodePointer) (r : TreeRoots) where
     key_there : (key : ObjectKey) → Contains (keys m.volume.named) key → IsThere (tree image m made nodes) (ino_of src key)
     key_there key h = (inode_bytes (inode_in src key), inode_there src key h)
 

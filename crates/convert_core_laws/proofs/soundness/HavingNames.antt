@@ -1,5 +1,5 @@
 -- The names of a converted volume are sound.
-use Rattle.convert_core_laws.proofs.Imports.{◌≤◌, ◌<◌, ℕ, ◌-◌, ◌^◌, List, [], ◌∷◌, filter, refl, sym, subst, arith, is_some, AllByRecursion, All-cons, All-nil, Contains-permutation, CONV_IMAGE_SUBVOL, DATA_RELOC_TREE, FS_TREE, Image, Ids, IsNodeSize, AreExtents, HaveExtents, AreInodes, HaveInodes, AreTreeNames, HaveNames, Recount, TreeOn, IsMaking, Making, HasPieces, file_tree_items, image_tree_items, root_tree_items, VolumeTrees, blocks_few, NewIdsFit, IsNewVolume, map_for, super_for, piece_bytes, pieces_of_volume, source_block, relocation_items, FilesAreHeld, InodesAreThere, ImageKeysAscend, from_filter, HasBytes, all_from, TreeNode, Options, Piece, recount_for, tree_for, ConvertedFileExtentsAreSound, ConvertedInodesAreSound, ConvertedNamesAreSound}
+use Rattle.convert_core_laws.proofs.Imports.{◌≤◌, ◌<◌, ℕ, ◌-◌, ◌^◌, List, [], ◌∷◌, filter, refl, sym, subst, arith, is_some, AllByRecursion, All-cons, All-nil, Contains-permutation, CONV_IMAGE_SUBVOL, DATA_RELOC_TREE, FS_TREE, Image, Ids, IsNodeSize, AreExtents, HaveExtents, AreInodes, HaveInodes, AreTreeNames, HaveNames, Recount, TreeOn, IsMaking, Making, HasPieces, file_tree_items, image_tree_items, root_tree_items, TreeRoots, blocks_few, NewIdsFit, IsNewVolume, map_for, super_for, piece_bytes, pieces_of_volume, source_block, relocation_items, FilesAreHeld, InodesAreThere, ImageKeysAscend, from_filter, HasBytes, all_from, TreeNode, Options, Piece, recount_for, tree_for, ConvertedFileExtentsAreSound, ConvertedInodesAreSound, ConvertedNamesAreSound, Files, SavedImage, Relocation}
 use Rattle.convert_core_laws.proofs.reading.SavedExtents.{AreSources, sources_bytes}
 use Rattle.convert_core_laws.proofs.reading.SavedPieces.{are_sources}
 use Rattle.convert_core_laws.proofs.soundness.Recounting.{generation_is, volume_for, without_holes}
@@ -13,7 +13,7 @@ use Rattle.convert_core_laws.proofs.soundness.NameLists.{grouped_all}
 use Rattle.convert_core_laws.proofs.soundness.Saved.{IsLow, own_is, saved_inodes, saved_names}
 use Rattle.convert_core_laws.proofs.soundness.Small.{relocation_inodes, relocation_names}
 
-module _ (o : Options) (ids : Ids) (now : ℕ) (image other : Image) (m : Making) (r : VolumeTrees) (nodes : List TreeNode) (v : IsNewVolume o ids now image other m r nodes) (held : FilesAreHeld) (rising : ImageKeysAscend) (are_there : InodesAreThere) (now_low : now < 2 ^ 63) (bytes : HasBytes image) where
+module _ (o : Options) (ids : Ids) (now : ℕ) (image other : Image) (m : Making) (r : TreeRoots) (nodes : List TreeNode) (v : IsNewVolume o ids now image other m r nodes) (held : FilesAreHeld) (rising : ImageKeysAscend) (are_there : InodesAreThere) (now_low : now < 2 ^ 63) (bytes : HasBytes image) where
   abbrev making : IsMaking image m
   making = v.new.conversion.making
 
@@ -54,13 +54,13 @@ module _ (o : Options) (ids : Ids) (now : ℕ) (image other : Image) (m : Making
   roots = AreTreeNames (root_tree_items m r)
 
   abbrev files : TreeOn
-  files = tree_for other (super_for m r nodes) FS_TREE r.files (file_tree_items image m)
+  files = tree_for other (super_for m r nodes) FS_TREE (r.tree Files) (file_tree_items image m)
 
   abbrev saved : TreeOn
-  saved = tree_for other (super_for m r nodes) CONV_IMAGE_SUBVOL r.image (image_tree_items m)
+  saved = tree_for other (super_for m r nodes) CONV_IMAGE_SUBVOL (r.tree SavedImage) (image_tree_items m)
 
   abbrev relocation : TreeOn
-  relocation = tree_for other (super_for m r nodes) DATA_RELOC_TREE r.relocation (relocation_items m.now)
+  relocation = tree_for other (super_for m r nodes) DATA_RELOC_TREE (r.tree Relocation) (relocation_items m.now)
 
   pub have_names : HaveNames k
   have_names =

@@ -1,12 +1,15 @@
 -- A use of data has the key of the file extent that tells it, so no use is told twice.
-use Rattle.convert_core_laws.proofs.Imports.{◌≡◌, ◌≢◌, ◌<◌, ℕ, ◌-◌, ◌*◌, ◌^◌, eqb, Bool, true, false, List, [], ◌∷◌, filter, get_or, Option, Some, None, refl, sym, ap, subst, ◌∙◌, ⊎_elim, arith, All, AllPairs, Contains, if◌then◌else◌, ordering_reverse, Ordering, Less, Equal, Greater, All-cons, All-contains, Contains-append_cases, Contains-get_or, AllPairs-cons, EXTENT_DATA, CONV_IMAGE_SUBVOL, CSUM_TREE, DATA_RELOC_TREE, DEV_TREE, EXTENT_TREE, FS_TREE, from_map, in_filter, in_flat_map, Image, Ids, is_hole, ContentValue, FileExtentValue, Inline, Prealloc, Regular, file_extent_of, make_key, Key, Item, IsNodeSize, DataUse, Recount, TreeOn, all_trees, data_uses, use_by, use_in, uses_in, IsMaking, Making, new_ids, HasPieces, file_tree_items, image_tree_items, sum_tree_items, VolumeTrees, IsNewVolume, super_for, extents_at, file_block, piece_bytes, pieces_of_volume, source_block, image_head, image_items, relocation_items, ImageKeysAscend, file_keys_ascend, extent_item, regular_extent, contains_cases, device_items, extent_items as extent_tree_items, item_cmp, TreeNode, Rise, ascends_rise, item_total, Options, Piece, recount_for, tree_for}
+use Rattle.convert_core_laws.proofs.Imports.{◌≡◌, ◌≢◌, ◌<◌, ℕ, ◌-◌, ◌*◌, ◌^◌, eqb, Bool, true, false, List, [], ◌∷◌, filter, get_or, Option, Some, None, refl, sym, ap, subst, ◌∙◌, ⊎_elim, arith, All, AllPairs, Contains, if◌then◌else◌, ordering_reverse, Ordering, Less, Equal, Greater, All-cons, All-contains, Contains-append_cases, Contains-get_or, AllPairs-cons, EXTENT_DATA, CONV_IMAGE_SUBVOL, FS_TREE, from_map, in_filter, in_flat_map, Image, Ids, is_hole, ContentValue, FileExtentValue, Inline, Prealloc, Regular, file_extent_of, make_key, Key, Item, IsNodeSize, DataUse, Recount, TreeOn, all_trees, data_uses, use_by, use_in, uses_in, IsMaking, Making, HasPieces, file_tree_items, image_tree_items, TreeRoots, named_extents, IsNewVolume, extents_at, file_block, piece_bytes, pieces_of_volume, source_block, image_head, image_items, ImageKeysAscend, file_keys_ascend, extent_item, regular_extent, contains_cases, item_cmp, TreeNode, Rise, ascends_rise, item_total, Options, Piece, recount_for, NewTree, Files, SavedImage}
 use Rattle.btr_check_rules.specs.Recount.{use_of}
 use Rattle.convert_core_laws.proofs.reading.SavedPieces.{member}
-use Rattle.convert_core_laws.proofs.soundness.AllUses.{from_is, source_low, uses_are}
-use Rattle.convert_core_laws.proofs.soundness.Trees.{all_once, six_all}
+use Rattle.convert_core_laws.proofs.soundness.AllUses.{HasUses, from_is, has_uses, none_used, of_files, of_image, of_none, source_low, uses_are}
+use Rattle.convert_core_laws.proofs.soundness.Trees.{all_once}
 use Rattle.convert_core_laws.proofs.soundness.Unreserved.{fit_size}
 use Rattle.convert_core_laws.proofs.soundness.Uses.{IsUse, by_file, by_image, file_piece, owner_low, piece_use, use_at, uses_from}
 use Rattle.convert_core_laws.proofs.soundness.Distinct.{AreDistinct, distinct_flat, distinct_nil, distinct_one}
+use Rattle.convert_core_laws.proofs.reading.Named.{extents_named}
+use Rattle.convert_core_laws.proofs.soundness.Among.{extents_in, others_all, rooted_there, tree_in, trees_all}
+use Rattle.convert_core_laws.proofs.soundness.Listed.{not_chunks, not_root}
 
 -- ---- one item tells at most one use, of its tree
 
@@ -130,7 +133,7 @@ module _ (image : Image) (m : Making) (made : IsMaking image m) (size : IsNodeSi
 
 -- ---- all trees
 
-module _ (o : Options) (ids : Ids) (now : ℕ) (image other : Image) (m : Making) (r : VolumeTrees) (nodes : List TreeNode) (v : IsNewVolume o ids now image other m r nodes) (rising : ImageKeysAscend) where
+module _ (o : Options) (ids : Ids) (now : ℕ) (image other : Image) (m : Making) (r : TreeRoots) (nodes : List TreeNode) (v : IsNewVolume o ids now image other m r nodes) (rising : ImageKeysAscend) where
   abbrev making : IsMaking image m
   making = v.new.conversion.making
 
@@ -146,20 +149,12 @@ module _ (o : Options) (ids : Ids) (now : ℕ) (image other : Image) (m : Making
   -- trees by their numbers
   pub all_other : AllPairs (λ t u. t.number ≢ u.number) (all_trees k)
   all_other =
-      let s = super_for m r nodes in
-      let extents : TreeOn = tree_for other s EXTENT_TREE r.extents (extent_tree_items m.chunks m.pieces nodes m.options.nodesize) in
-      let device : TreeOn = tree_for other s DEV_TREE r.device (device_items (new_ids m) m.chunks) in
-      let files : TreeOn = tree_for other s FS_TREE r.files (file_tree_items image m) in
-      let sums : TreeOn = tree_for other s CSUM_TREE r.sums (sum_tree_items other m) in
-      let saved : TreeOn = tree_for other s CONV_IMAGE_SUBVOL r.image (image_tree_items m) in
-      let relocation : TreeOn = tree_for other s DATA_RELOC_TREE r.relocation (relocation_items m.now) in
-      let up = all_once o ids now image other m r nodes v in
       AllPairs-cons Other k.chunk_tree (k.root_tree ∷ k.others)
       (All-cons (Other k.chunk_tree) k.root_tree k.others (λ e. omega (arith, e))
-      (six_all (Other k.chunk_tree) extents device files sums saved relocation (λ e. omega (arith, e)) (λ e. omega (arith, e)) (λ e. omega (arith, e)) (λ e. omega (arith, e)) (λ e. omega (arith, e)) (λ e. omega (arith, e))))
+      (others_all image other m r nodes (Other k.chunk_tree) (λ e. omega (arith, e)) (λ t e. not_chunks t (sym e))))
       (AllPairs-cons Other k.root_tree k.others
-      (six_all (Other k.root_tree) extents device files sums saved relocation (λ e. omega (arith, e)) (λ e. omega (arith, e)) (λ e. omega (arith, e)) (λ e. omega (arith, e)) (λ e. omega (arith, e)) (λ e. omega (arith, e)))
-      (λ i j d l h e. let less : (get_or k.others i d).number < (get_or k.others j d).number = up i j d l h in omega (arith, less, e)))
+      (others_all image other m r nodes (Other k.root_tree) (λ e. omega (arith, e)) (λ t e. not_root t (sym e)))
+      (λ i j d l h e. let less : (get_or k.others i d).number < (get_or k.others j d).number = all_once o ids now image other m r nodes v i j d l h in omega (arith, less, e)))
 
   -- data is used by two trees
   pub use_numbers : (u : DataUse) → Contains (data_uses k) u → (u.tree ≢ FS_TREE) → (u.tree ≢ CONV_IMAGE_SUBVOL) → ⊥
@@ -178,20 +173,26 @@ module _ (o : Options) (ids : Ids) (now : ℕ) (image other : Image) (m : Making
       let is = uses_tree t u l in
       use_numbers u (in_flat_map uses_in (all_trees k) t u h l) (λ e. one (sym is ∙ e)) (λ e. two (sym is ∙ e)))
 
+  files_once : Once (tree_in image other m r nodes Files)
+  files_once = tree_distinct (tree_in image other m r nodes Files) (files_rise image m making fit) (λ i u h is l. file_key image m making fit i u h is l)
+
+  image_once : Once (tree_in image other m r nodes SavedImage)
+  image_once = tree_distinct (tree_in image other m r nodes SavedImage) (saved_rise image m making fit rising) (λ i u h is l. image_key image m making fit i u h is l)
+
+  -- each tree of the list
+  tree_once : (t : NewTree) → Once (tree_in image other m r nodes t)
+  tree_once t = by (has_uses image m making fit other r nodes t)
+    where
+      by : HasUses image m making fit other r nodes t → Once (tree_in image other m r nodes t)
+      by (of_files is) = subst (λ (x : NewTree). Once (tree_in image other m r nodes x)) (sym is) files_once
+      by (of_image is) = subst (λ (x : NewTree). Once (tree_in image other m r nodes x)) (sym is) image_once
+      by (of_none none) = distinct_nil (uses_in (tree_in image other m r nodes t)) (λ u h. absurd (none_used image m making fit other r nodes t none u h))
+
   each_once : All Once (all_trees k)
   each_once =
-      let s = super_for m r nodes in
-      let extents : TreeOn = tree_for other s EXTENT_TREE r.extents (extent_tree_items m.chunks m.pieces nodes m.options.nodesize) in
-      let device : TreeOn = tree_for other s DEV_TREE r.device (device_items (new_ids m) m.chunks) in
-      let files : TreeOn = tree_for other s FS_TREE r.files (file_tree_items image m) in
-      let sums : TreeOn = tree_for other s CSUM_TREE r.sums (sum_tree_items other m) in
-      let saved : TreeOn = tree_for other s CONV_IMAGE_SUBVOL r.image (image_tree_items m) in
-      let relocation : TreeOn = tree_for other s DATA_RELOC_TREE r.relocation (relocation_items m.now) in
-      All-cons Once k.chunk_tree (k.root_tree ∷ k.others) (no_uses k.chunk_tree (0, omega arith, refl) (λ e. omega (arith, e)) (λ e. omega (arith, e)))
-      (All-cons Once k.root_tree k.others (no_uses k.root_tree (1, omega arith, refl) (λ e. omega (arith, e)) (λ e. omega (arith, e)))
-      (six_all Once extents device files sums saved relocation (no_uses extents (2, omega arith, refl) (λ e. omega (arith, e)) (λ e. omega (arith, e))) (no_uses device (3, omega arith, refl) (λ e. omega (arith, e)) (λ e. omega (arith, e)))
-      (tree_distinct files (files_rise image m making fit) (λ i u h is l. file_key image m making fit i u h is l)) (no_uses sums (5, omega arith, refl) (λ e. omega (arith, e)) (λ e. omega (arith, e)))
-      (tree_distinct saved (saved_rise image m making fit rising) (λ i u h is l. image_key image m making fit i u h is l)) (no_uses relocation (7, omega arith, refl) (λ e. omega (arith, e)) (λ e. omega (arith, e)))))
+      trees_all image other m r nodes Once (no_uses k.chunk_tree (0, omega arith, refl) (λ e. omega (arith, e)) (λ e. omega (arith, e)))
+      (no_uses k.root_tree (1, omega arith, refl) (λ e. omega (arith, e)) (λ e. omega (arith, e)))
+      (no_uses (extents_in image other m r nodes) (rooted_there image other m r nodes (named_extents m r nodes) (extents_named image other m r nodes)) (λ e. omega (arith, e)) (λ e. omega (arith, e))) tree_once
 
   -- no use of data is found twice
   pub uses_distinct : AreDistinct (data_uses k)

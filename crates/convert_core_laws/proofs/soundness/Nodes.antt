@@ -1,8 +1,12 @@
 -- The nodes of a converted volume lie at their slots.
-use Rattle.convert_core_laws.proofs.Imports.{◌≡◌, ◌≢◌, ℕ, suc, ◌+◌, ◌-◌, ◌^◌, List, [], ◌∷◌, length, take, drop, refl, sym, subst, arith, All, Contains, IsPermutation, All-append, All-contains, All-contains_itself, All-cons, All-drop, All-map, All-nil, All-take, All-permutation, IsPermutation-sym, CHUNK_TREE, CONV_IMAGE_SUBVOL, CSUM_TREE, DATA_RELOC_TREE, DEV_TREE, EXTENT_TREE, FS_TREE, ROOT_TREE, Image, Ids, Item, chunk_map, Recount, TreeOn, all_trees, Super, pointer_to, GivesItself, IsSameBy, packed_leaves, tree_levels, level_pointers, lengths_of, pointers_to, Root, agree, TreeEvent, nodes_in, walk_events, identity, MapRange, Form, NodePointer, Making, chunk_slots, new_ids, slots, HasTrees, device_from, extents_from, file_tree_items, form, image_from, image_tree_items, relocation_from, root_from, root_tree_items, sum_tree_items, sums_from, VolumeTrees, IsNewVolume, super_for, relocation_items, all_from_contains, chunk_items, device_items, extent_items, TreeNode, TreeStands, pointer_to_root, Options, recount_for, tree_for}
+use Rattle.convert_core_laws.proofs.Imports.{◌≡◌, ◌≢◌, ℕ, suc, ◌+◌, ◌-◌, List, [], ◌∷◌, length, take, drop, refl, sym, subst, arith, All, Contains, IsPermutation, All-append, All-contains, All-contains_itself, All-drop, All-map, All-nil, All-take, All-permutation, IsPermutation-sym, CHUNK_TREE, EXTENT_TREE, ROOT_TREE, Image, Ids, Item, chunk_map, Recount, TreeOn, all_trees, Super, pointer_to, GivesItself, IsSameBy, packed_leaves, tree_levels, level_pointers, lengths_of, pointers_to, Root, agree, TreeEvent, nodes_in, walk_events, identity, MapRange, Form, NodePointer, Making, chunk_slots, new_ids, slots, TreesStand, extents_from, form, root_from, root_tree_items, TreeRoots, IsNewVolume, super_for, all_from_contains, chunk_items, extent_items, TreeNode, TreeStands, pointer_to_root, Options, recount_for, tree_for, tree_number, NewTree}
+use Rattle.convert_core.specs.convert_steps.Standing.{items_of}
 use Rattle.convert_core_laws.proofs.reading.Opening.{maps_chunks}
 use Rattle.convert_core_laws.proofs.soundness.Recounting.{form_is}
-use Rattle.convert_core_laws.proofs.soundness.Trees.{map_is, six_all}
+use Rattle.convert_core_laws.proofs.soundness.Trees.{map_is}
+use Rattle.convert_core_laws.proofs.reading.Named.{tree_stands}
+use Rattle.convert_core_laws.proofs.soundness.Among.{extents_in, tree_in, trees_all}
+use Rattle.convert_core_laws.proofs.soundness.Listed.{not_chunks}
 
 -- what holds of the slots holds of the addresses of nodes at them
 pub level_all : (Q : ℕ → Type 0) (generation level skip : ℕ) (list sizes : List ℕ) → All Q list → All (λ p. Q p.address) (level_pointers generation level skip list sizes)
@@ -27,8 +31,8 @@ met image form owner list items root ranges stands gives =
     let same : IsSameBy image ranges identity form (pointer_to_root root) owner = agree image ranges form (pointer_to_root root) owner all in
     subst (λ (es : List TreeEvent). IsPermutation (nodes_in es) (packed_at form.nodesize list items)) (sym same.events) stands.nodes_are
 
-module _ (o : Options) (ids : Ids) (now : ℕ) (image other : Image) (m : Making) (r : VolumeTrees) (nodes : List TreeNode) (v : IsNewVolume o ids now image other m r nodes) where
-  abbrev stand : HasTrees image other other m r nodes
+module _ (o : Options) (ids : Ids) (now : ℕ) (image other : Image) (m : Making) (r : TreeRoots) (nodes : List TreeNode) (v : IsNewVolume o ids now image other m r nodes) where
+  abbrev stand : TreesStand image other other m r nodes
   stand = v.new.stands.trees
 
   abbrev s : Super
@@ -44,7 +48,7 @@ module _ (o : Options) (ids : Ids) (now : ℕ) (image other : Image) (m : Making
   abbrev pub AreAt : List ℕ → TreeOn → Type 0
   AreAt list t = IsPermutation t.nodes (packed_at m.options.nodesize list t.items)
 
-  at_list : (list : List ℕ) (number : ℕ) (items : List Item) (root : Root) → TreeStands other (form m) number list items root → All (GivesItself own m.options.nodesize) list → AreAt list (tree_for other (super_for m r nodes) number root items)
+  pub at_list : (list : List ℕ) (number : ℕ) (items : List Item) (root : Root) → TreeStands other (form m) number list items root → All (GivesItself own m.options.nodesize) list → AreAt list (tree_for other (super_for m r nodes) number root items)
   at_list list number items root stands gives =
       subst (λ (f : Form). IsPermutation (nodes_in (walk_events other own f (pointer_to_root root) number)) (packed_at m.options.nodesize list items)) (sym (form_is m r nodes))
       (met other (form m) number list items root own stands gives)
@@ -59,7 +63,7 @@ module _ (o : Options) (ids : Ids) (now : ℕ) (image other : Image) (m : Making
       all_from_contains (GivesItself own m.options.nodesize) (slots m)
       (λ a h. subst (λ (rs : List MapRange). GivesItself rs m.options.nodesize a) (sym (map_is o ids now image other m r nodes v)) ((maps_chunks o ids now image other m r nodes v).own.nodes a h))
 
-  later_give : (n : ℕ) → All (GivesItself own m.options.nodesize) (drop n (slots m))
+  pub later_give : (n : ℕ) → All (GivesItself own m.options.nodesize) (drop n (slots m))
   later_give n = All-drop (GivesItself own m.options.nodesize) n (slots m) slots_give
 
   pub chunk_at : AreAt (chunk_slots m) k.chunk_tree
@@ -71,20 +75,11 @@ module _ (o : Options) (ids : Ids) (now : ℕ) (image other : Image) (m : Making
   pub extents_at : AreAt (drop (extents_from r) (slots m)) (tree_for other (super_for m r nodes) EXTENT_TREE r.extents (extent_items m.chunks m.pieces nodes m.options.nodesize))
   extents_at = at_list (drop (extents_from r) (slots m)) EXTENT_TREE (extent_items m.chunks m.pieces nodes m.options.nodesize) r.extents stand.extents (later_give (extents_from r))
 
-  pub device_at : AreAt (drop (device_from r) (slots m)) (tree_for other (super_for m r nodes) DEV_TREE r.device (device_items (new_ids m) m.chunks))
-  device_at = at_list (drop (device_from r) (slots m)) DEV_TREE (device_items (new_ids m) m.chunks) r.device stand.device (later_give (device_from r))
-
-  pub files_at : AreAt (slots m) (tree_for other (super_for m r nodes) FS_TREE r.files (file_tree_items image m))
-  files_at = at_list (slots m) FS_TREE (file_tree_items image m) r.files stand.files slots_give
-
-  pub sums_at : AreAt (drop (sums_from r) (slots m)) (tree_for other (super_for m r nodes) CSUM_TREE r.sums (sum_tree_items other m))
-  sums_at = at_list (drop (sums_from r) (slots m)) CSUM_TREE (sum_tree_items other m) r.sums stand.sums (later_give (sums_from r))
-
-  pub saved_at : AreAt (drop (image_from r) (slots m)) (tree_for other (super_for m r nodes) CONV_IMAGE_SUBVOL r.image (image_tree_items m))
-  saved_at = at_list (drop (image_from r) (slots m)) CONV_IMAGE_SUBVOL (image_tree_items m) r.image stand.image_ (later_give (image_from r))
-
-  pub relocation_at : AreAt (drop (relocation_from r) (slots m)) (tree_for other (super_for m r nodes) DATA_RELOC_TREE r.relocation (relocation_items m.now))
-  relocation_at = at_list (drop (relocation_from r) (slots m)) DATA_RELOC_TREE (relocation_items m.now) r.relocation stand.relocation (later_give (relocation_from r))
+  -- those of each tree of the list lie at the slots from a number on
+  pub tree_at : (t : NewTree) → AreAt (drop (tree_stands image other m r nodes other stand t).first (slots m)) (tree_in image other m r nodes t)
+  tree_at t =
+      let at = tree_stands image other m r nodes other stand t in
+      at_list (drop at.first (slots m)) (tree_number t) (items_of image other m t) (r.tree t) at.stands (later_give at.first)
 
   -- ---- where a node lies
 
@@ -111,17 +106,10 @@ module _ (o : Options) (ids : Ids) (now : ℕ) (image other : Image) (m : Making
 
   all_lie : All AllLie (all_trees k)
   all_lie =
-      let extents : TreeOn = tree_for other s EXTENT_TREE r.extents (extent_items m.chunks m.pieces nodes m.options.nodesize) in
-      let device : TreeOn = tree_for other s DEV_TREE r.device (device_items (new_ids m) m.chunks) in
-      let files : TreeOn = tree_for other s FS_TREE r.files (file_tree_items image m) in
-      let sums : TreeOn = tree_for other s CSUM_TREE r.sums (sum_tree_items other m) in
-      let saved : TreeOn = tree_for other s CONV_IMAGE_SUBVOL r.image (image_tree_items m) in
-      let relocation : TreeOn = tree_for other s DATA_RELOC_TREE r.relocation (relocation_items m.now) in
-      All-cons AllLie k.chunk_tree (k.root_tree ∷ k.others) (lie_at k.chunk_tree (chunk_slots m) chunk_at (λ a h. of_chunks refl h))
-      (All-cons AllLie k.root_tree k.others (lie_at k.root_tree (take r.root.nodes (drop (root_from r) (slots m))) root_at (λ a h. of_others (λ e. omega (arith, e)) (in_take a h)))
-      (six_all AllLie extents device files sums saved relocation (other_at extents (extents_from r) (λ e. omega (arith, e)) extents_at) (other_at device (device_from r) (λ e. omega (arith, e)) device_at)
-      (lie_at files (slots m) files_at (λ a h. of_others (λ e. omega (arith, e)) h)) (other_at sums (sums_from r) (λ e. omega (arith, e)) sums_at) (other_at saved (image_from r) (λ e. omega (arith, e)) saved_at)
-      (other_at relocation (relocation_from r) (λ e. omega (arith, e)) relocation_at)))
+      trees_all image other m r nodes AllLie (lie_at k.chunk_tree (chunk_slots m) chunk_at (λ a h. of_chunks refl h))
+      (lie_at k.root_tree (take r.root.nodes (drop (root_from r) (slots m))) root_at (λ a h. of_others (λ e. omega (arith, e)) (in_take a h)))
+      (other_at (extents_in image other m r nodes) (extents_from r) (λ e. omega (arith, e)) extents_at)
+      (λ t. other_at (tree_in image other m r nodes t) (tree_stands image other m r nodes other stand t).first (not_chunks t) (tree_at t))
     where
       in_take : (a : ℕ) → Contains (take r.root.nodes (drop (root_from r) (slots m))) a → Contains (slots m) a
       in_take a h =

@@ -1,17 +1,17 @@
 -- The fields of a converted volume's superblock, and its chunks as they are read.
-use Rattle.convert_core_laws.proofs.Imports.{◌≡◌, ℕ, ◌+◌, ◌*◌, ◌==◌, Bool, true, false, not, List, ◌++◌, Option, refl, sym, ap, subst, ◌∙◌, unwrap_or, BIG_METADATA, EXTENDED_IREF, MIXED_BACKREF, NO_HOLES, SKINNY_METADATA, Image, Ids, form_of, SumKind, Crc32c, csum_number, known_kind, Form, has_feature, Making, new_ids, form, used_bytes, VolumeTrees, IsNew, new_super, HasFsid, NewIdsFit, IsNewVolume, boot_part, other_part, super_for, IsNodeSize, device_body, AreIds, TreeNode, PlannedChunk, Options, known-number}
+use Rattle.convert_core_laws.proofs.Imports.{◌≡◌, ℕ, ◌+◌, ◌*◌, ◌==◌, Bool, true, false, not, List, ◌++◌, Option, refl, sym, ap, subst, ◌∙◌, unwrap_or, BIG_METADATA, EXTENDED_IREF, MIXED_BACKREF, NO_HOLES, SKINNY_METADATA, Image, Ids, form_of, SumKind, Crc32c, csum_number, known_kind, Form, has_feature, Making, new_ids, form, used_bytes, TreeRoots, IsNew, new_super, HasFsid, NewIdsFit, IsNewVolume, boot_part, other_part, super_for, IsNodeSize, device_body, AreIds, TreeNode, PlannedChunk, Options, known-number}
 use Rattle.std.proofs.Common.{bit_and, if◌then◌else◌}
 use Rattle.convert_core_laws.proofs.reading.Superblock.{own_fsid}
 
 -- a volume of the premises is one that opens
-pub volume_for : NewIdsFit → (o : Options) (ids : Ids) (now : ℕ) (image other : Image) (m : Making) (r : VolumeTrees) (nodes : List TreeNode) → IsNew o ids now image other m r nodes → IsNodeSize o.nodesize → AreIds ids → HasFsid image o.uuid
+pub volume_for : NewIdsFit → (o : Options) (ids : Ids) (now : ℕ) (image other : Image) (m : Making) (r : TreeRoots) (nodes : List TreeNode) → IsNew o ids now image other m r nodes → IsNodeSize o.nodesize → AreIds ids → HasFsid image o.uuid
     → IsNewVolume o ids now image other m r nodes
 volume_for fit o ids now image other m r nodes is size are has =
     let own : AreIds m.ids = subst AreIds (sym is.conversion.ids_are) are in
     let fsid : HasFsid image m.options.uuid = subst (λ (p : Options). HasFsid image p.uuid) (sym is.conversion.options_are) has in
     record { new = is; size = size; ids_ = fit image m is.conversion.making own fsid }
 
-module _ (m : Making) (r : VolumeTrees) (nodes : List TreeNode) where
+module _ (m : Making) (r : TreeRoots) (nodes : List TreeNode) where
   pub used_is : (super_for m r nodes).bytes_used ≡ used_bytes m nodes
   unfolding new_super
   used_is = refl

@@ -1,10 +1,11 @@
 -- The references of a converted volume are sound: its extent tree is the recount of all nodes and of all uses of data.
-use Rattle.convert_core_laws.proofs.Imports.{◌≡◌, ◌≢◌, ◌⊎◌, ◌≤◌, ◌<◌, ℕ, ◌+◌, ◌-◌, ◌*◌, ◌%◌, ◌^◌, inl, inr, Bool, true, false, List, [], ◌∷◌, length, map, Option, Some, None, refl, sym, ap, subst, ◌∙◌, ⊎_elim, true≢false, arith, AllByRecursion, All, AllPairs, Contains, if◌then◌else◌, is_some, option_map_or, Equal, eq-eqb, All-cons, All-contains, All-map, EXTENT_FLAG_DATA, EXTENT_FLAG_TREE_BLOCK, BLOCK_GROUP_ITEM, EXTENT_ITEM, METADATA_ITEM, CONV_IMAGE_SUBVOL, CSUM_TREE, DATA_RELOC_TREE, DEV_TREE, EXTENT_TREE, FS_TREE, from_map, in_map, keys, Image, Ids, make_key, Key, Item, IsNodeSize, DataUse, Recount, TreeOn, all_trees, data_uses, recounted_items, AreReferences, FitFeatures, HasKey, HasRefs, IsDataItem, IsNodeItem, IsWhole, StandsBefore, is_group, FitsInline, InlineRef, TreeBlock, NodePointer, IsMaking, Making, new_ids, HasPieces, made_from, file_tree_items, image_tree_items, sum_tree_items, VolumeTrees, well, NewIdsFit, IsNewVolume, super_for, all_at, two_cases, file_block, source_block, relocation_items, ino_of, FilesAreHeld, ImageKeysAscend, all_from_contains, accepted_is_small, device_items, data_ref, extent_body, extent_items, group_item, hash_of_ref, image_refs, node_item, owner_refs, piece_item, put_refs, used_in, item_cmp, merged, TreeNode, all-merge, append-nil, PlannedChunk, Options, Piece, recount_for, tree_for, ConvertedReferencesAreSound}
+use Rattle.convert_core_laws.proofs.Imports.{◌≡◌, ◌≢◌, ◌⊎◌, ◌≤◌, ◌<◌, ℕ, ◌+◌, ◌-◌, ◌*◌, ◌%◌, ◌^◌, inl, inr, Bool, true, false, List, [], ◌∷◌, length, map, Option, Some, None, refl, sym, ap, subst, ◌∙◌, ⊎_elim, true≢false, arith, AllByRecursion, All, AllPairs, Contains, if◌then◌else◌, is_some, option_map_or, Equal, eq-eqb, All-contains, All-map, EXTENT_FLAG_DATA, EXTENT_FLAG_TREE_BLOCK, BLOCK_GROUP_ITEM, EXTENT_ITEM, METADATA_ITEM, CONV_IMAGE_SUBVOL, EXTENT_TREE, FS_TREE, from_map, in_map, keys, Image, Ids, make_key, Key, Item, IsNodeSize, DataUse, Recount, TreeOn, all_trees, data_uses, recounted_items, AreReferences, FitFeatures, HasKey, HasRefs, IsDataItem, IsNodeItem, IsWhole, StandsBefore, is_group, FitsInline, InlineRef, TreeBlock, NodePointer, IsMaking, Making, HasPieces, made_from, TreeRoots, well, NewIdsFit, IsNewVolume, all_at, two_cases, file_block, source_block, ino_of, FilesAreHeld, ImageKeysAscend, all_from_contains, accepted_is_small, data_ref, extent_body, extent_items, group_item, hash_of_ref, image_refs, node_item, owner_refs, piece_item, put_refs, used_in, item_cmp, merged, TreeNode, all-merge, append-nil, PlannedChunk, Options, Piece, recount_for, ConvertedReferencesAreSound}
 use Rattle.std.specs.Prelude.{nat_lt}
 use Rattle.convert_core_laws.proofs.soundness.AllUses.{from_is, source_low, uses_are}
 use Rattle.convert_core_laws.proofs.soundness.Nodes.{LiesAt, node_lies, of_chunks, of_others}
 use Rattle.convert_core_laws.proofs.soundness.Recounting.{generation_is, volume_for, with_extended, with_skinny}
-use Rattle.convert_core_laws.proofs.soundness.Trees.{six_all}
+use Rattle.convert_core_laws.proofs.soundness.Among.{trees_all}
+use Rattle.convert_core_laws.proofs.soundness.Listed.{number_low}
 use Rattle.convert_core_laws.proofs.soundness.Unreserved.{fit_size, place_whole}
 use Rattle.convert_core_laws.proofs.soundness.Used.{file_use, owned, saved_use}
 use Rattle.convert_core_laws.proofs.soundness.Uses.{IsUse, by_file, by_image, owner_low, use_at}
@@ -23,7 +24,7 @@ data IsUseOf (p : Piece) (u : DataUse) : Type 0 where
   of_file : (inode block : ℕ) → p.owner ≡ Some (inode, block) → u ≡ use_at FS_TREE inode block p → IsUseOf p u
   of_image : (block : ℕ) → p.from ≡ Some block → u ≡ use_at CONV_IMAGE_SUBVOL 257 block p → IsUseOf p u
 
-module _ (o : Options) (ids : Ids) (now : ℕ) (image other : Image) (m : Making) (r : VolumeTrees) (nodes : List TreeNode) (v : IsNewVolume o ids now image other m r nodes) (held : FilesAreHeld) (rising : ImageKeysAscend) where
+module _ (o : Options) (ids : Ids) (now : ℕ) (image other : Image) (m : Making) (r : TreeRoots) (nodes : List TreeNode) (v : IsNewVolume o ids now image other m r nodes) (held : FilesAreHeld) (rising : ImageKeysAscend) where
   abbrev making : IsMaking image m
   making = v.new.conversion.making
 
@@ -93,13 +94,7 @@ module _ (o : Options) (ids : Ids) (now : ℕ) (image other : Image) (m : Making
   IsLow t = t.number < 2 ^ 64
 
   numbers_low : All IsLow (all_trees k)
-  numbers_low =
-      let s = super_for m r nodes in
-      All-cons IsLow k.chunk_tree (k.root_tree ∷ k.others) (omega arith)
-      (All-cons IsLow k.root_tree k.others (omega arith)
-      (six_all IsLow (tree_for other s EXTENT_TREE r.extents items) (tree_for other s DEV_TREE r.device (device_items (new_ids m) m.chunks)) (tree_for other s FS_TREE r.files (file_tree_items image m))
-      (tree_for other s CSUM_TREE r.sums (sum_tree_items other m)) (tree_for other s CONV_IMAGE_SUBVOL r.image (image_tree_items m)) (tree_for other s DATA_RELOC_TREE r.relocation (relocation_items m.now))
-      (omega arith) (omega arith) (omega arith) (omega arith) (omega arith) (omega arith)))
+  numbers_low = trees_all image other m r nodes IsLow (omega arith) (omega arith) (omega arith) number_low
 
   node_is : (x : TreeNode) → Contains nodes x → IsNodeItem k (node_item x)
   node_is x h =

@@ -1,7 +1,9 @@
 -- The nodes that the extent tree tells of are those of all trees, each once.
-use Rattle.convert_core_laws.proofs.Imports.{◌≡◌, ◌≢◌, ◌⊎◌, ◌≤◌, ◌<◌, ℕ, zero, suc, ◌+◌, ◌-◌, ◌/◌, ◌^◌, inl, inr, List, [], ◌∷◌, ◌++◌, length, take, drop, get_or, refl, sym, ap, ap₂, subst, ◌∙◌, ⊎_elim, arith, All, AllPairs, Contains, flat_map, sum_by, nat_cmp, Ordering, Less, Equal, Greater, cases_lt, drop-drop, map-append, All-contains, All-contains_itself, All-drop, All-take, sum_by-IsPermutation, sum_by-append, sum_by-cons, take-add, CHUNK_TREE, CONV_IMAGE_SUBVOL, CSUM_TREE, DATA_RELOC_TREE, DEV_TREE, EXTENT_TREE, FS_TREE, ROOT_TREE, Image, Ids, Item, Recount, TreeOn, all_trees, Super, tree_nodes, lengths_of, Root, NodePointer, IsMaking, Making, chunk_slots, new_ids, slots, HasTrees, device_from, extents_from, file_tree_items, image_from, image_tree_items, nodes_from, nodes_of_others, relocation_from, root_from, root_tree_items, sum_tree_items, sums_from, VolumeTrees, sound, slot_unit, IsNewVolume, super_for, all_at, pairs_head, pairs_tail, relocation_items, sum_mapped, contains_cases, contains_head, contains_tail, used_of, chunk_items, device_items, extent_items, merged_nodes, nodes_of_tree, TreeNode, addresses, tree_at, all-merge, merge, merge-greater, merge-less, nat_greater, nat_less, node_cmp, used_few, places_serve, Options, in_map, recount_for, tree_for}
-use Rattle.convert_core_laws.proofs.soundness.Nodes.{AreAt, chunk_at, device_at, extents_at, files_at, packed_at, relocation_at, root_at, saved_at, sums_at}
+use Rattle.convert_core_laws.proofs.Imports.{◌≡◌, ◌≢◌, ◌⊎◌, ◌≤◌, ◌<◌, ℕ, zero, suc, ◌+◌, ◌-◌, ◌/◌, ◌^◌, inl, inr, List, [], ◌∷◌, ◌++◌, length, take, drop, get_or, refl, sym, ap, subst, ◌∙◌, ⊎_elim, arith, map, ap₂, All, AllPairs, Contains, flat_map, sum_by, nat_cmp, Ordering, Less, Equal, Greater, cases_lt, All-contains, All-contains_itself, All-drop, All-take, sum_by-IsPermutation, sum_by-append, sum_by-cons, CHUNK_TREE, EXTENT_TREE, ROOT_TREE, Image, Ids, Recount, TreeOn, all_trees, Super, tree_nodes, lengths_of, NodePointer, IsMaking, Making, chunk_slots, new_ids, slots, TreesStand, extents_from, nodes_from, nodes_of_others, root_from, root_tree_items, TreeRoots, NamedTree, named, named_extents, named_trees, placed_trees, form, sound, slot_unit, IsNewVolume, super_for, all_at, pairs_head, pairs_tail, sum_mapped, contains_cases, contains_head, contains_tail, used_of, chunk_items, extent_items, merged_nodes, nodes_of_tree, TreeNode, addresses, tree_at, all-merge, merge, merge-greater, merge-less, nat_greater, nat_less, node_cmp, used_few, places_serve, Options, in_map, recount_for, named_on, sum-with_all, StandBehind, nodes_behind, PlacedTree, tree_number}
+use Rattle.convert_core.specs.convert_steps.Standing.{items_of}
+use Rattle.convert_core_laws.proofs.soundness.Nodes.{AreAt, at_list, chunk_at, extents_at, later_give, packed_at, root_at}
 use Rattle.convert_core_laws.proofs.soundness.Unreserved.{fit_size, slot_holds}
+use Rattle.convert_core_laws.proofs.reading.Named.{behind, row_places}
 
 -- ---- lists
 
@@ -52,18 +54,11 @@ parted (suc n) (x ∷ xs) a b up h k =
     (λ (later : Contains (take n xs) a). parted n xs a b (pairs_tail (λ (y z : ℕ). y < z) x xs up) later k)
     (contains_cases a x (take n xs) h)
 
--- nodes behind others
-behind : (n i j : ℕ) (list : List ℕ) (xs ys : List TreeNode) → addresses xs ≡ take i (drop n list) → addresses ys ≡ take j (drop (n + i) list) → addresses (xs ++ ys) ≡ take (i + j) (drop n list)
-behind n i j list xs ys at also =
-    map-append (λ (t : TreeNode). t.address) xs ys
-    ∙ (ap₂ (λ (ps qs : List ℕ). ps ++ qs) at (also ∙ ap (take j) (sym (drop-drop i n list)))
-    ∙ sym (take-add i j (drop n list)))
-
-module _ (o : Options) (ids : Ids) (now : ℕ) (image other : Image) (m : Making) (r : VolumeTrees) (nodes : List TreeNode) (v : IsNewVolume o ids now image other m r nodes) where
+module _ (o : Options) (ids : Ids) (now : ℕ) (image other : Image) (m : Making) (r : TreeRoots) (nodes : List TreeNode) (v : IsNewVolume o ids now image other m r nodes) where
   abbrev making : IsMaking image m
   making = v.new.conversion.making
 
-  abbrev stand : HasTrees image other other m r nodes
+  abbrev stand : TreesStand image other other m r nodes
   stand = v.new.stands.trees
 
   abbrev s : Super
@@ -101,25 +96,10 @@ module _ (o : Options) (ids : Ids) (now : ℕ) (image other : Image) (m : Making
           ⊎_elim (λ (e : n ≡ 4096). omega (arith, e)) (λ rest. ⊎_elim (λ (e : n ≡ 8192). omega (arith, e)) (λ rest'. ⊎_elim (λ (e : n ≡ 16384). omega (arith, e)) (λ rest''. ⊎_elim (λ (e : n ≡ 32768). omega (arith, e)) (λ (e : n ≡ 65536). omega (arith, e)) rest'') rest') rest)
           (fit_size o ids now image other m r nodes v)
 
-  -- ---- the row of the six trees
+  -- ---- the row of the trees
 
-  tree_row : (number from : ℕ) (items : List Item) (root : Root) → root.nodes ≡ tree_nodes n (lengths_of items) → addresses (nodes_from m number from items) ≡ take root.nodes (drop from (slots m))
-  tree_row number from items root count = tree_at number n (lengths_of items) (drop from (slots m)) ∙ ap (λ (c : ℕ). take c (drop from (slots m))) (sym count)
-
-  abbrev files : List TreeNode
-  files = nodes_from m FS_TREE 0 (file_tree_items image m)
-
-  abbrev saved : List TreeNode
-  saved = nodes_from m CONV_IMAGE_SUBVOL (image_from r) (image_tree_items m)
-
-  abbrev relocation : List TreeNode
-  relocation = nodes_from m DATA_RELOC_TREE (relocation_from r) (relocation_items m.now)
-
-  abbrev sums : List TreeNode
-  sums = nodes_from m CSUM_TREE (sums_from r) (sum_tree_items other m)
-
-  abbrev device : List TreeNode
-  device = nodes_from m DEV_TREE (device_from r) (device_items (new_ids m) m.chunks)
+  abbrev first : List TreeNode
+  first = nodes_behind n (slots m) (items_of image other m) 0 (placed_trees r)
 
   abbrev rooted : List TreeNode
   rooted = nodes_from m ROOT_TREE (root_from r) (root_tree_items m r)
@@ -131,25 +111,21 @@ module _ (o : Options) (ids : Ids) (now : ℕ) (image other : Image) (m : Making
   extended = nodes_from m EXTENT_TREE (extents_from r) (extent_items m.chunks m.pieces nodes n)
 
   abbrev pub row : List TreeNode
-  row = files ++ (saved ++ (relocation ++ (sums ++ (device ++ rooted))))
-
-  row_at : addresses row ≡ take (r.files.nodes + (r.image.nodes + (r.relocation.nodes + (r.sums.nodes + (r.device.nodes + r.root.nodes))))) (slots m)
-  row_at =
-      let last = tree_row ROOT_TREE (root_from r) (root_tree_items m r) r.root stand.root.count in
-      let fifth = behind (device_from r) r.device.nodes r.root.nodes (slots m) device rooted (tree_row DEV_TREE (device_from r) (device_items (new_ids m) m.chunks) r.device stand.device.count) last in
-      let fourth = behind (sums_from r) r.sums.nodes (r.device.nodes + r.root.nodes) (slots m) sums (device ++ rooted) (tree_row CSUM_TREE (sums_from r) (sum_tree_items other m) r.sums stand.sums.count) fifth in
-      let third = behind (relocation_from r) r.relocation.nodes (r.sums.nodes + (r.device.nodes + r.root.nodes)) (slots m) relocation (sums ++ (device ++ rooted)) (tree_row DATA_RELOC_TREE (relocation_from r) (relocation_items m.now) r.relocation stand.relocation.count) fourth in
-      let second = behind (image_from r) r.image.nodes (r.relocation.nodes + (r.sums.nodes + (r.device.nodes + r.root.nodes))) (slots m) saved (relocation ++ (sums ++ (device ++ rooted))) (tree_row CONV_IMAGE_SUBVOL (image_from r) (image_tree_items m) r.image stand.image_.count) third in
-      behind 0 r.files.nodes (r.image.nodes + (r.relocation.nodes + (r.sums.nodes + (r.device.nodes + r.root.nodes)))) (slots m) files (saved ++ (relocation ++ (sums ++ (device ++ rooted)))) (tree_row FS_TREE 0 (file_tree_items image m) r.files stand.files.count)
-      (subst (λ (c : ℕ). addresses (saved ++ (relocation ++ (sums ++ (device ++ rooted)))) ≡ take (r.image.nodes + (r.relocation.nodes + (r.sums.nodes + (r.device.nodes + r.root.nodes)))) (drop c (slots m))) first second)
-    where
-      first : r.files.nodes ≡ 0 + r.files.nodes
-      first = omega arith
+  row = first ++ rooted
 
   pub row_ends : addresses row ≡ take (extents_from r) (slots m)
   row_ends =
-      let same : r.files.nodes + (r.image.nodes + (r.relocation.nodes + (r.sums.nodes + (r.device.nodes + r.root.nodes)))) ≡ extents_from r = omega arith in
-      row_at ∙ ap (λ (c : ℕ). take c (slots m)) same
+      let last : addresses rooted ≡ take r.root.nodes (drop (root_from r) (slots m)) =
+      tree_at ROOT_TREE n (lengths_of (root_tree_items m r)) (drop (root_from r) (slots m)) ∙ ap (λ (c : ℕ). take c (drop (root_from r) (slots m))) (sym stand.root.count) in
+      let before : addresses first ≡ take (root_from r) (slots m) =
+      row_places other (form m) (slots m) (items_of image other m) 0 (placed_trees r) stand.row ∙ ap (λ (c : ℕ). take c (slots m)) (whole (root_from r)) in
+      behind 0 (root_from r) r.root.nodes (slots m) first rooted before (subst (λ (c : ℕ). addresses rooted ≡ take r.root.nodes (drop c (slots m))) (none (root_from r)) last)
+    where
+      whole : (c : ℕ) → c - 0 ≡ c
+      whole c = omega arith
+
+      none : (c : ℕ) → c ≡ 0 + c
+      none c = omega arith
 
   -- where the node of a list lies
   in_row : (t : TreeNode) → Contains row t → Contains (take (extents_from r) (slots m)) t.address
@@ -213,24 +189,12 @@ module _ (o : Options) (ids : Ids) (now : ℕ) (image other : Image) (m : Making
         sym (sum_by-IsPermutation met_at t.nodes (packed_at n list t.items) are)
         ∙ sym (sum_mapped (λ (p : NodePointer). record { address = p.address; level = p.level; owner = owner }) at (packed_at n list t.items))
 
-    abbrev six : List TreeNode → List TreeNode → List TreeNode → List TreeNode → List TreeNode → List TreeNode → ℕ
-    six a b c d e g = sum_by at a + (sum_by at b + (sum_by at c + (sum_by at d + (sum_by at e + sum_by at g))))
-
-    six_sum : (a b c d e g : List TreeNode) → sum_by at (a ++ (b ++ (c ++ (d ++ (e ++ g))))) ≡ six a b c d e g
-    six_sum a b c d e g =
-        let first = sum_by-append at a (b ++ (c ++ (d ++ (e ++ g)))) in
-        let second = sum_by-append at b (c ++ (d ++ (e ++ g))) in
-        let third = sum_by-append at c (d ++ (e ++ g)) in
-        let fourth = sum_by-append at d (e ++ g) in
-        let fifth = sum_by-append at e g in
-        omega (arith, first, second, third, fourth, fifth)
-
-    told_sum : sum_by at nodes ≡ six files saved relocation sums device rooted + sum_by at chunked + sum_by at extended
+    told_sum : sum_by at nodes ≡ sum_by at first + sum_by at rooted + sum_by at chunked + sum_by at extended
     told_sum =
         let all = ap (sum_by at) stand.nodes_are.is in
         let one = first_merge in
         let two = second_merge in
-        let parts = six_sum files saved relocation sums device rooted in
+        let parts = sum_by-append at first rooted in
         omega (arith, all, one, two, parts)
 
     -- the root tree's slots end with its nodes
@@ -252,36 +216,49 @@ module _ (o : Options) (ids : Ids) (now : ℕ) (image other : Image) (m : Making
         take_twice (suc c) [] = refl
         take_twice (suc c) (x ∷ xs) = ap (λ (l : List ℕ). x ∷ l) (take_twice c xs)
 
-    eight_sum : (a b c d e g h i : TreeOn) → sum_by met_at (flat_map (λ (t : TreeOn). t.nodes) (a ∷ (b ∷ (c ∷ (d ∷ (e ∷ (g ∷ (h ∷ (i ∷ [])))))))))
-        ≡ sum_by met_at a.nodes + (sum_by met_at b.nodes + (sum_by met_at c.nodes + (sum_by met_at d.nodes + (sum_by met_at e.nodes + (sum_by met_at g.nodes + (sum_by met_at h.nodes + sum_by met_at i.nodes))))))
-    eight_sum a b c d e g h i =
-        let x1 = sum_by-append met_at a.nodes (b.nodes ++ (c.nodes ++ (d.nodes ++ (e.nodes ++ (g.nodes ++ (h.nodes ++ (i.nodes ++ []))))))) in
-        let x2 = sum_by-append met_at b.nodes (c.nodes ++ (d.nodes ++ (e.nodes ++ (g.nodes ++ (h.nodes ++ (i.nodes ++ [])))))) in
-        let x3 = sum_by-append met_at c.nodes (d.nodes ++ (e.nodes ++ (g.nodes ++ (h.nodes ++ (i.nodes ++ []))))) in
-        let x4 = sum_by-append met_at d.nodes (e.nodes ++ (g.nodes ++ (h.nodes ++ (i.nodes ++ [])))) in
-        let x5 = sum_by-append met_at e.nodes (g.nodes ++ (h.nodes ++ (i.nodes ++ []))) in
-        let x6 = sum_by-append met_at g.nodes (h.nodes ++ (i.nodes ++ [])) in
-        let x7 = sum_by-append met_at h.nodes (i.nodes ++ []) in
-        let x8 = sum_by-append met_at i.nodes [] in
-        omega (arith, x1, x2, x3, x4, x5, x6, x7, x8)
+    -- one tree more
+    one_more : (t : TreeOn) (ts : List TreeOn) → sum_by met_at (flat_map (λ (u : TreeOn). u.nodes) (t ∷ ts)) ≡ sum_by met_at t.nodes + sum_by met_at (flat_map (λ (u : TreeOn). u.nodes) ts)
+    one_more t ts = sum_by-append met_at t.nodes (flat_map (λ (u : TreeOn). u.nodes) ts)
+
+    -- how many those of one are
+    abbrev weight : NamedTree → ℕ
+    weight t = sum_by met_at (named_on other s t).nodes
+
+    by_trees : (ts : List NamedTree) → sum_by met_at (flat_map (λ (u : TreeOn). u.nodes) (map (named_on other s) ts)) ≡ sum_by weight ts
+    by_trees [] = refl
+    by_trees (t ∷ ts) = one_more (named_on other s t) (map (named_on other s) ts) ∙ (ap (λ (c : ℕ). weight t + c) (by_trees ts) ∙ sym (sum_by-cons weight t ts))
+
+    -- those of the trees that are written first
+    by_row : (k : ℕ) (placed : List PlacedTree) → StandBehind other (form m) (slots m) (items_of image other m) k placed
+        → sum_by weight (map (named image other m) placed) ≡ sum_by at (nodes_behind n (slots m) (items_of image other m) k placed)
+    by_row k [] stands = refl
+    by_row k (p ∷ placed) stands =
+        let t : TreeOn = named_on other s (named image other m p) in
+        let list : List ℕ = drop k (slots m) in
+        let own = tree_sum (tree_number p.tree) list t (at_list o ids now image other m r nodes v list (tree_number p.tree) (items_of image other m p.tree) p.root stands.0 (later_give o ids now image other m r nodes v k)) in
+        sum_by-cons weight (named image other m p) (map (named image other m) placed)
+        ∙ (ap₂ (λ (c d : ℕ). c + d) own (by_row (k + p.root.nodes) placed stands.1)
+        ∙ sym (sum_by-append at (nodes_of_tree (tree_number p.tree) n (lengths_of (items_of image other m p.tree)) list) (nodes_behind n (slots m) (items_of image other m) (k + p.root.nodes) placed)))
 
     -- A sum over the nodes that a walk of all trees meets is that over the nodes that are told.
     pub nodes_sum : sum_by met_at (flat_map (λ (t : TreeOn). t.nodes) (all_trees k)) ≡ sum_by at nodes
     nodes_sum =
-        let extents : TreeOn = tree_for other s EXTENT_TREE r.extents (extent_items m.chunks m.pieces nodes n) in
-        let devices : TreeOn = tree_for other s DEV_TREE r.device (device_items (new_ids m) m.chunks) in
-        let filed : TreeOn = tree_for other s FS_TREE r.files (file_tree_items image m) in
-        let summed : TreeOn = tree_for other s CSUM_TREE r.sums (sum_tree_items other m) in
-        let imaged : TreeOn = tree_for other s CONV_IMAGE_SUBVOL r.image (image_tree_items m) in
-        let moved : TreeOn = tree_for other s DATA_RELOC_TREE r.relocation (relocation_items m.now) in
-        let all = eight_sum k.chunk_tree k.root_tree extents devices filed summed imaged moved in
+        let extents : TreeOn = named_on other s (named_extents m r nodes) in
+        let all = one_more k.chunk_tree (k.root_tree ∷ k.others) in
+        let more = one_more k.root_tree k.others in
+        let others : sum_by met_at (flat_map (λ (t : TreeOn). t.nodes) k.others) ≡ sum_by at extended + sum_by at first =
+        by_trees (named_trees image other m r nodes)
+        ∙ (sum-with_all (λ (t : NamedTree). t.number) weight (named_extents m r nodes ∷ []) (map (named image other m) (placed_trees r))
+        ∙ ap₂ (λ (c d : ℕ). c + d) (one_weight (named_extents m r nodes) ∙ tree_sum EXTENT_TREE (drop (extents_from r) (slots m)) extents (extents_at o ids now image other m r nodes v)) (by_row 0 (placed_trees r) stand.row)) in
         let chunk = tree_sum CHUNK_TREE (chunk_slots m) k.chunk_tree (chunk_at o ids now image other m r nodes v) in
-        let root = root_sum in
-        let x2 = tree_sum EXTENT_TREE (drop (extents_from r) (slots m)) extents (extents_at o ids now image other m r nodes v) in
-        let x4 = tree_sum DEV_TREE (drop (device_from r) (slots m)) devices (device_at o ids now image other m r nodes v) in
-        let x5 = tree_sum FS_TREE (slots m) filed (files_at o ids now image other m r nodes v) in
-        let x7 = tree_sum CSUM_TREE (drop (sums_from r) (slots m)) summed (sums_at o ids now image other m r nodes v) in
-        let x256 = tree_sum CONV_IMAGE_SUBVOL (drop (image_from r) (slots m)) imaged (saved_at o ids now image other m r nodes v) in
-        let last = tree_sum DATA_RELOC_TREE (drop (relocation_from r) (slots m)) moved (relocation_at o ids now image other m r nodes v) in
-        let told = told_sum in
-        omega (arith, all, chunk, root, x2, x4, x5, x7, x256, last, told)
+        sum_up _ _ _ _ _ _ _ _ _ _ all more others chunk root_sum told_sum
+      where
+        one_weight : (t : NamedTree) → sum_by weight (t ∷ []) ≡ weight t
+        one_weight t = sum_by-cons weight t [] ∙ none (weight t)
+          where
+            none : (c : ℕ) → c + 0 ≡ c
+            none c = omega arith
+
+        sum_up : (all chunk more root others first rooted extended chunked told : ℕ) → all ≡ chunk + more → more ≡ root + others → others ≡ extended + first → chunk ≡ chunked → root ≡ rooted
+            → told ≡ first + rooted + chunked + extended → all ≡ told
+        sum_up all chunk more root others first rooted extended chunked told a b c d e f = omega (arith, a, b, c, d, e, f)

@@ -1,5 +1,5 @@
 -- The chunks of a converted volume lie apart, and its device extents are their stripes.
-use Rattle.convert_core_laws.proofs.Imports.{◌≡◌, ◌≤◌, ℕ, ◌+◌, ◌*◌, ◌^◌, inl, inr, Bool, true, false, not, List, map, filter, get_or, refl, sym, ap, subst, ◌∙◌, ⊎_elim, arith, eqb, All, AllPairs, Contains, cases_Bool, not_from_false, append-nil, All-map, Contains-append_cases, Contains-append_left, Contains-append_right, AllPairs-filter, DEV_EXTENT, Image, Ids, Item, AreStripes, IsChunkOn, IsExtentOf, dev_extents, Recount, dev_extents_read_back, Device, ChunkAt, IsMaking, Making, new_ids, VolumeTrees, blocks_few, is_system_role, NewIdsFit, IsNewVolume, boot_part, chunk_at, other_part, super_for, all_at, pairs_append, pairs_map, two_cases, from_filter, from_map, in_filter, in_map, all_from_contains, dev_extent_body, dev_extent_item, device_items, AreIds, TreeNode, chunk_ends, IsChunk, role_of, usable_end, PlannedChunk, Options, ConvertedChunksAreSound, recount_for}
+use Rattle.convert_core_laws.proofs.Imports.{◌≡◌, ◌≤◌, ℕ, ◌+◌, ◌*◌, ◌^◌, inl, inr, Bool, true, false, not, List, map, filter, get_or, refl, sym, ap, subst, ◌∙◌, ⊎_elim, arith, eqb, All, AllPairs, Contains, cases_Bool, not_from_false, append-nil, All-map, Contains-append_cases, Contains-append_left, Contains-append_right, AllPairs-filter, DEV_EXTENT, Image, Ids, Item, AreStripes, IsChunkOn, IsExtentOf, dev_extents, Recount, dev_extents_read_back, Device, ChunkAt, IsMaking, Making, new_ids, TreeRoots, blocks_few, is_system_role, NewIdsFit, IsNewVolume, boot_part, chunk_at, other_part, super_for, all_at, pairs_append, pairs_map, two_cases, from_filter, from_map, in_filter, in_map, all_from_contains, dev_extent_body, dev_extent_item, device_items, AreIds, TreeNode, chunk_ends, IsChunk, role_of, usable_end, PlannedChunk, Options, ConvertedChunksAreSound, recount_for}
 use Rattle.btr_check_rules.specs.Groups.{Apart}
 use Rattle.btr_reader.specs.btr_space_items.DevExtent.{dev_extent_layout}
 use Rattle.convert_core_laws.proofs.soundness.Lists.{filter_all}
@@ -63,7 +63,7 @@ extent_is ids c are small = record {
   length = refl;
 }
 
-module _ (o : Options) (ids : Ids) (now : ℕ) (image other : Image) (m : Making) (r : VolumeTrees) (nodes : List TreeNode) (v : IsNewVolume o ids now image other m r nodes) where
+module _ (o : Options) (ids : Ids) (now : ℕ) (image other : Image) (m : Making) (r : TreeRoots) (nodes : List TreeNode) (v : IsNewVolume o ids now image other m r nodes) where
   abbrev making : IsMaking image m
   making = v.new.conversion.making
 

@@ -1,9 +1,12 @@
 -- Each node that the extent tree tells of is one that a walk meets, and the other way round.
-use Rattle.convert_core_laws.proofs.Imports.{◌≡◌, ◌≢◌, ◌≤◌, ℕ, suc, ◌+◌, ◌-◌, ◌^◌, eqb, Bool, cond, List, [], ◌∷◌, ◌++◌, length, map, take, drop, refl, sym, ap, ap₂, subst, ◌∙◌, ⊎_elim, arith, All, Contains, flat_map, sum_by, cases_eq, eq-eqb, ne_eqb, drop-take, take-take, All-append, All-contains, All-map, Contains-permutation, IsPermutation-sym, sum_by-cons, CONV_IMAGE_SUBVOL, CSUM_TREE, DATA_RELOC_TREE, DEV_TREE, EXTENT_TREE, FS_TREE, ROOT_TREE, Image, Ids, Recount, TreeOn, all_trees, Super, pointer_to, packed_leaves, tree_levels, level_pointers, lengths_of, NodePointer, Making, chunk_slots, new_ids, slots, HasTrees, device_from, extents_from, file_tree_items, image_from, image_tree_items, nodes_from, nodes_of_others, relocation_from, root_from, root_tree_items, sum_tree_items, sums_from, VolumeTrees, IsNewVolume, super_for, relocation_items, two_cases, in_flat_map, all_from_contains, contains_cases, contains_head, contains_tail, device_items, extent_items, nodes_of_tree, TreeNode, all-merge, node_cmp, Options, recount_for, tree_for}
+use Rattle.convert_core_laws.proofs.Imports.{◌≡◌, ◌≢◌, ◌≤◌, ℕ, suc, ◌+◌, ◌-◌, eqb, Bool, cond, List, [], ◌∷◌, ◌++◌, length, map, take, drop, refl, sym, ap, ap₂, subst, ◌∙◌, ⊎_elim, arith, All, Contains, flat_map, sum_by, cases_eq, eq-eqb, ne_eqb, drop-take, take-take, All-append, All-contains, All-map, All-head, All-nil, All-tail, Contains-permutation, IsPermutation-sym, sum_by-cons, ROOT_TREE, Image, Ids, Recount, TreeOn, all_trees, Super, pointer_to, packed_leaves, tree_levels, level_pointers, lengths_of, NodePointer, Making, chunk_slots, slots, TreesStand, extents_from, nodes_from, nodes_of_others, root_from, root_tree_items, TreeRoots, named, named_extents, named_trees, placed_in, placed_trees, form, IsNewVolume, super_for, two_cases, in_flat_map, all_from_contains, contains_cases, contains_head, contains_tail, nodes_of_tree, TreeNode, all-merge, node_cmp, Options, recount_for, named_on, all_map, StandBehind, nodes_behind, PlacedTree, new_trees, tree_number}
 use Rattle.std.proofs.Common.{sum}
-use Rattle.convert_core_laws.proofs.soundness.Nodes.{AreAt, chunk_at, device_at, extents_at, files_at, packed_at, relocation_at, root_at, saved_at, sums_at}
+use Rattle.convert_core.specs.convert_steps.Standing.{items_of}
+use Rattle.convert_core_laws.proofs.soundness.Nodes.{AreAt, at_list, chunk_at, extents_at, later_give, packed_at, root_at}
 use Rattle.convert_core_laws.proofs.soundness.Apart.{once}
 use Rattle.convert_core_laws.proofs.soundness.Row.{chunked, extended, nodes_sum, row}
+use Rattle.convert_core_laws.proofs.reading.Named.{extents_named, is_named}
+use Rattle.convert_core_laws.proofs.soundness.Among.{rooted_there}
 
 -- the nodes at the first slots of a list do not depend on the others
 pub taken_pointers : (generation level skip c : ℕ) (list sizes : List ℕ) → skip + sum sizes ≤ c → level_pointers generation level skip (take c list) sizes ≡ level_pointers generation level skip list sizes
@@ -37,8 +40,8 @@ hit_there a (t ∷ ts) some =
     (rest.0, contains_tail rest.0 t ts rest.1, rest.2))
     (cases_eq t.address a)
 
-module _ (o : Options) (ids : Ids) (now : ℕ) (image other : Image) (m : Making) (r : VolumeTrees) (nodes : List TreeNode) (v : IsNewVolume o ids now image other m r nodes) where
-  abbrev stand : HasTrees image other other m r nodes
+module _ (o : Options) (ids : Ids) (now : ℕ) (image other : Image) (m : Making) (r : TreeRoots) (nodes : List TreeNode) (v : IsNewVolume o ids now image other m r nodes) where
+  abbrev stand : TreesStand image other other m r nodes
   stand = v.new.stands.trees
 
   abbrev s : Super
@@ -74,28 +77,31 @@ module _ (o : Options) (ids : Ids) (now : ℕ) (image other : Image) (m : Making
       subst (All IsMet) (ap (map (λ (p : NodePointer). record { address = p.address; level = p.level; owner = ROOT_TREE })) same)
       (tree_told (take r.root.nodes list) k.root_tree (1, omega arith, refl) (root_at o ids now image other m r nodes v))
 
+  -- those of the trees that are written first
+  first_told : (k : ℕ) (placed : List PlacedTree) → StandBehind other (form m) (slots m) (items_of image other m) k placed → All (λ p. Contains (named_trees image other m r nodes) (named image other m p)) placed
+      → All IsMet (nodes_behind n (slots m) (items_of image other m) k placed)
+  first_told k [] stands there = All-nil IsMet
+  first_told k (p ∷ placed) stands there =
+      let t : TreeOn = named_on other s (named image other m p) in
+      let among = All-head (λ (q : PlacedTree). Contains (named_trees image other m r nodes) (named image other m q)) p placed there in
+      All-append IsMet (nodes_of_tree (tree_number p.tree) n (lengths_of (items_of image other m p.tree)) (drop k (slots m))) (nodes_behind n (slots m) (items_of image other m) (k + p.root.nodes) placed)
+      (tree_told (drop k (slots m)) t (rooted_there image other m r nodes (named image other m p) among)
+      (at_list o ids now image other m r nodes v (drop k (slots m)) (tree_number p.tree) (items_of image other m p.tree) p.root stands.0 (later_give o ids now image other m r nodes v k)))
+      (first_told (k + p.root.nodes) placed stands.1 (All-tail (λ (q : PlacedTree). Contains (named_trees image other m r nodes) (named image other m q)) p placed there))
+
   row_told : All IsMet (row o ids now image other m r nodes v)
   row_told =
-      let a : List TreeNode = nodes_from m FS_TREE 0 (file_tree_items image m) in
-      let b : List TreeNode = nodes_from m CONV_IMAGE_SUBVOL (image_from r) (image_tree_items m) in
-      let c : List TreeNode = nodes_from m DATA_RELOC_TREE (relocation_from r) (relocation_items m.now) in
-      let d : List TreeNode = nodes_from m CSUM_TREE (sums_from r) (sum_tree_items other m) in
-      let e : List TreeNode = nodes_from m DEV_TREE (device_from r) (device_items (new_ids m) m.chunks) in
-      let f : List TreeNode = nodes_from m ROOT_TREE (root_from r) (root_tree_items m r) in
-      All-append IsMet a (b ++ (c ++ (d ++ (e ++ f)))) (tree_told (slots m) (tree_for other s FS_TREE r.files (file_tree_items image m)) (4, omega arith, refl) (files_at o ids now image other m r nodes v))
-      (All-append IsMet b (c ++ (d ++ (e ++ f))) (tree_told (drop (image_from r) (slots m)) (tree_for other s CONV_IMAGE_SUBVOL r.image (image_tree_items m)) (6, omega arith, refl) (saved_at o ids now image other m r nodes v))
-      (All-append IsMet c (d ++ (e ++ f)) (tree_told (drop (relocation_from r) (slots m)) (tree_for other s DATA_RELOC_TREE r.relocation (relocation_items m.now)) (7, omega arith, refl) (relocation_at o ids now image other m r nodes v))
-      (All-append IsMet d (e ++ f) (tree_told (drop (sums_from r) (slots m)) (tree_for other s CSUM_TREE r.sums (sum_tree_items other m)) (5, omega arith, refl) (sums_at o ids now image other m r nodes v))
-      (All-append IsMet e f (tree_told (drop (device_from r) (slots m)) (tree_for other s DEV_TREE r.device (device_items (new_ids m) m.chunks)) (3, omega arith, refl) (device_at o ids now image other m r nodes v)) root_told))))
+      All-append IsMet (nodes_behind n (slots m) (items_of image other m) 0 (placed_trees r)) (nodes_from m ROOT_TREE (root_from r) (root_tree_items m r))
+      (first_told 0 (placed_trees r) stand.row (all_map (λ (p : PlacedTree). Contains (named_trees image other m r nodes) (named image other m p)) (placed_in r) new_trees (λ t h. is_named image other m r nodes t))) root_told
 
   -- each node that is told is met
   pub all_told : All IsMet nodes
   all_told =
-      let extents : TreeOn = tree_for other s EXTENT_TREE r.extents (extent_items m.chunks m.pieces nodes n) in
+      let extents : TreeOn = named_on other s (named_extents m r nodes) in
       subst (All IsMet) (sym stand.nodes_are.is)
       (all-merge node_cmp IsMet (nodes_of_others image other m r) (extended o ids now image other m r nodes v)
       (all-merge node_cmp IsMet (row o ids now image other m r nodes v) (chunked o ids now image other m r nodes v) row_told (tree_told (chunk_slots m) k.chunk_tree (0, omega arith, refl) (chunk_at o ids now image other m r nodes v)))
-      (tree_told (drop (extents_from r) (slots m)) extents (2, omega arith, refl) (extents_at o ids now image other m r nodes v)))
+      (tree_told (drop (extents_from r) (slots m)) extents (rooted_there image other m r nodes (named_extents m r nodes) (extents_named image other m r nodes)) (extents_at o ids now image other m r nodes v)))
 
   -- ---- each node that is met is told
 

@@ -1,5 +1,5 @@
 -- The totals of a converted volume are the sums.
-use Rattle.convert_core_laws.proofs.Imports.{◌≡◌, ◌≤◌, ◌<◌, ℕ, ◌*◌, ◌^◌, true, false, List, [], ◌∷◌, map, filter, Option, Some, refl, sym, ap, subst, ◌∙◌, arith, eqb, sum_by, option_map_or, append-nil, All-map, sum_by-cons, BLOCK_GROUP_ITEM, DEV_ITEM, DEV_ITEMS_OBJECTID, FIRST_CHUNK_TREE_OBJECTID, Image, Ids, Item, AreTotals, TellsDevice, group_used, groups, Recount, device_bytes, device_layout, device_of, BlockGroup, Device, block_groups_read_back, devices_read_back, make_key, ChunkAt, IsMaking, Making, new_ids, VolumeTrees, blocks_few, is_system_role, NewIdsFit, IsNewVolume, chunk_at, sum_mapped, chunk_item, chunk_kind, device_body, extent_items, group_item, node_item, piece_item, used_in, item_cmp, merged, AreIds, TreeNode, chunk_blocks_fit, all-merge, PlannedChunk, Role, System, Metadata, Data, Options, ConvertedTotalsAreSound, recount_for}
+use Rattle.convert_core_laws.proofs.Imports.{◌≡◌, ◌≤◌, ◌<◌, ℕ, ◌*◌, ◌^◌, true, false, List, [], ◌∷◌, map, filter, Option, Some, refl, sym, ap, subst, ◌∙◌, arith, eqb, sum_by, option_map_or, append-nil, All-map, sum_by-cons, BLOCK_GROUP_ITEM, DEV_ITEM, DEV_ITEMS_OBJECTID, FIRST_CHUNK_TREE_OBJECTID, Image, Ids, Item, AreTotals, TellsDevice, group_used, groups, Recount, device_bytes, device_layout, device_of, BlockGroup, Device, block_groups_read_back, devices_read_back, make_key, ChunkAt, IsMaking, Making, new_ids, TreeRoots, blocks_few, is_system_role, NewIdsFit, IsNewVolume, chunk_at, sum_mapped, chunk_item, chunk_kind, device_body, extent_items, group_item, node_item, piece_item, used_in, item_cmp, merged, AreIds, TreeNode, chunk_blocks_fit, all-merge, PlannedChunk, Role, System, Metadata, Data, Options, ConvertedTotalsAreSound, recount_for}
 use Rattle.btr_reader.specs.btr_space_items.BlockGroup.{block_group_layout, block_group_of}
 use Rattle.convert_core_laws.proofs.reading.Numbers.{used_small}
 use Rattle.convert_core_laws.proofs.reading.Superblock.{size}
@@ -12,7 +12,7 @@ abbrev group_of : Making → List TreeNode → PlannedChunk → Item
 group_of m nodes c = group_item (used_in m.pieces nodes m.options.nodesize c) c
 
 -- the block groups are the items of this kind
-pub groups_are : (image other : Image) (m : Making) (r : VolumeTrees) (nodes : List TreeNode) → groups (recount_for image other m r nodes) ≡ map (group_of m nodes) m.chunks
+pub groups_are : (image other : Image) (m : Making) (r : TreeRoots) (nodes : List TreeNode) → groups (recount_for image other m r nodes) ≡ map (group_of m nodes) m.chunks
 groups_are image other m r nodes =
     let rest : List Item = merged (map node_item nodes) (map piece_item m.pieces) in
     ap (filter (λ (i : Item). eqb i.0.kind BLOCK_GROUP_ITEM)) (append-nil (extent_items m.chunks m.pieces nodes m.options.nodesize))
@@ -61,7 +61,7 @@ device_reads ids blocks chunks are few fit =
     devices_read_back (device_body ids blocks chunks)
     ((((((((((((((tt, omega arith), omega (arith, few)), omega (arith, few, fit)), omega arith), omega arith), omega arith), omega arith), omega arith), omega arith), omega arith), omega arith), omega arith), are.device), are.fsid)
 
-module _ (o : Options) (ids : Ids) (now : ℕ) (image other : Image) (m : Making) (r : VolumeTrees) (nodes : List TreeNode) (v : IsNewVolume o ids now image other m r nodes) where
+module _ (o : Options) (ids : Ids) (now : ℕ) (image other : Image) (m : Making) (r : TreeRoots) (nodes : List TreeNode) (v : IsNewVolume o ids now image other m r nodes) where
   abbrev making : IsMaking image m
   making = v.new.conversion.making
 

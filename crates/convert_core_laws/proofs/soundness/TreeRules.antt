@@ -1,15 +1,19 @@
 -- The root items and the nodes of a converted volume keep the rules of Linux.
-use Rattle.convert_core_laws.proofs.Imports.{◌≡◌, ◌≢◌, ◌≤◌, ◌<◌, ℕ, suc, ◌+◌, ◌%◌, ◌^◌, ◌-◌, inl, eqb, Bool, true, List, [], ◌∷◌, length, take, drop, refl, sym, ap, arith, length-drop, All, AllPairs, Contains, AllByRecursion, list_any, IsPermutation, All-append, All-cons, All-drop, All-from_recursion, All-map, All-nil, AllPairs-cons, All-permutation, IsPermutation-sym, CONV_IMAGE_SUBVOL, CSUM_TREE, DATA_RELOC_TREE, DEV_TREE, EXTENT_TREE, FIRST_FREE_OBJECTID, FS_TREE, TREE_RELOC, all_from_contains, Image, Ids, Item, IsNodeSize, NodePointer, Super, Recount, TreeOn, all_trees, holds_files, IsRootItem, KeepTreeRules, needed_trees, pointer_to, packed_leaves, tree_levels, level_pointers, lengths_of, pointers_to, Root, TreeStands, Making, chunk_slots, new_ids, slots, HasTrees, device_from, extents_from, file_tree_items, form, image_from, image_tree_items, relocation_from, root_from, root_tree_items, sum_tree_items, sums_from, VolumeTrees, relocation_items, device_items, extent_items, root_body, root_dirid, tree_root_item, TreeNode, TreeRoot, Options, NewIdsFit, IsNewVolume, super_for, ConvertedTreesAreSound, recount_for, tree_for}
+use Rattle.convert_core_laws.proofs.Imports.{◌≡◌, ◌≢◌, ◌≤◌, ◌<◌, ℕ, suc, ◌+◌, ◌%◌, ◌^◌, ◌-◌, inl, eqb, Bool, true, List, [], ◌∷◌, length, take, drop, refl, ap, arith, length-drop, map, get_or, All, AllPairs, Contains, list_any, All-append, All-drop, All-from_recursion, All-map, All-nil, All-permutation, IsPermutation-sym, EXTENT_TREE, FIRST_FREE_OBJECTID, TREE_RELOC, all_from_contains, Image, Ids, Item, IsNodeSize, NodePointer, Super, Recount, TreeOn, all_trees, holds_files, IsRootItem, KeepTreeRules, needed_trees, pointer_to, packed_leaves, tree_levels, level_pointers, lengths_of, pointers_to, Root, TreeStands, Making, chunk_slots, new_ids, slots, TreesStand, extents_from, form, root_from, TreeRoots, NamedTree, named_trees, extent_items, root_body, root_dirid, tree_root_item, TreeNode, TreeRoot, Options, NewIdsFit, IsNewVolume, super_for, ConvertedTreesAreSound, recount_for, numbers_ascend, pairs_of, tree_number}
 use Rattle.std.proofs.Common.{if◌then◌else◌}
+use Rattle.convert_core.specs.convert_steps.Standing.{items_of}
 use Rattle.convert_core_laws.proofs.reading.Mapped.{slot_small}
 use Rattle.convert_core_laws.proofs.reading.Numbers.{size_small, slots_few}
 use Rattle.convert_core_laws.proofs.reading.Rooted.{root_reads}
 use Rattle.convert_core_laws.proofs.reading.Stood.{root_at, root_low}
 use Rattle.convert_core_laws.proofs.reading.Superblock.{size}
-use Rattle.convert_core_laws.proofs.soundness.Nodes.{AreAt, chunk_at, device_at, extents_at, files_at, packed_at, relocation_at, root_at as root_tree_at, saved_at, sums_at}
+use Rattle.convert_core_laws.proofs.soundness.Nodes.{AreAt, chunk_at, extents_at, packed_at, root_at as root_tree_at, tree_at}
 use Rattle.convert_core_laws.proofs.soundness.Recounting.{generation_is, volume_for}
-use Rattle.convert_core_laws.proofs.soundness.Trees.{six_all, trees}
+use Rattle.convert_core_laws.proofs.soundness.Trees.{trees}
 use Rattle.convert_core_laws.proofs.soundness.Unreserved.{place_whole}
+use Rattle.convert_core_laws.proofs.reading.Named.{every_named, tree_stands}
+use Rattle.convert_core_laws.proofs.soundness.Among.{extents_in, tree_in, trees_all}
+use Rattle.convert_core_laws.proofs.soundness.Listed.{settled}
 
 -- the nodes of all levels are of one generation
 level_of : (generation level skip : ℕ) (list sizes : List ℕ) → All (λ p. p.generation ≡ generation) (level_pointers generation level skip list sizes)
@@ -25,8 +29,8 @@ dirid number is = ap (λ (b : Bool). if b then 256 else 0) is
 abbrev Differ : Item → Item → Type 0
 Differ i j = i.0.objectid ≢ j.0.objectid
 
-module _ (o : Options) (ids : Ids) (now : ℕ) (image other : Image) (m : Making) (r : VolumeTrees) (nodes : List TreeNode) (v : IsNewVolume o ids now image other m r nodes) where
-  abbrev stand : HasTrees image other other m r nodes
+module _ (o : Options) (ids : Ids) (now : ℕ) (image other : Image) (m : Making) (r : TreeRoots) (nodes : List TreeNode) (v : IsNewVolume o ids now image other m r nodes) where
+  abbrev stand : TreesStand image other other m r nodes
   stand = v.new.stands.trees
 
   abbrev s : Super
@@ -68,43 +72,23 @@ module _ (o : Options) (ids : Ids) (now : ℕ) (image other : Image) (m : Making
         files = λ holds. (refl, dirid number holds);
       }
 
-  abbrev extents : Item
-  extents = item EXTENT_TREE r.extents
+  -- those of all trees, by their numbers
+  abbrev items : List Item
+  items = map (λ (x : NamedTree). item x.number x.root) (named_trees image other m r nodes)
 
-  abbrev device : Item
-  device = item DEV_TREE r.device
-
-  abbrev files : Item
-  files = item FS_TREE r.files
-
-  abbrev sums : Item
-  sums = item CSUM_TREE r.sums
-
-  abbrev saved : Item
-  saved = item CONV_IMAGE_SUBVOL r.image
-
-  abbrev relocation : Item
-  relocation = item DATA_RELOC_TREE r.relocation
-
-  all_roots : All (IsRootItem (super_for m r nodes)) (extents ∷ (device ∷ (files ∷ (sums ∷ (saved ∷ (relocation ∷ []))))))
+  all_roots : All (IsRootItem (super_for m r nodes)) items
   all_roots =
-      six_all (IsRootItem (super_for m r nodes)) extents device files sums saved relocation
+      All-map (IsRootItem (super_for m r nodes)) (λ (x : NamedTree). item x.number x.root) (named_trees image other m r nodes)
+      (every_named image other m r nodes (λ (x : NamedTree). IsRootItem (super_for m r nodes) (item x.number x.root))
       (is_root EXTENT_TREE (extents_from r) r.extents (extent_items m.chunks m.pieces nodes m.options.nodesize) stand.extents (λ e. omega (arith, e)))
-      (is_root DEV_TREE (device_from r) r.device (device_items (new_ids m) m.chunks) stand.device (λ e. omega (arith, e)))
-      (is_root FS_TREE 0 r.files (file_tree_items image m) stand.files (λ e. omega (arith, e)))
-      (is_root CSUM_TREE (sums_from r) r.sums (sum_tree_items other m) stand.sums (λ e. omega (arith, e)))
-      (is_root CONV_IMAGE_SUBVOL (image_from r) r.image (image_tree_items m) stand.image_ (λ e. omega (arith, e)))
-      (is_root DATA_RELOC_TREE (relocation_from r) r.relocation (relocation_items m.now) stand.relocation (λ e. omega (arith, e)))
+      (λ t.
+      let at = tree_stands image other m r nodes other stand t in
+      is_root (tree_number t) at.first (r.tree t) (items_of image other m t) at.stands (settled t)))
 
-  all_differ : AllPairs Differ (extents ∷ (device ∷ (files ∷ (sums ∷ (saved ∷ (relocation ∷ []))))))
+  all_differ : AllPairs Differ items
   all_differ =
-      apart extents (device ∷ (files ∷ (sums ∷ (saved ∷ (relocation ∷ []))))) ((λ e. omega (arith, e)), ((λ e. omega (arith, e)), ((λ e. omega (arith, e)), ((λ e. omega (arith, e)), ((λ e. omega (arith, e)), tt)))))
-      (apart device (files ∷ (sums ∷ (saved ∷ (relocation ∷ [])))) ((λ e. omega (arith, e)), ((λ e. omega (arith, e)), ((λ e. omega (arith, e)), ((λ e. omega (arith, e)), tt))))
-      (apart files (sums ∷ (saved ∷ (relocation ∷ []))) ((λ e. omega (arith, e)), ((λ e. omega (arith, e)), ((λ e. omega (arith, e)), tt)))
-      (apart sums (saved ∷ (relocation ∷ [])) ((λ e. omega (arith, e)), ((λ e. omega (arith, e)), tt)) (apart saved (relocation ∷ []) ((λ e. omega (arith, e)), tt) (apart relocation [] tt (λ i j d l h. absurd (omega (arith, h))))))))
-    where
-      apart : (i : Item) (is : List Item) → AllByRecursion (Differ i) is → AllPairs Differ is → AllPairs Differ (i ∷ is)
-      apart i is each rest = AllPairs-cons Differ i is (All-from_recursion (Differ i) is each) rest
+      let up : AllPairs (λ i j. i.0.objectid < j.0.objectid) items = pairs_of (λ (i : Item). i.0.objectid) items numbers_ascend in
+      λ i j d l h e. let less : (get_or items i d).0.objectid < (get_or items j d).0.objectid = up i j d l h in omega (arith, less, e)
 
   -- ---- nodes
 
@@ -121,16 +105,10 @@ module _ (o : Options) (ids : Ids) (now : ℕ) (image other : Image) (m : Making
 
   none_newer : All IsNotNewer (all_trees k)
   none_newer =
-      All-cons IsNotNewer k.chunk_tree (k.root_tree ∷ k.others) (not_newer k.chunk_tree (chunk_slots m) (chunk_at o ids now image other m r nodes v))
-      (All-cons IsNotNewer k.root_tree k.others (not_newer k.root_tree (take r.root.nodes (drop (root_from r) (slots m))) (root_tree_at o ids now image other m r nodes v))
-      (six_all IsNotNewer (tree_for other s EXTENT_TREE r.extents (extent_items m.chunks m.pieces nodes m.options.nodesize)) (tree_for other s DEV_TREE r.device (device_items (new_ids m) m.chunks))
-      (tree_for other s FS_TREE r.files (file_tree_items image m)) (tree_for other s CSUM_TREE r.sums (sum_tree_items other m)) (tree_for other s CONV_IMAGE_SUBVOL r.image (image_tree_items m)) (tree_for other s DATA_RELOC_TREE r.relocation (relocation_items m.now))
-      (not_newer (tree_for other s EXTENT_TREE r.extents (extent_items m.chunks m.pieces nodes m.options.nodesize)) (drop (extents_from r) (slots m)) (extents_at o ids now image other m r nodes v))
-      (not_newer (tree_for other s DEV_TREE r.device (device_items (new_ids m) m.chunks)) (drop (device_from r) (slots m)) (device_at o ids now image other m r nodes v))
-      (not_newer (tree_for other s FS_TREE r.files (file_tree_items image m)) (slots m) (files_at o ids now image other m r nodes v))
-      (not_newer (tree_for other s CSUM_TREE r.sums (sum_tree_items other m)) (drop (sums_from r) (slots m)) (sums_at o ids now image other m r nodes v))
-      (not_newer (tree_for other s CONV_IMAGE_SUBVOL r.image (image_tree_items m)) (drop (image_from r) (slots m)) (saved_at o ids now image other m r nodes v))
-      (not_newer (tree_for other s DATA_RELOC_TREE r.relocation (relocation_items m.now)) (drop (relocation_from r) (slots m)) (relocation_at o ids now image other m r nodes v))))
+      trees_all image other m r nodes IsNotNewer (not_newer k.chunk_tree (chunk_slots m) (chunk_at o ids now image other m r nodes v))
+      (not_newer k.root_tree (take r.root.nodes (drop (root_from r) (slots m))) (root_tree_at o ids now image other m r nodes v))
+      (not_newer (extents_in image other m r nodes) (drop (extents_from r) (slots m)) (extents_at o ids now image other m r nodes v))
+      (λ t. not_newer (tree_in image other m r nodes t) (drop (tree_stands image other m r nodes other stand t).first (slots m)) (tree_at o ids now image other m r nodes v t))
 
   pub tree_rules : KeepTreeRules k
   tree_rules = record {

@@ -1,60 +1,14 @@
 -- Each tree of a converted volume is there, and its bootstrap array holds the system chunks.
-use Rattle.convert_core_laws.proofs.Imports.{◌≡◌, ◌≤◌, ◌<◌, ℕ, zero, suc, ◌+◌, ◌^◌, ◌-◌, ◌&&◌, ◌||◌, eqb, Bool, true, false, not, List, [], ◌∷◌, ◌++◌, length, get_or, map, refl, sym, ap, subst, ◌∙◌, ⊎_elim, arith, All, AllPairs, Contains, list_any, map-append, All-from_recursion, Contains-append_cases, ROOT_ITEM, CHUNK_TREE, CONV_IMAGE_SUBVOL, CSUM_TREE, DATA_RELOC_TREE, DEV_TREE, EXTENT_TREE, FS_TREE, ROOT_TREE, from_filter, from_map, in_filter, in_map, Image, Ids, has_root, is_root_of, Item, system_kind, IsBtrfsOpened, boot_chunks, boot_list, chunk_map, chunk_tree, form_of, root_tree, ChunkAt, IsRooted, IsTreeOn, Recount, TreeOn, chunks_on, root_items_on, AreTrees, KeepTreeRules, Super, GivesItself, Root, TreeItem, nodes_in, walk_events, IsTree, bare_item, MapRange, Form, NodePointer, IsMaking, Making, chunk_slots, new_ids, HasTrees, file_tree_items, form, image_tree_items, sum_tree_items, relocation_items, extent_items, VolumeTrees, is_system_role, new_super, MapsChunks, IsNewVolume, ReadsTree, ReadsTrees, boot_part, chunk_at, map_for, other_part, super_for, two_cases, all_from_contains, chunk_items, chunk_kind, device_items, TreeNode, pointer_to_root, IsChunk, role_of, usable_end, PlannedChunk, Role, System, Metadata, Data, Options, all_at, recount_for, tree_for, trees_for}
+use Rattle.convert_core_laws.proofs.Imports.{◌≡◌, ◌≤◌, ◌<◌, ℕ, ◌+◌, ◌-◌, eqb, Bool, true, false, not, List, ◌++◌, map, refl, sym, ap, subst, ◌∙◌, ⊎_elim, arith, All, AllPairs, Contains, list_any, map-append, Contains-append_cases, All-map, CHUNK_TREE, ROOT_TREE, from_filter, from_map, in_filter, in_map, Image, Ids, has_root, Item, system_kind, IsBtrfsOpened, boot_chunks, boot_list, chunk_map, chunk_tree, form_of, root_tree, ChunkAt, IsRooted, IsTreeOn, Recount, TreeOn, chunks_on, root_items_on, AreTrees, KeepTreeRules, Super, GivesItself, Root, nodes_in, walk_events, IsTree, MapRange, Form, NodePointer, IsMaking, Making, chunk_slots, new_ids, saved_index, TreesStand, form, TreeRoots, named_trees, is_system_role, new_super, MapsChunks, IsNewVolume, ReadsTree, ReadsTrees, boot_part, chunk_at, map_for, other_part, super_for, two_cases, all_from_contains, chunk_items, chunk_kind, TreeNode, pointer_to_root, IsChunk, role_of, usable_end, PlannedChunk, Role, System, Metadata, Data, Options, all_at, recount_for, tree_for, trees_for, named_on, numbers_ascend, pairs_of}
 use Rattle.convert_core_laws.proofs.reading.Opening.{maps_chunks, opened}
 use Rattle.convert_core_laws.proofs.reading.Reading.{all_read}
 use Rattle.convert_core_laws.proofs.reading.Stood.{IsRead, read_by}
 use Rattle.convert_core_laws.proofs.soundness.ChunkList.{Known, chunks_added}
 use Rattle.convert_core_laws.proofs.soundness.Recounting.{form_is}
 use Rattle.convert_core_laws.proofs.soundness.Stripes.{small}
+use Rattle.convert_core_laws.proofs.reading.Rooted.{numbers_named}
 
--- ---- numbers of trees
-
-two : (a b : TreeOn) (list : List TreeOn) → a.number < b.number → AllPairs (λ t u. t.number < u.number) (b ∷ list) → AllPairs (λ t u. t.number < u.number) (a ∷ (b ∷ list))
-two a b list less rest = λ i j d before inside. by i j d before inside
-  where
-    by : (i j : ℕ) (d : TreeOn) → i < j → j < length (a ∷ (b ∷ list)) → (get_or (a ∷ (b ∷ list)) i d).number < (get_or (a ∷ (b ∷ list)) j d).number
-    by zero zero d l h = absurd (omega (arith, l))
-    by zero (suc zero) d l h = less
-    by zero (suc (suc j)) d l h = let more : b.number < (get_or list j d).number = rest 0 (suc j) d (omega arith) (omega (arith, h)) in omega (arith, less, more)
-    by (suc i) zero d l h = absurd (omega (arith, l))
-    by (suc i) (suc j) d l h = rest i j d (omega (arith, l)) (omega (arith, h))
-
-one : (a : TreeOn) → AllPairs (λ t u. t.number < u.number) (a ∷ [])
-one a = λ i j d l h. absurd (omega (arith, l, h))
-
--- of six trees
-six_once : (a b c d e f : TreeOn) → a.number < b.number → b.number < c.number → c.number < d.number → d.number < e.number → e.number < f.number → AllPairs (λ t u. t.number < u.number) (a ∷ (b ∷ (c ∷ (d ∷ (e ∷ (f ∷ []))))))
-six_once a b c d e f p q x y z =
-    let last : List TreeOn = f ∷ [] in
-    two a b (c ∷ (d ∷ (e ∷ last))) p (two b c (d ∷ (e ∷ last)) q (two c d (e ∷ last) x (two d e last y (two e f [] z (one f)))))
-
-pub six_all : {X : Type 0} (P : X → Type 0) (a b c d e f : X) → P a → P b → P c → P d → P e → P f → All P (a ∷ (b ∷ (c ∷ (d ∷ (e ∷ (f ∷ []))))))
-six_all P a b c d e f p q x y z w = All-from_recursion P (a ∷ (b ∷ (c ∷ (d ∷ (e ∷ (f ∷ [])))))) (p, (q, (x, (y, (z, (w, tt))))))
-
--- which trees have a root item is told by the items without their leaves
-abbrev is_root : ℕ → Item → Bool
-is_root number i = eqb i.0.objectid number && eqb i.0.kind ROOT_ITEM
-
-bare_roots : (number : ℕ) (items : List TreeItem) → has_root items number ≡ list_any (is_root number) (map bare_item items)
-bare_roots number [] = refl
-bare_roots number (i ∷ items) = ap (λ (b : Bool). is_root_of number i || b) (bare_roots number items)
-
--- those that are written have one
-numbers_are : (a b c d e f g : Bool) → (a || (b || (c || (d || (e || (f || false))))))
-    ≡ ((a && true) || ((b && true) || ((c && true) || ((c && false) || ((g && false) || ((g && false) || ((g && false) || ((d && true) || ((e && true) || ((e && false) || ((f && true) || false)))))))))))
-numbers_are true b c d e f g = refl
-numbers_are false true c d e f g = refl
-numbers_are false false true d e f g = refl
-numbers_are false false false true e f true = refl
-numbers_are false false false true e f false = refl
-numbers_are false false false false true f true = refl
-numbers_are false false false false true f false = refl
-numbers_are false false false false false true true = refl
-numbers_are false false false false false true false = refl
-numbers_are false false false false false false true = refl
-numbers_are false false false false false false false = refl
-
-module _ (m : Making) (r : VolumeTrees) (nodes : List TreeNode) where
+module _ (m : Making) (r : TreeRoots) (nodes : List TreeNode) where
   chunk_root_is : (chunk_tree (super_for m r nodes)).root ≡ pointer_to_root r.chunk
   unfolding new_super
   chunk_root_is = refl
@@ -63,11 +17,11 @@ module _ (m : Making) (r : VolumeTrees) (nodes : List TreeNode) where
   unfolding new_super
   root_root_is = refl
 
-module _ (o : Options) (ids : Ids) (now : ℕ) (image other : Image) (m : Making) (r : VolumeTrees) (nodes : List TreeNode) (v : IsNewVolume o ids now image other m r nodes) where
+module _ (o : Options) (ids : Ids) (now : ℕ) (image other : Image) (m : Making) (r : TreeRoots) (nodes : List TreeNode) (v : IsNewVolume o ids now image other m r nodes) where
   abbrev making : IsMaking image m
   making = v.new.conversion.making
 
-  abbrev stand : HasTrees image other other m r nodes
+  abbrev stand : TreesStand image other other m r nodes
   stand = v.new.stands.trees
 
   abbrev s : Super
@@ -122,22 +76,13 @@ module _ (o : Options) (ids : Ids) (now : ℕ) (image other : Image) (m : Making
 
   all_rooted : All (IsRooted other (super_for m r nodes)) others
   all_rooted =
-      six_all (IsRooted other s) (tree_for other s EXTENT_TREE r.extents (extent_items m.chunks m.pieces nodes m.options.nodesize)) (tree_for other s DEV_TREE r.device (device_items (new_ids m) m.chunks))
-      (tree_for other s FS_TREE r.files (file_tree_items image m)) (tree_for other s CSUM_TREE r.sums (sum_tree_items other m)) (tree_for other s CONV_IMAGE_SUBVOL r.image (image_tree_items m)) (tree_for other s DATA_RELOC_TREE r.relocation (relocation_items m.now))
-      (rooted_at EXTENT_TREE r.extents (extent_items m.chunks m.pieces nodes m.options.nodesize) reads.extents) (rooted_at DEV_TREE r.device (device_items (new_ids m) m.chunks) reads.device)
-      (rooted_at FS_TREE r.files (file_tree_items image m) reads.files) (rooted_at CSUM_TREE r.sums (sum_tree_items other m) reads.sums) (rooted_at CONV_IMAGE_SUBVOL r.image (image_tree_items m) reads.saved)
-      (rooted_at DATA_RELOC_TREE r.relocation (relocation_items m.now) reads.relocation)
+      All-map (IsRooted other s) (named_on other s) (named_trees image other m r nodes) (λ i d h. rooted_at _ _ _ (reads.each i d h))
 
   pub all_once : AllPairs (λ t u. t.number < u.number) others
-  all_once =
-      six_once (tree_for other s EXTENT_TREE r.extents (extent_items m.chunks m.pieces nodes m.options.nodesize)) (tree_for other s DEV_TREE r.device (device_items (new_ids m) m.chunks))
-      (tree_for other s FS_TREE r.files (file_tree_items image m)) (tree_for other s CSUM_TREE r.sums (sum_tree_items other m)) (tree_for other s CONV_IMAGE_SUBVOL r.image (image_tree_items m)) (tree_for other s DATA_RELOC_TREE r.relocation (relocation_items m.now))
-      (omega arith) (omega arith) (omega arith) (omega arith) (omega arith)
+  all_once = pairs_of (λ (t : TreeOn). t.number) others numbers_ascend
 
   all_named : (number : ℕ) → list_any (λ (t : TreeOn). eqb t.number number) others ≡ has_root (root_items_on other (super_for m r nodes)) number
-  all_named number =
-      numbers_are (eqb 2 number) (eqb 4 number) (eqb 5 number) (eqb 7 number) (eqb 256 number) (eqb DATA_RELOC_TREE number) (eqb 6 number)
-      ∙ sym (bare_roots number (root_items_on other s) ∙ ap (list_any (is_root number)) reads.roots_are)
+  all_named number = numbers_named r (saved_index m) (new_ids m) m.now m.options.nodesize (root_items_on other s) reads.roots_are number
 
   -- ---- the chunks
 

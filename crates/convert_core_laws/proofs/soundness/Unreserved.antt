@@ -1,5 +1,5 @@
 -- No extent of a converted volume touches a reserved block.
-use Rattle.convert_core_laws.proofs.Imports.{◌≡◌, ◌≤◌, ◌<◌, ℕ, ◌+◌, ◌*◌, ◌/◌, ◌%◌, ◌^◌, Bool, List, ◌++◌, length, map, Some, refl, sym, ap, subst, ◌∙◌, ⊎_elim, arith, Contains, map-map, IsReserved, Image, Ids, IsNodeSize, range_of, AreUnreserved, IsExtent, a_node, some_data, Recount, Span, IsInNode, IsInSlots, place, MapRange, NodePointer, IsMaking, Making, chunk_slots, new_ids, slots, VolumeTrees, metadata_free, system_free, piece_apart, slot_unit, NewIdsFit, IsNewVolume, boot_part, chunk_at, other_part, any_from, used_of, TreeNode, blocks_are, node_places, places_in, Options, Piece, from_flat_map, from_map, ConvertedReservedAreSound, recount_for}
+use Rattle.convert_core_laws.proofs.Imports.{◌≡◌, ◌≤◌, ◌<◌, ℕ, ◌+◌, ◌*◌, ◌/◌, ◌%◌, ◌^◌, Bool, List, ◌++◌, length, map, Some, refl, sym, ap, subst, ◌∙◌, ⊎_elim, arith, Contains, map-map, IsReserved, Image, Ids, IsNodeSize, range_of, AreUnreserved, IsExtent, a_node, some_data, Recount, Span, IsInNode, IsInSlots, place, MapRange, NodePointer, IsMaking, Making, chunk_slots, new_ids, slots, TreeRoots, metadata_free, system_free, piece_apart, slot_unit, NewIdsFit, IsNewVolume, boot_part, chunk_at, other_part, any_from, used_of, TreeNode, blocks_are, node_places, places_in, Options, Piece, from_flat_map, from_map, ConvertedReservedAreSound, recount_for}
 use Rattle.convert_core_laws.proofs.reading.Mapped.{in_parts, itself}
 use Rattle.convert_core_laws.proofs.reading.Places.{HasBlock, chunk_slot_block, piece_block, slot_block}
 use Rattle.convert_core_laws.proofs.reading.Superblock.{size}
@@ -60,7 +60,7 @@ module _ (n : ℕ) (fit : IsNodeSize n) where
   pub slot_holds : (units : List ℕ) (a b : ℕ) → Contains (node_places n units) a → a ≤ b → b < a + n → IsInSlots n (node_places n units) (b / 4096)
   slot_holds units a b h low high = any_from (λ (x : ℕ). IsInNode n x (b / 4096)) (node_places n units) a h (node_block a b (place_aligned units a h) low high)
 
-module _ (o : Options) (ids : Ids) (now : ℕ) (image other : Image) (m : Making) (r : VolumeTrees) (nodes : List TreeNode) (v : IsNewVolume o ids now image other m r nodes) where
+module _ (o : Options) (ids : Ids) (now : ℕ) (image other : Image) (m : Making) (r : TreeRoots) (nodes : List TreeNode) (v : IsNewVolume o ids now image other m r nodes) where
   abbrev making : IsMaking image m
   making = v.new.conversion.making
 

@@ -1,10 +1,11 @@
 -- Each piece of data is used by a tree.
-use Rattle.convert_core_laws.proofs.Imports.{◌≡◌, ◌<◌, ℕ, ◌*◌, ◌^◌, eqb, Bool, true, false, List, [], ◌∷◌, filter, Option, Some, None, refl, sym, ap, subst, ◌∙◌, arith, Contains, if◌then◌else◌, is_some, AllByRecursion, option_map_or, eq-eqb, Contains-append_right, CONV_IMAGE_SUBVOL, FS_TREE, from_filter, in_filter, in_flat_map, in_map, keys, Image, file_extent_bytes, file_extent_of, Item, IsNodeSize, DataUse, IsData, Recount, TreeOn, all_trees, data_uses, use_in, uses_in, IsMaking, Making, HasExtents, HasPieces, made_from, file_tree_items, image_tree_items, VolumeTrees, super_for, numbered, extents_at, file_block, is_owned_by, pieces_of, pieces_of_volume, piece_bytes, source_block, image_head, image_items, Source, file_extent_items, inline_in, ino_of, size_in, fs_tree_items, FilesAreHeld, can_move, has_bytes, extent_item, inline_extent, regular_extent, target_bytes, items_of, ascending_filter, contains_head, contains_tail, ObjectKey, TreeNode, Piece, recount_for, tree_for}
+use Rattle.convert_core_laws.proofs.Imports.{◌≡◌, ◌<◌, ℕ, ◌*◌, ◌^◌, eqb, Bool, true, false, List, [], ◌∷◌, filter, Option, Some, None, refl, sym, ap, subst, ◌∙◌, arith, Contains, if◌then◌else◌, is_some, AllByRecursion, option_map_or, eq-eqb, Contains-append_right, CONV_IMAGE_SUBVOL, FS_TREE, from_filter, in_filter, in_flat_map, in_map, keys, Image, file_extent_bytes, file_extent_of, Item, IsNodeSize, DataUse, IsData, Recount, TreeOn, all_trees, data_uses, use_in, uses_in, IsMaking, Making, HasExtents, HasPieces, made_from, file_tree_items, image_tree_items, TreeRoots, super_for, numbered, extents_at, file_block, is_owned_by, pieces_of, pieces_of_volume, piece_bytes, source_block, image_head, image_items, Source, file_extent_items, inline_in, ino_of, size_in, fs_tree_items, FilesAreHeld, can_move, has_bytes, extent_item, inline_extent, regular_extent, target_bytes, items_of, ascending_filter, contains_head, contains_tail, ObjectKey, TreeNode, Piece, recount_for, tree_for, Files, SavedImage}
 use Rattle.convert_core_laws.proofs.Owned.{extents_found}
 use Rattle.convert_core_laws.proofs.Pieces.{one_of_inode}
 use Rattle.convert_core_laws.proofs.ByteReading.{is_extent}
 use Rattle.convert_core_laws.proofs.soundness.AllUses.{from_is, source_low, span_of}
 use Rattle.convert_core_laws.proofs.soundness.Uses.{owner_low, piece_use, use_at, uses_of}
+use Rattle.convert_core_laws.proofs.soundness.Among.{tree_there}
 
 all_self : {X : Type 0} (P : X → Type 0) (xs : List X) → ((x : X) → Contains xs x → P x) → AllByRecursion P xs
 all_self P [] each = tt
@@ -35,21 +36,21 @@ module _ (image : Image) (m : Making) (made : IsMaking image m) (size : IsNodeSi
   pub owned : (q : Piece) → Contains m.pieces q → q.from ≡ None → (i : ℕ) × (b : ℕ) × (q.owner ≡ Some (i, b))
   owned q h none = let w = (can_move m.volume image m.options m.plan m.pieces of).owners q h none in (_, w.1, w.3)
 
-  module _ (other : Image) (r : VolumeTrees) (nodes : List TreeNode) where
+  module _ (other : Image) (r : TreeRoots) (nodes : List TreeNode) where
     abbrev k : Recount
     k = recount_for image other m r nodes
 
     abbrev files : TreeOn
-    files = tree_for other (super_for m r nodes) FS_TREE r.files (file_tree_items image m)
+    files = tree_for other (super_for m r nodes) FS_TREE (r.tree Files) (file_tree_items image m)
 
     abbrev saved : TreeOn
-    saved = tree_for other (super_for m r nodes) CONV_IMAGE_SUBVOL r.image (image_tree_items m)
+    saved = tree_for other (super_for m r nodes) CONV_IMAGE_SUBVOL (r.tree SavedImage) (image_tree_items m)
 
     files_there : Contains (all_trees k) files
-    files_there = (4, omega arith, refl)
+    files_there = tree_there image other m r nodes Files
 
     saved_there : Contains (all_trees k) saved
-    saved_there = (6, omega arith, refl)
+    saved_there = tree_there image other m r nodes SavedImage
 
     one_use : (tree inode block : ℕ) (p : Piece) → Contains m.pieces p → 4096 * block < 2 ^ 64
         → Contains (use_in tree (extent_item inode block (regular_extent p.place p.count)) (file_extent_of (file_extent_bytes (regular_extent p.place p.count)))) (use_at tree inode block p)

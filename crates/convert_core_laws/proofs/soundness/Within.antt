@@ -1,5 +1,5 @@
 -- Each extent of a converted volume lies in one chunk of its kind.
-use Rattle.convert_core_laws.proofs.Imports.{◌≡◌, ◌≢◌, ◌≤◌, ◌<◌, ℕ, zero, suc, ◌+◌, ◌-◌, ◌*◌, ◌/◌, ◌%◌, inl, inr, Bool, true, false, not, List, [], ◌∷◌, ◌++◌, length, map, take, drop, Some, refl, sym, ap, subst, ◌∙◌, ⊎_elim, arith, Contains, range_with_len, and_from, and_parts, both_ways, cases_Bool, cases_lt, not_from_false, or_left, or_right, Contains-append_cases, list_any-from_Any, Contains-permutation, IsPermutation-sym, take-append_seam, IsReserved, is_reserved, decides_reserved, Image, Ids, IsNodeSize, ChunkAt, ArePlacesApart, IsExtent, LiesIn, Recount, Span, IsMaking, Making, new_ids, HasPieces, VolumeTrees, can_move, piece_not_metadata, piece_not_system, sound, stays_or_moves, well, piece_apart, slot_unit, NewIdsFit, IsNewVolume, chunk_at, owner, tails, files_of, IsKeptPiece, LiesInUnit, Owners, copied_pieces, kept_pieces, tail_piece, at_places, blocks_of_units, all_at, any_from, kept_are_maximal, has, IsFreeUnit, contains_cases, contains_head, contains_range, contains_tail, range_contains, from_flat_map, used_of, chunk_kind, TreeNode, chunks_of, holds_data, is_among, is_data, AreChunks, HoldsUnit, IsChunk, is_data_unit, role_of, usable_end, use_of, IsSoundPlan, need, node_places, PlannedChunk, Role, System, Metadata, Data, Options, Piece, among_contains, contains_among, role_is, ConvertedPlacementIsSound, recount_for}
+use Rattle.convert_core_laws.proofs.Imports.{◌≡◌, ◌≢◌, ◌≤◌, ◌<◌, ℕ, zero, suc, ◌+◌, ◌-◌, ◌*◌, ◌/◌, ◌%◌, inl, inr, Bool, true, false, not, List, [], ◌∷◌, ◌++◌, length, map, take, drop, Some, refl, sym, ap, subst, ◌∙◌, ⊎_elim, arith, Contains, range_with_len, and_from, and_parts, both_ways, cases_Bool, cases_lt, not_from_false, or_left, or_right, Contains-append_cases, list_any-from_Any, Contains-permutation, IsPermutation-sym, take-append_seam, IsReserved, is_reserved, decides_reserved, Image, Ids, IsNodeSize, ChunkAt, ArePlacesApart, IsExtent, LiesIn, Recount, Span, IsMaking, Making, new_ids, HasPieces, TreeRoots, can_move, piece_not_metadata, piece_not_system, sound, stays_or_moves, well, piece_apart, slot_unit, NewIdsFit, IsNewVolume, chunk_at, owner, tails, files_of, IsKeptPiece, LiesInUnit, Owners, copied_pieces, kept_pieces, tail_piece, at_places, blocks_of_units, all_at, any_from, kept_are_maximal, has, IsFreeUnit, contains_cases, contains_head, contains_range, contains_tail, range_contains, from_flat_map, used_of, chunk_kind, TreeNode, chunks_of, holds_data, is_among, is_data, AreChunks, HoldsUnit, IsChunk, is_data_unit, role_of, usable_end, use_of, IsSoundPlan, need, node_places, PlannedChunk, Role, System, Metadata, Data, Options, Piece, among_contains, contains_among, role_is, ConvertedPlacementIsSound, recount_for}
 use Rattle.convert_core_laws.proofs.soundness.AllUses.{span_of}
 use Rattle.convert_core_laws.proofs.soundness.Apart.{IsAt, a_piece, apart, in_chunk_slots, in_slots, is_at, once, size_some}
 use Rattle.convert_core_laws.proofs.soundness.Recounting.{volume_for}
@@ -32,7 +32,7 @@ moved_place (p ∷ old) (b ∷ bs) q h =
     ⊎_elim (λ same. subst (λ (x : ℕ). Contains (b ∷ bs) x) (ap (λ (x : Piece). x.place) same) (contains_head b bs))
     (λ later. contains_tail q.place b bs (moved_place old bs q later)) (contains_cases q _ (at_places old bs) h)
 
-module _ (o : Options) (ids : Ids) (now : ℕ) (image other : Image) (m : Making) (r : VolumeTrees) (nodes : List TreeNode) (v : IsNewVolume o ids now image other m r nodes) where
+module _ (o : Options) (ids : Ids) (now : ℕ) (image other : Image) (m : Making) (r : TreeRoots) (nodes : List TreeNode) (v : IsNewVolume o ids now image other m r nodes) where
   abbrev making : IsMaking image m
   making = v.new.conversion.making
 

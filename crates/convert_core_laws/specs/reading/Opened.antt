@@ -1,6 +1,5 @@
 -- What a converted volume is to whoever opens it.
-use Rattle.std.specs.Prelude.{◌≡◌, ◌≤◌, ◌<◌, ℕ, ◌+◌, ◌-◌, ◌*◌, ◌^◌, true, not, List, [], ◌++◌, map, filter, Contains, Some, None}
-use Rattle.btrfs_format.specs.declared.object.TheConstants.{CONV_IMAGE_SUBVOL, CSUM_TREE, DATA_RELOC_TREE, DEV_TREE, EXTENT_TREE, FS_TREE}
+use Rattle.std.specs.Prelude.{◌≡◌, All, ◌≤◌, ◌<◌, ℕ, ◌+◌, ◌-◌, ◌*◌, ◌^◌, true, not, List, [], ◌++◌, map, filter, Contains, Some, None}
 use Rattle.reiser_volume.specs.outside.History.{Image}
 use Rattle.reiser_volume.specs.vol_block.declared.ids.Ids.{Ids}
 use Rattle.btr_reader.specs.btr_node.Leaf.{Item}
@@ -19,13 +18,10 @@ use Rattle.btr_reader.specs.Roots.{pointer_of, root_item}
 use Rattle.btr_reader.specs.Rows.{roots_on}
 use Rattle.btr_reader.specs.declared.chunk.ChunkAt.{ChunkAt}
 use Rattle.convert_core.specs.convert_steps.Making.{Making, label_by, label_field, new_ids, chunk_slots, slots}
-use Rattle.convert_core.specs.convert_steps.Standing.{file_tree_items, image_tree_items, root_tree_items, sum_tree_items, used_bytes}
-use Rattle.convert_core.specs.convert_steps.declared.trees.VolumeTrees.{VolumeTrees}
+use Rattle.convert_core.specs.convert_steps.Standing.{TreeRoots, named_trees, root_tree_items, roots_told}
 use Rattle.convert_core.specs.Converted.{IsNew}
 use Rattle.convert_core.specs.convert_steps.Superblock.{is_system_role, new_super}
-use Rattle.convert_core.specs.file_items.Small.{relocation_items}
-use Rattle.convert_core.specs.space_items.Chunks.{chunk_body, device_items}
-use Rattle.convert_core.specs.space_items.Extents.{extent_items}
+use Rattle.convert_core.specs.space_items.Chunks.{chunk_body}
 use Rattle.convert_core.specs.space_items.Laws.{AreIds}
 use Rattle.convert_core.specs.space_items.declared.node.TreeNode.{TreeNode}
 use Rattle.convert_core.specs.btr_tree_writer.Trees.{pointer_to_root}
@@ -34,16 +30,15 @@ use Rattle.convert_core.specs.convert_options.declared.options.Options.{Options}
 use Rattle.convert_core.specs.unit_plan.declared.piece.Piece.{Piece}
 
 -- A converted volume whose nodes have one of the sizes of nodes, and whose identifiers have 16 bytes each.
-pub record IsNewVolume (o : Options) (ids : Ids) (now : ℕ) (image other : Image) (m : Making) (r : VolumeTrees) (nodes : List TreeNode) : Type 0 where
+pub record IsNewVolume (o : Options) (ids : Ids) (now : ℕ) (image other : Image) (m : Making) (r : TreeRoots) (nodes : List TreeNode) : Type 0 where
   pub new : IsNew o ids now image other m r nodes
   pub size : IsNodeSize o.nodesize
   pub ids_ : AreIds (new_ids m)
 
 -- the fields of its superblock
-abbrev pub super_for : Making → VolumeTrees → List TreeNode → Super
+abbrev pub super_for : Making → TreeRoots → List TreeNode → Super
 super_for m r nodes =
-    new_super (new_ids m) m.volume.sup.blocks m.options.nodesize m.options.sums (label_field (label_by m.volume.sup m.options.label)) m.chunks
-    (record { chunk = r.chunk; root = r.root; used = used_bytes m nodes })
+    new_super (new_ids m) m.volume.sup.blocks m.options.nodesize m.options.sums (label_field (label_by m.volume.sup m.options.label)) m.chunks (roots_told m r nodes)
 
 -- a chunk, as it is read
 abbrev pub chunk_at : Ids → PlannedChunk → ChunkAt
@@ -84,13 +79,8 @@ pub record ReadsTree (image : Image) (s : Super) (ranges : List MapRange) (numbe
   pub items_are : map bare_item (found image ranges (tree_of s number (pointer_to_root root))) ≡ items
 
 -- so does each tree of a volume that has a root item, and the root tree
-pub record ReadsTrees (image other : Image) (s : Super) (ranges : List MapRange) (m : Making) (r : VolumeTrees) (nodes : List TreeNode) : Type 0 where
+pub record ReadsTrees (image other : Image) (s : Super) (ranges : List MapRange) (m : Making) (r : TreeRoots) (nodes : List TreeNode) : Type 0 where
   pub roots_sound : wrong other ranges (root_tree s) ≡ []
   pub roots_are : map bare_item (roots_on other s ranges) ≡ root_tree_items m r
-  pub extents : ReadsTree other s ranges EXTENT_TREE r.extents (extent_items m.chunks m.pieces nodes m.options.nodesize)
-  pub device : ReadsTree other s ranges DEV_TREE r.device (device_items (new_ids m) m.chunks)
-  pub files : ReadsTree other s ranges FS_TREE r.files (file_tree_items image m)
-  pub sums : ReadsTree other s ranges CSUM_TREE r.sums (sum_tree_items other m)
-  pub saved : ReadsTree other s ranges CONV_IMAGE_SUBVOL r.image (image_tree_items m)
-  pub relocation : ReadsTree other s ranges DATA_RELOC_TREE r.relocation (relocation_items m.now)
+  pub each : All (λ t. ReadsTree other s ranges t.number t.root t.items) (named_trees image other m r nodes)
   pub names_saved : has_root (roots_on other s ranges) 256 ≡ true

@@ -14,8 +14,8 @@ use Rattle.btr_reader.specs.btr_reader_walk.Tree.{bare_item}
 use Rattle.btr_reader.specs.btr_reader_walk.Walks.{found}
 use Rattle.btr_reader.specs.btr_reader_walk.declared.map.MapRange.{MapRange}
 use Rattle.convert_core.specs.convert_steps.Making.{Making}
-use Rattle.convert_core.specs.convert_steps.Standing.{image_tree_items}
-use Rattle.convert_core.specs.convert_steps.declared.trees.VolumeTrees.{VolumeTrees}
+use Rattle.convert_core.specs.unit_plan.declared.tree.NewTree.TheVariants.{Files}
+use Rattle.convert_core.specs.convert_steps.Standing.{TreeRoots, image_tree_items}
 use Rattle.reiser_volume.specs.reiser_bitmap.Bits.{has}
 use Rattle.reiser_volume.specs.Volume.{used_of}
 use Rattle.convert_core.specs.space_items.declared.node.TreeNode.{TreeNode}
@@ -41,14 +41,14 @@ pub record HasSavedImage (image other : Image) (ranges : List MapRange) (blocks 
 -- so does the tree of the saved image of a volume that was converted at a time, in any leaves
 abbrev pub SavedImageReads : Type 0
 SavedImageReads =
-    (o : Options) (ids : Ids) (now : ℕ) (image other : Image) (m : Making) (r : VolumeTrees) (nodes : List TreeNode) (items : List TreeItem)
+    (o : Options) (ids : Ids) (now : ℕ) (image other : Image) (m : Making) (r : TreeRoots) (nodes : List TreeNode) (items : List TreeItem)
     → IsNewVolume o ids now image other m r nodes → now < 2 ^ 63 → map bare_item items ≡ image_tree_items m
     → HasSavedImage image other (map_for m.chunks) m.volume.sup.blocks items
 
 -- the rules of names are kept in the file tree
-abbrev pub KeepsFileNames : Image → VolumeTrees → Type 0
+abbrev pub KeepsFileNames : Image → TreeRoots → Type 0
 KeepsFileNames other r =
-    KeepsNames (has_root (roots_on other (own_super other) (own_map other))) (found other (own_map other) (tree_of (own_super other) FS_TREE (pointer_to_root r.files))) r.files.address
+    KeepsNames (has_root (roots_on other (own_super other) (own_map other))) (found other (own_map other) (tree_of (own_super other) FS_TREE (pointer_to_root (r.tree Files)))) (r.tree Files).address
 
 -- The saved image is readable, and it is that of the old volume.
 pub record ReadsSavedImage (image other : Image) (blocks : ℕ) : Type 0 where
@@ -60,6 +60,6 @@ pub record ReadsSavedImage (image other : Image) (blocks : ℕ) : Type 0 where
 -- So it is where the file tree keeps the rules of names.
 abbrev pub SavedImageIsReadable : Type 0
 SavedImageIsReadable =
-    (o : Options) (ids : Ids) (now : ℕ) (image other : Image) (m : Making) (r : VolumeTrees) (nodes : List TreeNode)
+    (o : Options) (ids : Ids) (now : ℕ) (image other : Image) (m : Making) (r : TreeRoots) (nodes : List TreeNode)
     → IsNewVolume o ids now image other m r nodes → now < 2 ^ 63 → KeepsFileNames other r
     → ReadsSavedImage image other m.volume.sup.blocks

@@ -14,7 +14,7 @@ use Rattle.btr_check_rules.specs.Sound.{IsSound}
 use Rattle.btr_check_rules.specs.Sums.{AreSums}
 use Rattle.btr_check_rules.specs.Trees.{AreTrees}
 use Rattle.convert_core.specs.convert_steps.Making.{Making}
-use Rattle.convert_core.specs.convert_steps.declared.trees.VolumeTrees.{VolumeTrees}
+use Rattle.convert_core.specs.convert_steps.Standing.{TreeRoots}
 use Rattle.convert_core.specs.Converted.{IsNew}
 use Rattle.convert_core_laws.specs.reading.Identifiers.{HasFsid}
 use Rattle.convert_trees_laws.specs.Rows.{HasBytes}
@@ -27,7 +27,7 @@ use Rattle.convert_core_laws.specs.soundness.Recounted.{recount_for}
 -- at a time below 2^63, with identifiers of 16 bytes, and from blocks of bytes.
 abbrev pub OfConvertedRecount : (Image → Recount → Type 0) → Type 0
 OfConvertedRecount P =
-    (o : Options) (ids : Ids) (now : ℕ) (image other : Image) (m : Making) (r : VolumeTrees) (nodes : List TreeNode)
+    (o : Options) (ids : Ids) (now : ℕ) (image other : Image) (m : Making) (r : TreeRoots) (nodes : List TreeNode)
     → IsNew o ids now image other m r nodes → IsNodeSize o.nodesize → now < 2 ^ 63 → AreIds ids → HasFsid image o.uuid → HasBytes image
     → P other (recount_for image other m r nodes)
 

@@ -1,6 +1,6 @@
 -- What a recount of a converted volume finds.
-use Rattle.std.specs.Prelude.{ℕ, ◌^◌, ◌-◌, List, [], ◌∷◌, ◌++◌, map}
-use Rattle.btrfs_format.specs.declared.object.TheConstants.{CHUNK_TREE, CONV_IMAGE_SUBVOL, CSUM_TREE, DATA_RELOC_TREE, DEV_TREE, EXTENT_TREE, FS_TREE, ROOT_TREE}
+use Rattle.std.specs.Prelude.{ℕ, ◌^◌, ◌-◌, List, ◌++◌, map}
+use Rattle.btrfs_format.specs.declared.object.TheConstants.{CHUNK_TREE, ROOT_TREE}
 use Rattle.reiser_volume.specs.outside.History.{Image}
 use Rattle.btr_reader.specs.btr_node.Leaf.{Item}
 use Rattle.btr_reader.specs.Opening.{chunk_map, form_of}
@@ -9,12 +9,9 @@ use Rattle.btr_reader.specs.btr_super.declared.superblock.Super.{Super}
 use Rattle.convert_core.specs.btr_tree.declared.climb.Root.{Root}
 use Rattle.btr_reader.specs.btr_reader_walk.Events.{nodes_in, walk_events}
 use Rattle.convert_core.specs.convert_steps.Making.{Making, new_ids}
-use Rattle.convert_core.specs.convert_steps.Standing.{file_tree_items, image_tree_items, root_tree_items, sum_tree_items}
-use Rattle.convert_core.specs.convert_steps.declared.trees.VolumeTrees.{VolumeTrees}
+use Rattle.convert_core.specs.convert_steps.Standing.{NamedTree, TreeRoots, named_trees, root_tree_items}
 use Rattle.convert_core_laws.specs.reading.Opened.{boot_part, chunk_at, other_part, super_for}
-use Rattle.convert_core.specs.file_items.Small.{relocation_items}
-use Rattle.convert_core.specs.space_items.Chunks.{chunk_items, device_items}
-use Rattle.convert_core.specs.space_items.Extents.{extent_items}
+use Rattle.convert_core.specs.space_items.Chunks.{chunk_items}
 use Rattle.convert_core.specs.space_items.declared.node.TreeNode.{TreeNode}
 use Rattle.convert_core.specs.btr_tree_writer.Trees.{pointer_to_root}
 
@@ -26,18 +23,16 @@ tree_for other s number root items = record {
   items = items;
 }
 
+-- one that has a root item
+abbrev pub named_on : Image → Super → NamedTree → TreeOn
+named_on other s t = tree_for other s t.number t.root t.items
+
 -- the trees that have a root item
-abbrev pub trees_for : Image → Image → Making → VolumeTrees → List TreeNode → Super → List TreeOn
-trees_for image other m r nodes s =
-    tree_for other s EXTENT_TREE r.extents (extent_items m.chunks m.pieces nodes m.options.nodesize)
-    ∷ (tree_for other s DEV_TREE r.device (device_items (new_ids m) m.chunks)
-    ∷ (tree_for other s FS_TREE r.files (file_tree_items image m)
-    ∷ (tree_for other s CSUM_TREE r.sums (sum_tree_items other m)
-    ∷ (tree_for other s CONV_IMAGE_SUBVOL r.image (image_tree_items m)
-    ∷ (tree_for other s DATA_RELOC_TREE r.relocation (relocation_items m.now) ∷ [])))))
+abbrev pub trees_for : Image → Image → Making → TreeRoots → List TreeNode → Super → List TreeOn
+trees_for image other m r nodes s = map (named_on other s) (named_trees image other m r nodes)
 
 -- The recount of a converted volume: its superblock, the chunks of the plan, and the trees with the items that were written.
-abbrev pub recount_for : Image → Image → Making → VolumeTrees → List TreeNode → Recount
+abbrev pub recount_for : Image → Image → Making → TreeRoots → List TreeNode → Recount
 recount_for image other m r nodes = record {
   super = super_for m r nodes;
   chunks = map (chunk_at (new_ids m)) (boot_part m.chunks ++ other_part m.chunks);

@@ -1,4 +1,4 @@
-use super::Space;
+use super::{Space, Wanted};
 use crate::paragraph::Paragraph;
 use crate::sizes::Counted;
 use std::test::Fail;
@@ -14,7 +14,11 @@ fn told(
     best: Option<&Counted>,
 ) -> Result<String, Fail> {
     let mut text = Paragraph::new(rt.alloc(), "/dev/sda1");
-    space.tell(rt.alloc(), &mut text, size, best)?;
+    let wanted = Wanted {
+        size,
+        is_hashed: false,
+    };
+    space.tell(rt.alloc(), &mut text, wanted, best)?;
     let mut said = String::new(rt.alloc());
     for line in text.into_text().as_str().lines() {
         said.push_str(line)?;
@@ -36,6 +40,49 @@ fn a_unit_is_missing(rt: HostRuntime) -> Result<(), Fail> {
     ] {
         assert!(rt; said.as_str().contains(part), "{}", said.as_str());
     }
+    Ok(())
+}
+
+/// What is told of checksums by SHA-256, where so many units are needed.
+fn told_of_hashes(rt: &impl AllocGlobal, needed: u64) -> Result<String, Fail> {
+    let space = Space {
+        units: 30,
+        needed,
+        run: 1,
+        longest: None,
+    };
+    let wanted = Wanted {
+        size: "16384",
+        is_hashed: true,
+    };
+    let mut text = Paragraph::new(rt.alloc(), "/dev/sda1");
+    space.tell(rt.alloc(), &mut text, wanted, None)?;
+    let mut said = String::new(rt.alloc());
+    for line in text.into_text().as_str().lines() {
+        said.push_str(line)?;
+        said.push_str(" ")?;
+    }
+    Ok(said)
+}
+
+#[test]
+fn checksums_by_another_kind(rt: HostRuntime) -> Result<(), Fail> {
+    let said = told_of_hashes(&rt, 5)?;
+    assert!(rt;
+        said.as_str().ends_with(
+            "and so 25 are to spare. This is with checksums by SHA-256: give 'convert' '--csum sha256' too. "
+        ),
+        "{}",
+        said.as_str()
+    );
+    let said = told_of_hashes(&rt, 31)?;
+    assert!(rt;
+        said.as_str().ends_with(
+            "Or leave '--csum sha256' out: checksums by CRC-32C take some 7 MiB less for each GiB in use. "
+        ),
+        "{}",
+        said.as_str()
+    );
     Ok(())
 }
 

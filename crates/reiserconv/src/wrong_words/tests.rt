@@ -72,6 +72,10 @@ fn values_are_in_their_range(rt: HostRuntime) -> Result<(), Fail> {
             ("convert --nodesize 16K x", "write '--nodesize 16384'"),
             ("convert --nodesize 5 x", "'5' is no size of a node"),
             ("convert --uuid foo x", "'foo' is no UUID"),
+            ("convert --csum 7 x", "'7' is no kind of checksum"),
+            ("convert --csum xxhash x", "no checksums by 'xxhash'"),
+            ("inspect --csum SHA256 x", "write '--csum sha256'"),
+            ("convert --csum --no-inline x", "crc32c or sha256."),
             (
                 "convert --uuid 00000000-0000-0000-0000-000000000000 x",
                 "A UUID of zeros names",
@@ -102,6 +106,7 @@ fn nothing_is_found_where_nothing_is_wrong(rt: HostRuntime) -> Result<(), Fail> 
     for words in [
         "inspect --nodesize 4096 x",
         "convert --label -x --uuid copy x",
+        "convert --csum sha256 --no-inline x",
         "trial --verbose 7 x",
     ] {
         let said = found(&rt, words)?;

@@ -55,6 +55,9 @@ fn words_that_are_no_options(rt: HostRuntime) -> Result<(), Fail> {
         "convert --label a --copy-label x",
         "convert --no-inline --no-inline x",
         "convert --uuid 12 x",
+        "convert --csum xxhash x",
+        "convert --csum x",
+        "list --csum sha256 x",
         "convert --label x",
         "list --no-inline x",
     ] {

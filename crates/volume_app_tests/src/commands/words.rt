@@ -84,6 +84,9 @@ fn words_that_are_no_options_of_inspect(rt: HostRuntime) -> Result<(), Fail> {
         "inspect --copy-label a",
         "inspect --uuid new a",
         "inspect --nodesize 16383 a",
+        "inspect --csum xxhash a",
+        "inspect --csum sha256",
+        "inspect --csum crc32c --csum sha256 a",
         "inspect --nodesize 4096",
         "inspect --no-inline --no-inline a",
         "inspect --nodesize 4096 --nodesize 8192 a",
@@ -154,7 +157,7 @@ fn inspect_tells_what_a_conversion_needs(rt: HostRuntime) -> Result<(), Fail> {
     for (words, needed) in [
         ("inspect x", "used 52\nunits 7\nneeded 4\nrun 1\n"),
         (
-            "inspect --no-inline --no-datasum x",
+            "inspect --no-inline --no-datasum --csum sha256 x",
             "used 52\nunits 7\nneeded 4\nrun 1\n",
         ),
         (
@@ -196,7 +199,7 @@ fn a_conversion_takes_what_inspect_tells(rt: HostRuntime) -> Result<(), Fail> {
 fn options_change_nothing_of_a_btrfs_volume(rt: HostRuntime) -> Result<(), Fail> {
     btrfs_ends(
         &rt,
-        "inspect --verbose --nodesize 4096 --no-inline --no-datasum x",
+        "inspect --verbose --nodesize 4096 --csum sha256 --no-inline --no-datasum x",
         &Sample::PLAIN,
         0,
         BTRFS,

@@ -36,6 +36,21 @@ fn an_empty_volume_goes_and_comes(rt: HostRuntime) -> Result<(), Fail> {
     Ok(())
 }
 
+const HASHED: &str = "converted to btrfs\npieces 257\nblocks 8212\ncopied 256\ntails 0\nunits 5\n";
+
+/// Checksums by SHA-256 take a unit more.
+#[test]
+fn a_volume_with_checksums_by_sha_256_goes_and_comes(rt: HostRuntime) -> Result<(), Fail> {
+    let old = Old::new(rt.alloc(), made(rt.alloc(), 0, 12288)?)?;
+    old.goes_and_comes(&[
+        Step("convert --csum sha256", Done(HASHED)),
+        Step("list", Done(ROOT)),
+        Step("inspect", Done(BETWEEN)),
+        Step("rollback", Done(BACK)),
+    ])?;
+    Ok(())
+}
+
 const SMALL: &str = "converted to btrfs\npieces 52\nblocks 52\ncopied 52\ntails 0\nunits 4\n";
 
 const SMALL_BACK: &str = "rolled back to reiserfs\nblocks 52\nrestored 52\n";

@@ -10,7 +10,7 @@ loop-walker-init g c = record {
   same = refl;
   tree = c.in_ok-walker.ensures.tree;
   fresh = c.in_ok-walker.ensures.fresh;
-  walks = λ tells. ([], c.in_ok-walker.ensures.walks _ _, refl, refl, none_seen is_root_directory c.new-seen.result c.new-seen.ensures.empty);
+  walks = λ tells. ([], c.in_ok-walker.ensures.walks _ _, refl, refl, none_seen is_root_directory c.new-seen.result c.new-seen.ensures.empty, c.requires.begun);
 }
 
 pub returns-in_err-advance-clause-err : goal.returns-in_err-advance-clause-err
@@ -49,6 +49,7 @@ loop-walker-preserved g c =
                 ∙ (ap (λ o. first_key o (entry_named (is_called c.args.name.now) (own_naming i))) told.2 ∙ sym (entry_push (is_called c.args.name.now) told.0 i)),
             index_right told.0 i told.3 (c.in_ok-first.ensures.ok i key body leaf),
             c.in_ok-first.ensures.seen i told.0 key body leaf told.4,
+            c.in_ok-note.ensures c.args.notes.now told.0 i (sym (c.key-in-loop-walker.ensures i came.2)) (sym (c.body-in-loop-walker.ensures i came.2)) (sym (c.leaf-in-loop-walker.ensures i came.2)) told.5,
           );
     }
 
@@ -98,3 +99,17 @@ returns-clause-entry g c = λ tells image is.
     told.2
     ∙ (ap (λ (items : List TreeItem). entry_named (is_called c.args.name.now) (dir_indexes items)) all
     ∙ ap (λ (m : Image). entry_named (is_called c.args.name.now) (dir_indexes (found m ranges c.args.tree))) is)
+
+pub returns-in_err-note-clause-kept : goal.returns-in_err-note-clause-kept
+returns-in_err-note-clause-kept g c = g.met.S.BlockSource.kept_trans _ _ _ c.loop-walker.invariant.kept c.advance.ensures.kept
+
+pub returns-clause-noted : goal.returns-clause-noted
+returns-clause-noted g c = λ tells image is.
+    let before = c.loop-walker.invariant in
+    let here : Image = g.S.BlockSource.blocks c.args.src.now in
+    let ranges : List MapRange = c.args.ranges.now in
+    let told = before.walks tells in
+    let same = g.met.S.BlockSource.kept_blocks c.args.src.now c.loop-walker.src tells before.kept in
+    let end = rw c.if-branch.false at (c.in_ok-advance.ensures.comes tells here same told.0 told.1) in
+    let all : told.0 ≡ found here ranges c.args.tree = end.1.all ∙ ap (λ (t : Tree). found here ranges t) before.tree in
+    subst (λ (m : Image). g.N.Notes.holds c.args.notes.now c.loop-walker.notes (found m ranges c.args.tree)) is (subst (g.N.Notes.holds c.args.notes.now c.loop-walker.notes) all told.5)

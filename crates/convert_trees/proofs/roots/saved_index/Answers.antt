@@ -1,4 +1,5 @@
-use Rattle.convert_trees.proofs.Imports.{◌∙◌, ◌+◌, ◌<◌, List, length, count_by, sym, ap, take_all, arith, keys, root, same_key, links_in}
+use Rattle.convert_trees.proofs.Imports.{◌∙◌, ◌+◌, ◌<◌, List, length, count_by, sym, ap, arith, keys, root, same_key, links_in}
+use Rattle.std.proofs.Common.{take_all}
 use Rattle.reiser_volume.specs.reiser_volume_objects.declared.naming.Naming.{Naming}
 use Rattle.convert_trees.proofs.Indexing.{counted_no, counted_yes}
 use Rattle.convert_trees.proofs.roots.saved_index.Goals as goal

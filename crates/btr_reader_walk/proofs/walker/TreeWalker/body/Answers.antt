@@ -6,5 +6,5 @@ returns c = λ i stands.
     let other : Item = (i.key, i.body) in
     let at : ℕ = c.args.self.now.at.next - 1 in
     let there : get_or c.of.result at other ≡ other =
-    ap (λ (items : List Item). get_or items at other) (c.of.ensures ∙ ap (λ (bytes : List ℕ). items_in bytes) c.as_slice.ensures.value) ∙ stands.item other in
+    ap (λ (items : List Item). get_or items at other) (c.of.ensures ∙ ap (λ (bytes : List ℕ). items_in bytes) c.bytes.ensures) ∙ stands.item other in
     c.body.ensures other ∙ ap (λ (x : Item). x.1) there

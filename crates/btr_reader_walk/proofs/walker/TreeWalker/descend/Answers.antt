@@ -1,25 +1,29 @@
-use Rattle.btr_reader_walk.proofs.Imports.{ℕ, Contains, length, refl, sym, ◌∙◌, ap, subst, err_from_is_err_and, Image, Tree, TreeWalker, is_mapped, node_at, wrong, Blames}
-use Rattle.btr_reader_walk.proofs.Opening.{rebuffered, read_blamed}
+use Rattle.btr_reader_walk.proofs.Imports.{List, sym, subst, refl, err_from_is_err_and, Image, MapRange, Tree, TreeWalker, wrong, Blames}
+use Rattle.btr_reader_walk.proofs.Opening.{node_opened, node_refused, descended}
 use Rattle.btr_reader_walk.proofs.walker.TreeWalker.descend.Goals as goal
 
 pub returns-in-None-clause-moves : goal.returns-in-None-clause-moves
 returns-in-None-clause-moves g c = λ tells given k. c.in-None.ensures.takes _ _ given k
 
-pub returns-in_err-read_node-clause-moves : goal.returns-in_err-read_node-clause-moves
-returns-in_err-read_node-clause-moves g c = λ tells given k.
+pub returns-in_err-open-clause-moves : goal.returns-in_err-open-clause-moves
+returns-in_err-open-clause-moves g c = λ tells given k.
     let image : Image = g.S.BlockSource.blocks c.args.src.now in
-    let w : TreeWalker = c.take_pointer.new.self in
+    let ranges : List MapRange = c.args.ranges.now in
+    let w : TreeWalker = c.take_node.new.self in
     let err = err_from_is_err_and c.from_residual.result c.from_residual.ensures.1 in
-    rw err.1 (subst (λ (tree : Tree). Blames (wrong image c.args.ranges.now tree) err.0) c.take_pointer.ensures.tree
-    (subst (Blames (wrong image c.args.ranges.now w.tree)) (sym err.2)
-    (read_blamed w image c.args.ranges.now given c.in-Some.p (length w.bytes.items) c.in_err-read_node.field-0.0 (c.in-Some.ensures.takes image c.args.ranges.now given k) w.buffer c.in_err-read_node.ensures.unmapped)))
+    rw err.1 (subst (λ (tree : Tree). Blames (wrong image ranges tree) err.0) c.take_node.ensures.tree
+    (subst (Blames (wrong image ranges w.tree)) (sym err.2)
+    (node_refused w c.open.new.self image ranges given c.in-Some.entry c.in_err-open.field-0.0 (c.in-Some.ensures.takes image ranges given k) (c.in_err-open.ensures.opens tells image refl))))
 
-pub returns-in-Err-clause-moves : goal.returns-in-Err-clause-moves
-returns-in-Err-clause-moves g c = λ tells given k.
+pub returns-clause-moves : goal.returns-clause-moves
+returns-clause-moves g c = λ tells given k.
     let image : Image = g.S.BlockSource.blocks c.args.src.now in
-    let w : TreeWalker = c.take_pointer.new.self in
-    let at = c.in-Some.ensures.takes image c.args.ranges.now given k in
-    subst (λ (tree : Tree). Contains (wrong image c.args.ranges.now tree) c.in-Err.refusal) c.take_pointer.ensures.tree
-    (c.in-Err.ensures.opens image c.args.ranges.now given (rebuffered w _ image c.args.ranges.now given c.in-Some.p at refl refl refl)
-    (ap (λ (n : ℕ). is_mapped c.args.ranges.now n c.in-Some.p.address) (sym w.buffer) ∙ c.in_ok-read_node.ensures.mapped)
-    (c.in_ok-read_node.ensures.bytes tells ∙ ap (λ (n : ℕ). node_at image c.args.ranges.now n c.in-Some.p.address) w.buffer))
+    let ranges : List MapRange = c.args.ranges.now in
+    c.enter.ensures.enters image ranges given
+    (node_opened c.take_node.new.self _ image ranges given c.in-Some.entry (c.in-Some.ensures.takes image ranges given k) refl refl
+    (c.in_ok-open.ensures.opens tells image refl) c.in_ok-open.ensures.pushes)
+
+pub returns-clause-ends : goal.returns-clause-ends
+returns-clause-ends g c = λ more.
+    descended c.args.self.now c.take_node.new.self c.open.new.self c.enter.new.self c.in-Some.entry c.open.new.self.bytes.items c.in-Some.ensures.weight c.in-Some.ensures.emptied.1
+    c.open.ensures.tree c.in_ok-open.ensures.pushes c.in_ok-open.ensures.ends c.enter.ensures.nodes c.enter.ensures.few c.enter.ensures.none
