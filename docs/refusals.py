@@ -196,7 +196,9 @@ def as_manual(text):
     lines = []
     for place, piece in enumerate(text.split("`")):
         if place % 2:
-            lines.append(".Li " + re.sub(r"(^| )-", r"\1\\-", piece.replace("\\", "\\e")))
+            piece = re.sub(r"(^| )-", r"\1\\-", piece.replace("\\", "\\e"))
+            # a word that mdoc would take for one of its own, as No
+            lines.append(".Li " + re.sub(r"(^| )(?=[A-Z][a-z]( |$))", r"\1\\&", piece))
             continue
         closing = re.match(r"[.,:;)]+(?= |$)", piece) if place else None
         if closing:

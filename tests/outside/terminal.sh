@@ -60,10 +60,10 @@ told_refusals() {
         put changed "$4" "$5"
         tells "$1" 1 "$2" "$3" inspect changed
     }
-    told_field 'a volume that was not unmounted' 'refused 2 unclean 2' "has the state 2. $nothing Mount it" $((super + 50)) '\x02\x00'
-    told_field 'a block size of 8192' 'refused 3 unsupported 2 8192' 'feature 2, with the value 8192. Blocks of ReiserFS have another size' $((super + 44)) '\x00\x20'
+    told_field 'a volume that was not unmounted' 'refused 2 unclean 2' "has the state 2. $nothing Mount it in Linux 6.12 or earlier, which has ReiserFS, and unmount it" $((super + 50)) '\x02\x00'
+    told_field 'a block size of 8192' 'refused 3 unsupported 2 8192' "feature 2, with the value 8192. Blocks of ReiserFS have another size than 4096 bytes. $nothing Such a volume can't be converted. Mount it in Linux 6.12 or earlier" $((super + 44)) '\x00\x20'
     told_field 'a longer volume than the file' 'refused 4 short 20001 20000' 'has 20001 blocks of 4 KiB, and the device only 20000' "$super" '\x21'
-    told_field 'a descriptor in the journal' 'refused 5 journal 7' "number 7. $nothing Mount the volume" $((20 * 4096)) "\\x07\\0\\0\\0\\x01\\0\\0\\0$(printf '\\0%.0s' {1..4076})ReIsErLB"
+    told_field 'a descriptor in the journal' 'refused 5 journal 7' "number 7. $nothing Mount the volume in Linux 6.12 or earlier, which has ReiserFS, and unmount it" $((20 * 4096)) "\\x07\\0\\0\\0\\x01\\0\\0\\0$(printf '\\0%.0s' {1..4076})ReIsErLB"
     told_field 'a height of 1' 'refused 6 damaged 16 1' "At block 16 a rule of the format is broken, rule 1. A field of the superblock is out of its bounds. $nothing" $((super + 68)) '\x01'
     told_rare_refusals
     told_btrfs_refusals
@@ -76,8 +76,8 @@ told_rare_refusals() {
         "$top/tests/rare_volume.py" "$kind" rare
         tells "a volume of $kind" 1 "$line" "$text" inspect rare
     done <<'KINDS'
-removed|refused 8 links 4|is still to be cleaned up: object 4.
-taken|refused 9 taken 2 3|What to do: Rename it.
+removed|refused 8 links 4|is still to be cleaned up: object 4. Nothing was written. What to do: Mount the volume in Linux 6.12 or earlier
+taken|refused 9 taken 2 3|What to do: Mount the volume in Linux 6.12 or earlier, which has ReiserFS, and rename it.
 long|refused 10 long 3 4 256|'find /mnt/disk -xdev -inum 4' prints
 crowd|refused 11 crowd 2 3 7|In the directory 2 3 more names share the hash 7 than
 KINDS
@@ -85,6 +85,8 @@ KINDS
     zstd -dqf "$top/tests/volumes/xattr-volume.img.zst" -o packed
     run inspect packed
     tells 'a volume with attributes' 1 "$err" 'or access control lists, which the program does not carry over' inspect packed
+    on_terminal inspect packed
+    same 'how to find attributes' yes "$(has "They lie in a folder that Linux does not show. To find the files that have them, mount the volume in Linux 6.12 or earlier, which has ReiserFS, with the options 'user_xattr,acl': 'getfattr -R -h -P -m - /mnt/disk' names those with attributes")"
 }
 
 # the superblock's log tree is at an address, and its checksum is right
@@ -108,8 +110,8 @@ told_btrfs_refusals() {
     rm -f plain
     truncate -s 128M plain
     mkfs.btrfs -q -f -m single -d single plain >/dev/null 2>&1
-    tells 'a Btrfs volume to convert' 1 'refused 16 format' "It is a Btrfs volume already, and a conversion makes one of ReiserFS. If you have converted it before, that is done. $nothing Nothing." convert plain
-    tells 'a ReiserFS volume to roll back' 1 'refused 16 format' "It is a ReiserFS volume already, and a rollback makes one of Btrfs. If you have rolled it back before, that is done. $nothing Nothing." rollback good
+    tells 'a Btrfs volume to convert' 1 'refused 16 format' "It is a Btrfs volume already. 'convert' turns a ReiserFS volume into Btrfs. If you have converted it before, that is done. $nothing Nothing." convert plain
+    tells 'a ReiserFS volume to roll back' 1 'refused 16 format' "It is a ReiserFS volume already. 'rollback' turns a volume that was converted to Btrfs back into ReiserFS. If you have rolled it back before, that is done. $nothing Nothing. 'reiserfsck --check --yes good' has to say 'No corruptions found'." rollback good
     unasked 'a volume that was never converted' 1 'refused 17 noimage' "nothing to go back to. $nothing If you have" plain
     told_second_device
     cp --sparse=always plain changed
@@ -149,7 +151,8 @@ unasked() {
 told_ways_back() {
     makes 9216 0 9216
     tells 'too little space' 6 'refused 15 space 4 3 1 3' \
-        "needs 4 free units of 1 MiB, with 1 in one row. Of units that are free as a whole there are 3, with 3 in the longest row. $nothing Remove large files or move them away, until 1 MiB more" convert made
+        "needs 4 free units of 1 MiB, with 1 in one row. The number of those that are free as a whole is 3, and that in the longest row 3. $nothing Mount it in Linux 6.12 or earlier, which has ReiserFS, and remove large files or move them away, until 1 MiB more is free" convert made
+    told_options
     makes 12288 7 12288
     run convert made
     local place
@@ -169,6 +172,7 @@ told_moved_image() {
     fi
     zstd -dqf "$top/tests/volumes/tiny.img.zst" -o moved
     truncate -s 400M moved
+    cp --sparse=always moved packed
     run convert moved
     device=$(losetup --find --show moved)
     mkdir -p mounted
@@ -177,7 +181,11 @@ told_moved_image() {
     run rollback "$device"
     same 'the number of a moved image' 'refused 18 moved' "${err% *}"
     unasked 'a moved image' 1 "$err" "Block ${err##* } of the old volume no longer lies where it lay. A balance of data moves blocks" "$device"
-    same 'a moved image has no way back' yes "$(has "$nothing Nothing leads back any more.")"
+    same 'a moved image has no way back' yes "$(has "$nothing 'rollback' can't turn it back any more: stay with Btrfs, or copy your files to a new volume. What the old volume held is not lost.")"
+    mount -t btrfs "$device" mounted
+    run list mounted/reiserfs_saved/image
+    umount mounted
+    same 'what a moved image still has' "0||$("$program" list packed | sha256sum)" "$status|$err|$(sha256sum <"$work/.out")"
     losetup --detach "$device"
 }
 
@@ -186,6 +194,7 @@ told_lines() {
     tells 'a path that is not there' 3 'device fault' "Nothing is there. $nothing See whether the path is right: 'lsblk' lists the devices." inspect nothing
     tells 'a trial where nothing is' 3 'device fault' "Nothing is there, and a trial makes no file. $nothing Make one with 'truncate -s 256M nothing', or give" trial 7 nothing
     same 'a trial where nothing is, without lsblk' 0 "$(grep -c lsblk "$work/.out")"
+    tells 'a trial on a directory' 3 'device fault' "It is neither a plain file nor a block device, and a trial takes one of these. $nothing Give a file or a device of at least 256 MiB which holds nothing. 'truncate -s 256M scratch.img' makes such a file." trial 7 "$work"
     tells 'a directory' 3 'device fault' "It is neither a plain file nor a block device. $nothing Give a partition" inspect "$work"
     : >locked
     exec 7<locked
@@ -237,6 +246,7 @@ convert --frobnicate x|'convert' has no option '--frobnicate'. If it is the path
 convert -x|If it is the path, write './-x'.
 convert --no-inlin x|There is no option '--no-inlin'. Did you mean '--no-inline'?
 list --no-inline x|'list' has no option '--no-inline'.
+trial -1 x|'-1' is no number of files: it goes from 0 to 4000, without zeros or a sign before it.
 convert --no-inline --no-inline x|'--no-inline' is given twice.
 convert --label disk|The path is missing: 'disk' is the value of '--label'
 convert --label a --copy-label x|'--copy-label' can't stand beside '--label'
@@ -259,6 +269,8 @@ convert -r x|'-r' is a command here: 'reiserconv rollback', with the path behind
 convert --dry-run x|'reiserconv inspect' only reads, and says whether a volume can be converted.
 convert -- x|A path that begins with a dash is written with './' before it.
 trial scratch|'scratch' is no number of files: the number stands before the path, for example 'reiserconv trial 1000 scratch'.
+trial abc scratch|'abc' is no number of files, from 0 to 4000: for example 'reiserconv trial 1000 scratch'.
+trial scratch 7|'scratch' is no number of files: the number stands before the path, so 'reiserconv trial 7 scratch'.
 trial 4001 scratch|'4001' is no number of files: it goes from 0 to 4000
 trial 007 scratch|'007' is no number of files: it goes from 0 to 4000, without zeros or a sign before it.
 trial 7|The path is missing behind the number
@@ -270,7 +282,7 @@ WORDS
 
 # words with bytes that a terminal would not show as they are, and words without a terminal
 told_odd_words() {
-    tells 'a word with control characters' 2 "$usage" "'a\\ b\$'\\u001b'\$'\\u000a'c' is a word too many" inspect x $'a b\e\nc'
+    tells 'a word with control characters' 2 "$usage" "a\\ b\$'\\u001b'\$'\\u000a'c is a word too many" inspect x $'a b\e\nc'
     tells 'a path that is not in UTF-8' 7 'start fault' 'An argument is no text in UTF-8, and a path has to be. Nothing was opened. What to do: Reach the file by a symbolic link' inspect $'\xff'
     run convert --verbose --nodesize 16K x
     same 'without a terminal, but with --verbose' "2||$usage 'yes" "$status|$out|$(head -1 "$work/.err") '$(told "write '--nodesize 16384' in place of '16K'. What to do: 'reiserconv --help' has")"
@@ -281,18 +293,32 @@ verdicts() {
     makes 9216 0 9216
     on_terminal inspect made
     same 'the space does not suffice' '0|yes|yes' "$status|$(
-        has "It can't be converted as it is: 4 units of 1 MiB are needed, and 3 are free as a whole, which is 1 too few. What to do: Remove large files or move them away, until 1 MiB more are free as a whole, better 17, since")|$(
+        has "It can't be converted as it is: 4 units of 1 MiB are needed, and 3 are free as a whole, which is 1 too few. What to do: Mount it in Linux 6.12 or earlier, which has ReiserFS, and remove large files or move them away, until 1 MiB more is free as a whole, better 17, since")|$(
         has "Or make the partition larger by 17 MiB or more, and then the volume ('resize_reiserfs -f made'). Or take nodes of 4096 bytes, which need 3 units, so that 0 MiB are to spare: 'reiserconv convert --nodesize 4096 made'. Linux takes")"
     on_terminal inspect --no-inline --nodesize 8192 made
-    same 'a size of nodes with which it does suffice' '0|yes' "$status|$(has "Or take nodes of 4096 bytes, which need 3 units, so that 0 MiB are to spare:")"
+    same 'a size of nodes with which it does suffice' '0|yes' "$status|$(
+        has "Or take nodes of 4096 bytes, which need 3 units, so that 0 MiB are to spare: 'reiserconv convert --nodesize 4096 --no-inline made'.")"
     on_terminal inspect --nodesize 4096 made
-    same 'no other size is looked at where the space suffices' '0|yes' "$status|$(has "It can be converted: 3 units of 1 MiB are needed, 3 are free as a whole, and so 0 are to spare. This is with nodes of 4096 bytes:")"
+    same 'no other size is looked at where the space suffices' '0|yes' "$status|$(has "It can be converted: 3 units of 1 MiB are needed, 3 are free as a whole, and so 0 are to spare. This command does it: 'reiserconv convert --nodesize 4096 made'. Linux takes")"
+    on_terminal inspect --no-datasum --csum crc32c --nodesize 4096 --verbose --no-inline made
+    same 'the command that does it has all options' '0|yes' "$status|$(has "This command does it: 'reiserconv convert --no-datasum --csum crc32c --nodesize 4096 --no-inline made'.")"
+    makes 28160 4000 28160
+    on_terminal inspect --no-inline --csum crc32c made
+    same 'an option that takes the units that are missing' '0|yes|yes' "$status|$(
+        has "Or take nodes of 4096 bytes, which need 20 units, so that 0 MiB are to spare: 'reiserconv convert --nodesize 4096 --no-inline --csum crc32c made'.")|$(
+        has "Or leave '--no-inline' out: then 19 units are needed, so that 1 MiB is to spare: 'reiserconv convert --csum crc32c made'. Linux takes")"
+    run convert --csum crc32c made
+    same 'without it the volume is converted' '0||units 19' "$status|$err|$(tail -1 "$work/.out")"
+    makes 27648 4000 27648
+    on_terminal inspect --no-inline made
+    same 'an option that takes some of them' '0|yes' "$status|$(has "Without '--no-inline' fewer units are needed, 19, which alone does not suffice.")"
+    makes 9216 0 9216
     run inspect made
     same 'no verdict without a terminal' "0||run 1" "$status|$err|$(tail -1 "$work/.out")"
     truncate -s +17M made
     resize_reiserfs -q -f made >/dev/null 2>&1
     on_terminal inspect made
-    same 'a volume that was made larger as it was told' '0|yes' "$status|$(has 'It can be converted: 4 units of 1 MiB are needed, 20 are free as a whole, and so 16 are to spare.')"
+    same 'a volume that was made larger as it was told' '0|yes' "$status|$(has "It can be converted: 4 units of 1 MiB are needed, 20 are free as a whole, and so 16 are to spare. This command does it: 'reiserconv convert made'.")"
     makes 12288 7 12288
     on_terminal inspect made
     same 'the space suffices' '0|yes' "$status|$(has "It can be converted: $(awk '$1 == "needed" { print $2 }' "$work/.out" | tr -d '\r') units of 1 MiB are needed")"
@@ -308,18 +334,19 @@ told_steps() {
     cp --sparse=always made "$disk"
     on_terminal convert "$disk"
     same 'a conversion begins and is done' '0|yes|yes|yes|yes|yes|yes|yes' "$status|$(
-        has "my\\ disk\\'s is written to from now on. If this is interrupted, by Ctrl-C, a signal or a power cut, the old volume or the new one is there, whole, at each moment. Run 'reiserconv recover my\\ disk\\'s' then")|$(has "'btrfs check --readonly my\\ disk\\'s' has to find nothing.")|$(
+        has "my\\ disk\\'s is written to from now on. If this is interrupted, by Ctrl-C, a signal or a power cut, the old volume or the new one is there, whole, at each moment. Run reiserconv recover my\\ disk\\'s then: it says which")|$(has "What comes next: btrfs check --readonly my\\ disk\\'s has to say 'no error found'.")|$(
         has "What closes the way back for good: to delete the image or its folder, a balance of data, data that is kept twice or in a RAID ('-dconvert'), a smaller size that moves blocks of the image, and a defragmentation or deduplication of the image itself.")|$(
         has "What closes it for a while: to rename or move the image or its folder, until both have their names and places again; another device, until 'btrfs device remove' took it out; and metadata in a RAID, until 'btrfs balance start -f -mconvert=single -sconvert=single /mnt' made it single, without '-dconvert'.")|$(
-        has "'mount -t btrfs -o space_cache=v2 my\\ disk\\'s /mnt'")|$(has "'reiserconv rollback my\\ disk\\'s'")|$(
+        has "The first time, mount it with mount -t btrfs -o space_cache=v2 my\\ disk\\'s /mnt If")|$(has "run reiserconv rollback my\\ disk\\'s then it is as it was")|$(
         has "'btrfs subvolume delete -c /mnt/reiserfs_saved', then 'btrfs subvolume sync /mnt' and then 'btrfs filesystem sync /mnt' free the space of the image.")"
+    same 'a command on a path with a space stands alone on its line' 1 "$(lines_of_terminal | grep -cxF "    btrfs check --readonly my\\ disk\\'s")"
     on_terminal recover "$disk"
     same 'what is there is Btrfs' '0|yes' "$status|$(has 'is a Btrfs volume. If a conversion was interrupted, it is done')"
     on_terminal rollback "$disk"
-    same 'a rollback begins and is done' '0|yes|yes|yes' "$status|$(has "is there, whole, at each moment. Run 'reiserconv recover my\\ disk\\'s' then")|$(has 'is the ReiserFS volume from before the conversion again')|$(
-        has "'reiserfsck --check --yes my\\ disk\\'s' has to find nothing.")"
+    same 'a rollback begins and is done' '0|yes|yes|yes' "$status|$(has "is there, whole, at each moment. Run reiserconv recover my\\ disk\\'s then: it says which")|$(has 'is the ReiserFS volume from before the conversion again')|$(
+        has "reiserfsck --check --yes my\\ disk\\'s has to say 'No corruptions found'.")"
     on_terminal recover "$disk"
-    same 'what is there is ReiserFS' '0|yes' "$status|$(has "it is as before: begin again with 'reiserconv convert my\\ disk\\'s'.")"
+    same 'what is there is ReiserFS' '0|yes' "$status|$(has "it is as before: begin again with reiserconv convert my\\ disk\\'s and with the options that you gave, if any, before the path.")"
     told_trial
     run convert "$disk"
     same 'nothing is told without a terminal' '0||6' "$status|$err|$(wc -l <"$work/.out")"
@@ -338,10 +365,45 @@ told_trial() {
     same 'what a trial says that it leaves' '0||format reiserfs' "$status|$err|$(head -1 "$work/.out")"
     rm -f blank
     truncate -s 256M blank
-    run trial --verbose 7 blank
+    run trial --verbose 1 blank
     same 'a trial with --verbose, without a terminal' '0|same blocks|yes|yes' "$status|$(tail -1 "$work/.out")|$(told 'blank is overwritten from now on.')|$(
-        told 'begin again. The trial went well.')"
+        told 'begin again. The trial went well. A ReiserFS volume with 1 file was made at blank')"
     rm -f blank
+    told_trial_of_device
+}
+
+# what is left on a device is no file to remove
+told_trial_of_device() {
+    local device
+    truncate -s 256M blank
+    if ! device=$(losetup --find --show blank 2>/dev/null); then
+        echo 'skipped: a trial on a loop device, since this machine gives none'
+        return
+    fi
+    run trial --verbose 7 "$device"
+    same 'a trial on a device' '0|same blocks|yes|0' "$status|$(tail -1 "$work/.out")|$(
+        told "When you are done with it, or before another trial, take away what tells of the volume ('wipefs -a $device'), or make a file system of yours on the device.")|$(
+        grep -c 'Remove the file' "$work/.err")"
+    wipefs -q -a "$device"
+    run trial 7 "$device"
+    same 'a trial on a device that was wiped as it was told' '0||same blocks' "$status|$err|$(tail -1 "$work/.out")"
+    losetup --detach "$device"
+    rm -f blank
+}
+
+# where space is missing, each command that is told has the options that were given
+told_options() {
+    local uuid=01234567-89ab-cdef-0123-456789abcdef given
+    given="--csum sha256 --no-datasum --uuid $uuid"
+    # shellcheck disable=SC2086
+    on_terminal convert --no-inline --label disk $given made
+    same 'the options of a convert without space' '6|yes|yes' "$status|$(
+        has "Nodes of another size may need less: 'reiserconv inspect --nodesize 4096 --no-inline --csum sha256 --no-datasum made' tells how much, and so does the same with 8192. If nodes of 4096 bytes suffice, 'reiserconv convert --nodesize 4096 --no-inline --label disk $given made' converts it.")|$(
+        has "Without '--no-inline' it may need less: 'reiserconv inspect --csum sha256 --no-datasum made' tells how much. If that suffices, 'reiserconv convert --label disk $given made' converts it.")"
+    # shellcheck disable=SC2086
+    on_terminal convert --label 'my disk' $given made
+    same 'the label of a convert without space, as a shell reads it' "6|1" "$status|$(
+        lines_of_terminal | grep -cxF "    reiserconv convert --nodesize 4096 --label my\\ disk $given made")"
 }
 
 # What to do if a command is interrupted is told once it begins to write, and so not where it is refused; with --verbose without a terminal too.

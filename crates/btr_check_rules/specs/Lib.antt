@@ -2,9 +2,11 @@ pub mod Files
 pub mod Groups
 pub mod Inodes
 pub mod Names
+pub mod Nodes
 pub mod Places
 pub mod Recount
 pub mod References
+pub mod RootFiles
 pub mod Sound
 pub mod Sums
 pub mod Trees

@@ -1,22 +1,44 @@
--- What a recount of a Btrfs volume finds: its chunks, its trees, and the data that its files refer to.
-use Rattle.std.specs.Prelude.{◌≡◌, ℕ, ◌+◌, ◌-◌, ◌%◌, ◌^◌, ◌==◌, nat_le, nat_lt, Bool, not, ◌&&◌, ◌||◌, bit_and, if◌then◌else◌, List, [], ◌∷◌, ◌++◌, filter, Option, Some, None, Contains}
-use Rattle.std.specs.List.{flat_map}
-use Rattle.btrfs_format.specs.declared.key.TheConstants.{EXTENT_DATA}
-use Rattle.btrfs_format.specs.declared.object.TheConstants.{FIRST_FREE_OBJECTID, FS_TREE}
+-- What a recount of a Btrfs volume finds: its chunks, its trees, and the data that its files refer to. Trees are walked as by
+-- every reader: a node that breaks a rule is not opened.
+use Rattle.std.specs.Prelude.{◌≡◌, ◌⊎◌, ℕ, ◌+◌, ◌-◌, ◌%◌, ◌^◌, ◌==◌, nat_le, nat_lt, Bool, true, false, not, ◌&&◌, ◌||◌, bit_and, if◌then◌else◌, List, [], ◌∷◌, ◌++◌, filter, map, Option, Some, None, All, AllPairs, Contains}
+use Rattle.std.specs.List.{flat_map, list_any}
+use Rattle.btrfs_format.specs.declared.key.TheConstants.{EXTENT_DATA, ROOT_ITEM}
+use Rattle.btrfs_format.specs.declared.object.TheConstants.{CHUNK_TREE, FIRST_FREE_OBJECTID, FS_TREE, ROOT_TREE}
 use Rattle.btr_reader.specs.outside.History.{Image}
 use Rattle.btr_reader.specs.btr_keys.FileExtent.{ContentValue, Inline, Regular, Prealloc, FileExtentValue, file_extent_of}
 use Rattle.btr_reader.specs.btr_keys.declared.file_extent.DiskRange.{DiskRange}
 use Rattle.btr_reader.specs.btr_node.Leaf.{Item}
 use Rattle.btr_reader.specs.btr_super.declared.superblock.Super.{Super}
-use Rattle.btr_reader.specs.btr_reader_walk.Events.{TreeItem, walk_events, nodes_in}
-use Rattle.btr_reader.specs.btr_reader_walk.Tree.{IsTree}
-use Rattle.btr_reader.specs.btr_reader_walk.Walks.{found}
+use Rattle.btr_reader.specs.btr_reader_walk.Events.{walk_events, nodes_in}
+use Rattle.btr_reader.specs.btr_reader_walk.Tree.{bare_item, leaf_items}
+use Rattle.btr_reader.specs.btr_reader_walk.declared.map.MapRange.{MapRange}
 use Rattle.btr_reader.specs.btr_reader_walk.declared.tree.NodePointer.{NodePointer}
 use Rattle.btr_reader.specs.btr_reader_contents.Extents.{is_hole}
 use Rattle.btr_reader.specs.declared.chunk.ChunkAt.{ChunkAt}
-use Rattle.btr_reader.specs.Chunks.{chunk_in}
-use Rattle.btr_reader.specs.Opening.{form_of, root_tree, chunk_map}
-use Rattle.btr_reader.specs.Roots.{root_item, pointer_of}
+use Rattle.btr_reader.specs.Chunks.{chunk_in, range_of}
+use Rattle.btr_reader.specs.Opening.{form_of, chunk_tree, root_tree, chunk_map, boot_chunks, boot_list}
+use Rattle.btr_reader.specs.Parts.{own_super}
+use Rattle.btr_reader.specs.Roots.{pointer_of}
+
+-- ---- what stands at an address
+
+-- P holds of each of these that stands at an address, or has a number
+abbrev pub EachAt : {A : Type 0} → (A → ℕ) → ℕ → (A → Type 0) → List A → Type 0
+EachAt at a P xs = All (λ x. at x ≡ a → P x) xs
+
+-- P holds of each two of these of which one stands there, in their order
+abbrev pub PairsAt : {A : Type 0} → (A → ℕ) → ℕ → (A → A → Type 0) → List A → Type 0
+PairsAt at a P xs = AllPairs (λ x y. (at x ≡ a) ⊎ (at y ≡ a) → P x y) xs
+
+-- the number of the object that an item belongs to
+abbrev pub object_of : Item → ℕ
+object_of i = i.0.objectid
+
+-- an item of a list has this key
+abbrev pub HasItem : List Item → ℕ → ℕ → ℕ → Type 0
+HasItem items objectid kind offset = (body : List ℕ) × Contains items (record { objectid = objectid; kind = kind; offset = offset }, body)
+
+-- ---- trees
 
 -- A tree: its number, the nodes that a walk meets, and its items.
 pub record TreeOn : Type 0 where
@@ -30,7 +52,7 @@ pub record Recount : Type 0 where
   pub chunks : List ChunkAt
   pub chunk_tree : TreeOn
   pub root_tree : TreeOn
-  -- the trees that have a root item
+  -- the trees that have a root item, in the order of these
   pub others : List TreeOn
 
 abbrev pub all_trees : Recount → List TreeOn
@@ -49,6 +71,10 @@ is_subvolume number = (number == FS_TREE) || (nat_le FIRST_FREE_OBJECTID number 
 
 abbrev pub file_trees : Recount → List TreeOn
 file_trees r = filter is_file_tree r.others
+
+-- there is a tree with this number
+abbrev pub has_tree : Recount → ℕ → Bool
+has_tree r number = list_any (λ t. t.number == number) r.others
 
 -- the items of the tree with a number, none where there is no such tree
 abbrev pub recounted_items : Recount → ℕ → List Item
@@ -71,65 +97,111 @@ added_chunk (Some (Some c)) = c ∷ []
 abbrev pub chunks_on : List ChunkAt → List Item → List ChunkAt
 chunks_on boot items = boot ++ flat_map (λ i. added_chunk (chunk_in boot i.0 i.1)) items
 
--- a tree, as it is found by the map of addresses under this root
-pub record IsTreeOn (image : Image) (s : Super) (root : NodePointer) (t : TreeOn) : Type 0 where
-  pub items_are : IsTree image (chunk_map image s) (form_of s) root t.number t.items
-  pub nodes_are : nodes_in (walk_events image (chunk_map image s) (form_of s) root t.number) ≡ t.nodes
+-- the tree with this number under a root, as a walk finds it, whether anything is wrong with it or not
+abbrev pub tree_on : Image → Super → ℕ → NodePointer → TreeOn
+tree_on image s number root = record {
+  number = number;
+  nodes = nodes_in (walk_events image (chunk_map image s) (form_of s) root number);
+  items = map bare_item (leaf_items image (chunk_map image s) (form_of s) root number);
+}
 
--- the items of the root tree, each with its leaf
-abbrev pub root_items_on : Image → Super → List TreeItem
-root_items_on image s = found image (chunk_map image s) (root_tree s)
-
--- a tree is found under the last of its root items
-pub record IsRooted (image : Image) (s : Super) (t : TreeOn) : Type 0 where
-  pub item : TreeItem
+-- A root: the number of its tree, and what leads to it.
+pub record RootOn : Type 0 where
+  pub number : ℕ
   pub pointer : NodePointer
-  pub last : root_item t.number (root_items_on image s) ≡ Some item
-  pub pointer_is : pointer_of item.body ≡ Some pointer
-  pub tree : IsTreeOn image s pointer t
 
--- A regular file extent: where its disk extent lies, in bytes, and which reference to that it is. The offset of a reference is
--- where in the file the disk extent would begin, as a number of 64 bits.
+-- the root that a root item leads to; there is none where its body is off the grammar, or no tree has so many levels
+abbrev pub root_by : Item → Option NodePointer → List RootOn
+root_by i None = []
+root_by i (Some pointer) = record { number = i.0.objectid; pointer = pointer } ∷ []
+
+abbrev pub roots_in : List Item → List RootOn
+roots_in items = flat_map (λ i. root_by i (pointer_of i.1)) (of_kind ROOT_ITEM items)
+
+-- The recount of the volume with this superblock. It is a function of the blocks, whether the volume is sound or not.
+abbrev pub recount_of : Image → Super → TreeOn → TreeOn → Recount
+recount_of image s chunks roots = record {
+  super = s;
+  chunks = chunks_on (boot_list (boot_chunks s)) chunks.items;
+  chunk_tree = chunks;
+  root_tree = roots;
+  others = map (λ x. tree_on image s x.number x.pointer) (roots_in roots.items);
+}
+
+abbrev pub recount_by : Image → Super → Recount
+recount_by image s = recount_of image s (tree_on image s CHUNK_TREE (chunk_tree s).root) (tree_on image s ROOT_TREE (root_tree s).root)
+
+abbrev pub recount : Image → Recount
+recount image = recount_by image (own_super image)
+
+-- the roots of all trees
+abbrev pub all_roots : Recount → List RootOn
+all_roots r =
+    record { number = CHUNK_TREE; pointer = (chunk_tree r.super).root }
+    ∷ (record { number = ROOT_TREE; pointer = (root_tree r.super).root } ∷ roots_in r.root_tree.items)
+
+-- the map of addresses by the chunks
+abbrev pub map_of : Recount → List MapRange
+map_of r = map range_of r.chunks
+
+-- ---- data
+
+-- A file extent with a place on the disk: where its disk extent lies, in bytes, and which reference to that it is. The offset of
+-- a reference is where in the file the disk extent would begin, as a number of 64 bits. Then the part of the disk extent that the
+-- file extent has, which is told by the bytes in memory; its compression; and whether the bytes were written, or only laid out.
 pub record DataUse : Type 0 where
   pub start : ℕ
   pub length : ℕ
   pub tree : ℕ
   pub inode : ℕ
   pub offset : ℕ
+  pub part : ℕ
+  pub part_length : ℕ
+  pub compression : ℕ
+  pub written : Bool
 
-abbrev pub use_of : ℕ → Item → DiskRange → DataUse
-use_of tree i d = record {
+abbrev pub use_of : ℕ → Item → ℕ → Bool → DiskRange → DataUse
+use_of tree i compression written d = record {
   start = d.disk_bytenr;
   length = d.disk_num_bytes;
   tree = tree;
   inode = i.0.objectid;
   offset = (i.0.offset + (2 ^ 64 - d.offset)) % 2 ^ 64;
+  part = d.offset;
+  part_length = d.num_bytes;
+  compression = compression;
+  written = written;
 }
 
-abbrev pub use_by : ℕ → Item → ContentValue → List DataUse
-use_by tree i (Inline bytes) = []
-use_by tree i (Regular d) = if is_hole d then [] else use_of tree i d ∷ []
-use_by tree i (Prealloc d) = []
+abbrev pub use_by : ℕ → Item → ℕ → ContentValue → List DataUse
+use_by tree i compression (Inline bytes) = []
+use_by tree i compression (Regular d) = if is_hole d then [] else use_of tree i compression true d ∷ []
+use_by tree i compression (Prealloc d) = if is_hole d then [] else use_of tree i compression false d ∷ []
 
 abbrev pub use_in : ℕ → Item → Option FileExtentValue → List DataUse
 use_in tree i None = []
-use_in tree i (Some e) = use_by tree i e.content
+use_in tree i (Some e) = use_by tree i e.compression e.content
 
 abbrev pub uses_in : TreeOn → List DataUse
 uses_in t = flat_map (λ i. if i.0.kind == EXTENT_DATA then use_in t.number i (file_extent_of i.1) else []) t.items
 
--- all regular file extents of all trees
+-- all of all trees; the root tree has some where there is an old free space cache
 abbrev pub data_uses : Recount → List DataUse
 data_uses r = flat_map uses_in (all_trees r)
+
+-- ---- ranges of addresses
 
 -- A range of addresses that is taken, in bytes.
 pub record Span : Type 0 where
   pub start : ℕ
   pub length : ℕ
 
+abbrev pub span_of : DataUse → Span
+span_of u = record { start = u.start; length = u.length }
+
 -- one of the disk ranges of file extents
 abbrev pub IsData : Recount → Span → Type 0
-IsData r span = (u : DataUse) × Contains (data_uses r) u × (span ≡ record { start = u.start; length = u.length })
+IsData r span = (u : DataUse) × Contains (data_uses r) u × (span ≡ span_of u)
 
 -- a node of the tree
 abbrev pub IsNodeOf : Recount → TreeOn → Span → Type 0

@@ -1,19 +1,66 @@
--- Part 1: every tree is there, and its root item and its nodes keep the rules of Linux.
-use Rattle.std.specs.Prelude.{◌≡◌, ◌≢◌, ◌⊎◌, ◌≤◌, ◌<◌, ℕ, ◌%◌, ◌==◌, Some, true, List, [], ◌∷◌, All, AllPairs, Contains}
-use Rattle.std.specs.List.{list_any}
-use Rattle.btrfs_format.specs.declared.flag.TheConstants.{ROOT_SUBVOL_RDONLY}
-use Rattle.btrfs_format.specs.declared.key.TheConstants.{ROOT_ITEM}
-use Rattle.btrfs_format.specs.declared.object.TheConstants.{CHUNK_TREE, CSUM_TREE, DATA_RELOC_TREE, DEV_TREE, EXTENT_TREE, FIRST_FREE_OBJECTID, FS_TREE, ROOT_TREE, TREE_RELOC}
+-- Part 1: every tree is there, and its root item, its nodes and the superblock keep the rules of Linux. It fails at a
+-- node, at the number of a tree where that has none, or at the address of the superblock.
+use Rattle.std.specs.Prelude.{◌≡◌, ◌≢◌, ◌⊎◌, ◌≤◌, ◌<◌, ◌↔◌, ℕ, ◌+◌, ◌%◌, ◌==◌, ◌||◌, Bool, true, if◌then◌else◌, Option, Some, None, List, [], ◌∷◌, filter, All, Contains}
+use Rattle.std.specs.List.{flat_map, list_any}
+use Rattle.btrfs_format.specs.declared.block.TheConstants.{SUPER_INFO_OFFSET}
+use Rattle.btrfs_format.specs.declared.flag.TheConstants.{BLOCK_GROUP_DUP, ROOT_SUBVOL_RDONLY}
+use Rattle.btrfs_format.specs.declared.key.TheConstants.{ROOT_BACKREF, ROOT_ITEM, ROOT_REF}
+use Rattle.btrfs_format.specs.declared.object.TheConstants.{CSUM_TREE, DATA_RELOC_TREE, DEV_TREE, EXTENT_TREE, FIRST_FREE_OBJECTID, FS_TREE, ROOT_TREE, TREE_RELOC}
+use Rattle.btrfs_format.specs.declared.size.TheConstants.{SYSTEM_CHUNK_SIZE}
 use Rattle.btr_reader.specs.outside.History.{Image}
+use Rattle.btr_reader.specs.refusals.declared.refusal.BtrRefusal.{BtrRefusal}
+use Rattle.btr_reader.specs.refusals.declared.refusal.BtrRefusal.TheVariants.{BadBtrfs, LogPending, Unsupported}
 use Rattle.btr_reader.specs.btr_node.Leaf.{Item}
-use Rattle.btr_reader.specs.btr_reader_names.Roots.{has_root}
-use Rattle.btr_reader.specs.Chunks.{system_kind}
-use Rattle.btr_reader.specs.Opening.{IsBtrfsOpened, chunk_tree, root_tree, chunk_map, boot_chunks, boot_list}
+use Rattle.btr_reader.specs.btr_reader_walk.Tree.{tree_refusals}
+use Rattle.btr_reader.specs.Chunks.{is_chunk_key, placed_chunk, system_kind}
+use Rattle.btr_reader.specs.Opening.{boot_chunks, boot_list, chunk_map, form_of}
 use Rattle.btr_reader.specs.btr_space_items.RootItem.{root_item_of}
 use Rattle.btr_reader.specs.btr_space_items.declared.root_item.RootItem.{RootItem}
 use Rattle.btr_reader.specs.btr_super.declared.superblock.Super.{Super}
 use Rattle.btr_reader.specs.declared.chunk.ChunkAt.{ChunkAt}
-use Rattle.btr_check_rules.specs.Recount.{Recount, IsTreeOn, IsRooted, root_items_on, chunks_on, holds_files, is_subvolume, of_kind, all_trees}
+use Rattle.btr_check_rules.specs.Nodes.{KeepsNodes}
+use Rattle.btr_check_rules.specs.Recount.{Recount, RootOn, EachAt, PairsAt, all_roots, all_trees, file_trees, has_tree, holds_files, is_subvolume, object_of, of_kind}
+use Rattle.btr_check_rules.specs.RootFiles.{AreRootFiles}
+
+-- ---- what every reader asks of trees
+
+-- where something is wrong
+abbrev pub refused_at : BtrRefusal → ℕ
+refused_at (BadBtrfs address rule) = address
+refused_at (LogPending address) = address
+refused_at (Unsupported feature value) = SUPER_INFO_OFFSET
+
+-- nothing is wrong there with the nodes of a tree, nor with the order of its keys
+abbrev pub IsSoundAt : Image → Recount → ℕ → RootOn → Type 0
+IsSoundAt image r a x = All (λ fault. refused_at fault ≢ a) (tree_refusals image (chunk_map image r.super) (form_of r.super) x.pointer x.number)
+
+-- ---- the superblock
+
+-- Its fields beside those that every reader looks at (btrfs_validate_super).
+pub record KeepsSuper (s : Super) : Type 0 where
+  pub flags : s.flags < 4
+  pub roots : (s.root % 4096 ≡ 0) × (s.chunk_root % 4096 ≡ 0)
+  pub sizes : (s.leafsize ≡ s.nodesize) × (s.stripesize ≡ 4096)
+  pub array : SYSTEM_CHUNK_SIZE ≤ s.sys_chunk_array_size
+  pub some : s.total_bytes ≢ 0
+  pub generation : s.chunk_root_generation ≤ s.generation
+
+abbrev pub is_system : ChunkAt → Bool
+is_system c = (c.chunk.kind == system_kind) || (c.chunk.kind == system_kind + BLOCK_GROUP_DUP)
+
+abbrev pub chunk_by : Option ChunkAt → List ChunkAt
+chunk_by None = []
+chunk_by (Some c) = c ∷ []
+
+-- the system chunks of the chunk tree
+abbrev pub system_chunks : List Item → List ChunkAt
+system_chunks items = filter is_system (flat_map (λ i. chunk_by (placed_chunk i.0.offset i.1)) (filter (λ i. is_chunk_key i.0) items))
+
+-- The bootstrap array has the system chunks as the chunk tree has them, and no others (btrfs_read_sys_array).
+abbrev pub IsArray : Recount → Type 0
+IsArray r = (c : ChunkAt) → Contains (boot_list (boot_chunks r.super)) c ↔ Contains (system_chunks r.chunk_tree.items) c
+
+-- ---- trees
 
 -- the trees without which Linux mounts no volume (btrfs_read_roots)
 abbrev pub needed_trees : List ℕ
@@ -33,25 +80,25 @@ pub record IsRootItem (s : Super) (i : Item) : Type 0 where
   pub place : (i.0.offset ≡ 0) ⊎ (is_subvolume i.0.objectid ≡ true)
   pub files : holds_files i.0.objectid ≡ true → (root.refs ≡ 1) × (root.root_dirid ≡ FIRST_FREE_OBJECTID)
 
-pub record KeepTreeRules (r : Recount) : Type 0 where
-  pub needed : All (λ number. list_any (λ t. t.number == number) r.others ≡ true) needed_trees
-  pub root_items : All (IsRootItem r.super) (of_kind ROOT_ITEM r.root_tree.items)
-  -- a tree has one root item
-  pub root_once : AllPairs (λ i j. i.0.objectid ≢ j.0.objectid) (of_kind ROOT_ITEM r.root_tree.items)
-  -- no node is newer than the superblock (`btrfs check`)
-  pub generations : All (λ t. All (λ p. p.generation ≤ r.super.generation) t.nodes) (all_trees r)
+-- A reference between two trees is told by a tree of files that is there (check_root_refs of `btrfs check`): a root ref by the tree
+-- that it stands under, a root backref by the one that it names.
+abbrev pub is_root_ref : Item → Bool
+is_root_ref i = (i.0.kind == ROOT_REF) || (i.0.kind == ROOT_BACKREF)
 
--- The chunk tree, the root tree and each tree with a root item have their items, and the bootstrap array holds the system
--- chunks.
-pub record AreTrees (image : Image) (r : Recount) : Type 0 where
-  pub opened : IsBtrfsOpened image r.super (chunk_map image r.super)
-  pub chunk_number : r.chunk_tree.number ≡ CHUNK_TREE
-  pub chunk_tree_is : IsTreeOn image r.super (chunk_tree r.super).root r.chunk_tree
-  pub root_number : r.root_tree.number ≡ ROOT_TREE
-  pub root_tree_is : IsTreeOn image r.super (root_tree r.super).root r.root_tree
-  pub rooted : All (IsRooted image r.super) r.others
-  pub once : AllPairs (λ t u. t.number < u.number) r.others
-  pub each : (number : ℕ) → list_any (λ t. t.number == number) r.others ≡ has_root (root_items_on image r.super) number
-  pub chunks_are : r.chunks ≡ chunks_on (boot_list (boot_chunks r.super)) r.chunk_tree.items
-  pub boot : (c : ChunkAt) → Contains r.chunks c → c.chunk.kind ≡ system_kind → Contains (boot_list (boot_chunks r.super)) c
-  pub rules : KeepTreeRules r
+abbrev pub referring : Item → ℕ
+referring i = if i.0.kind == ROOT_REF then i.0.objectid else i.0.offset
+
+-- ---- the part
+
+-- What part 1 asks at an address or at a number.
+pub record KeepsTrees (image : Image) (r : Recount) (a : ℕ) : Type 0 where
+  pub sound : All (IsSoundAt image r a) (all_roots r)
+  pub nodes : All (KeepsNodes image r a) (all_trees r)
+  pub needed : All (λ number. number ≡ a → has_tree r number ≡ true) needed_trees
+  pub root_items : EachAt object_of a (IsRootItem r.super) (of_kind ROOT_ITEM r.root_tree.items)
+  -- a tree has one root item
+  pub root_once : PairsAt object_of a (λ i j. i.0.objectid ≢ j.0.objectid) (of_kind ROOT_ITEM r.root_tree.items)
+  pub root_refs : EachAt referring a (λ i. list_any (λ t. t.number == referring i) (file_trees r) ≡ true) (filter is_root_ref r.root_tree.items)
+  pub root_files : a ≡ ROOT_TREE → AreRootFiles r
+  pub super : a ≡ SUPER_INFO_OFFSET → KeepsSuper r.super
+  pub array : a ≡ SUPER_INFO_OFFSET → IsArray r

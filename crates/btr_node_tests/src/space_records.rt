@@ -3,7 +3,7 @@
 use btr_keys::{Inode, Key, Stamp};
 use btr_space_items::{
     BlockGroup, Chunk, DevExtent, Device, ExtentHead, InlineRef, InlineRefs, RootItem, RootRef,
-    Stripe,
+    Stripe, extent_body_size, write_extent_body,
 };
 use btrfs_format::object::{CHUNK_TREE, FIRST_CHUNK_TREE_OBJECTID};
 use std::test::Fail;
@@ -61,6 +61,13 @@ const METADATA: [u8; 33] = [
     0x01, 0x00, 0x00, 0x00, 0x00, 0x00, 0x00, 0x00, 0x05, 0x00, 0x00, 0x00, 0x00, 0x00, 0x00, 0x00,
     0x02, 0x00, 0x00, 0x00, 0x00, 0x00, 0x00, 0x00, 0xb0, 0x03, 0x00, 0x00, 0x00, 0x00, 0x00, 0x00,
     0x00,
+];
+
+/// The item of an extent of two references by parents, a node and a leaf, as the structures of Linux have them.
+const SHARED: [u8; 46] = [
+    0x04, 0x00, 0x00, 0x00, 0x00, 0x00, 0x00, 0x00, 0x09, 0x00, 0x00, 0x00, 0x00, 0x00, 0x00, 0x00,
+    0x01, 0x00, 0x00, 0x00, 0x00, 0x00, 0x00, 0x00, 0xb6, 0x00, 0x80, 0xd2, 0x01, 0x00, 0x00, 0x00,
+    0x00, 0xb8, 0x00, 0x00, 0xd0, 0x01, 0x00, 0x00, 0x00, 0x00, 0x03, 0x00, 0x00, 0x00,
 ];
 
 /// A block group of data.
@@ -226,6 +233,27 @@ fn metadata_extent(rt: HostRuntime) -> Result<(), Fail> {
     assert_eq!(rt; written.as_slice(), &METADATA[24..]);
     let none = InlineRefs::read(&[]).ok_or("no reference")?;
     assert!(rt; none.is_empty());
+    Ok(())
+}
+
+#[test]
+fn shared_references(rt: HostRuntime) -> Result<(), Fail> {
+    let refs = [
+        InlineRef::SharedBlock { parent: 30572544 },
+        InlineRef::SharedData {
+            parent: 30408704,
+            count: 3,
+        },
+    ];
+    let mut body = [0; 46];
+    assert_eq!(rt; extent_body_size(&refs), body.len());
+    write_extent_body(9, 1, &refs, &mut body);
+    assert_eq!(rt; body, SHARED);
+    let found = InlineRefs::read(&body[24..]).ok_or("references")?;
+    assert_eq!(rt; found.len(), 2);
+    assert_eq!(rt; found.get(0), refs[0]);
+    assert_eq!(rt; found.get(1), refs[1]);
+    assert!(rt; InlineRefs::read(&body[24..45]).is_none());
     Ok(())
 }
 

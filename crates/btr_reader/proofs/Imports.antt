@@ -19,10 +19,10 @@ pub use Rattle.btr_reader.specs.Image.{ImageFile, after_pointer, after_root, blo
 pub use Rattle.btr_reader.specs.Laws.{AreRangesApart, BtrfsRowsAreOne, FitsArray, ItemsDecideBtrfsRows, SameExtents, array_entry, unplaced}
 pub use Rattle.btr_reader.specs.Made.{IsChecked, IsMemory, IsReadTree, RefusesChecked, RefusesRows, RefusesTree, bytes_at, kind_by_inode, made_inode, own_at, row_by}
 unfoldable pub use Rattle.btr_reader.specs.Made.{made_row}
-pub use Rattle.btr_reader.specs.Opening.{IsAmong, IsBadArray, IsBtrfsOpened, IsSuperAnswer, IsSuperInBounds, NamesNoLogTree, boot_chunks, boot_list, boot_refusals, chunk_map, chunk_tree, map_from, or_later, refusals_after, root_tree, super_on, tree_of, trees_refusals}
+pub use Rattle.btr_reader.specs.Opening.{IsAmong, IsBadArray, IsBtrfsOpened, IsSuperAnswer, IsSuperInBounds, boot_chunks, boot_list, boot_refusals, chunk_map, chunk_tree, map_from, or_later, refusals_after, root_tree, super_on, tree_of, trees_refusals}
 unfoldable pub use Rattle.btr_reader.specs.Opening.{opening_refusals}
 pub use Rattle.btr_reader.specs.Parts.{AreRowsOfBtrfs, HasBtrfsRows, IsBtrfsRefusal, IsRowsRefusal, ListsBtrfs, Opening, Part, RefusesBtrfsRows, SavedImage, Superblock, has_log, log_of, log_tree, own_map, own_super, unreadable, way_refusals}
-pub use Rattle.btr_reader.specs.Pieces.{AreGatheredInOrder, GathersExtents, MapsImage, any_inline, block_in, holds_block, or_else, pieces_of, pieces_place, range_piece, range_pieces}
+pub use Rattle.btr_reader.specs.Pieces.{AreGatheredInOrder, GathersExtents, MapsImage, TellsExtents, any_inline, block_in, holds_block, or_else, pieces_of, pieces_place, range_piece, range_pieces}
 pub use Rattle.btr_reader.specs.Reading.{FindsFile, FindsNumbered, FindsSaved, FindsTree, ReadsImage}
 pub use Rattle.btr_reader.specs.Roots.{HasRoots, TellsRoot, found_root, last_or, pointer_of, root_item}
 pub use Rattle.btr_reader.specs.Rows.{AreBtrfsRows, AreRows, BreaksExtents, CanBeRead, IsFileTreeRefusal, IsInodeRow, IsLeastPath, IsRowOf, IsTreeRow, bad_extents, bad_names, bad_root_item, bad_tree, no_root_item, roots_on, subvolume_row, top}
@@ -37,7 +37,7 @@ pub use Rattle.btr_reader_contents.specs.Contents.{HasContents, RefusesContents,
 pub use Rattle.btr_reader_contents.specs.Extents.{at_unmapped, byte_from, byte_of_place, bytes_of_inode, content_byte, covered_after, covered_by, covers, end_after, extent_length, extent_refusals, extents_covered, extents_end, extents_of, extents_refusals, file_byte, has_form, is_aligned, is_extent_key, is_extent_of, is_hole, place_refusals, range_is_aligned, refusals_at, refused_unless, unmapped_in}
 pub use Rattle.btr_reader_contents.specs.declared.wanted.Wanted.{Wanted}
 pub use Rattle.btr_reader_names.proofs.Seeing.{closed_more, none_seen}
-pub use Rattle.btr_reader_names.specs.Inodes.{HasKind, IsDirectoryInode, TellsInode, find_inode_item, first_item, inode_on, is_inode_of, kind_of_mode}
+pub use Rattle.btr_reader_names.specs.Inodes.{HasKind, IsDirectoryInode, TellsInode, find_inode_item, inode_on, is_inode_of, kind_of_mode}
 pub use Rattle.btr_reader_names.specs.Links.{IsNamedInode, LeadsToTarget, NamesTarget, Target, dir_indexes, entry, followed, index_entry, inode, is_followed, is_index, naming_at, naming_of, own_naming, root, tree}
 pub use Rattle.btr_reader_names.specs.Passes.{BlamesTwice, DifferInName, HasSeen}
 pub use Rattle.btr_reader_names.specs.Roots.{has_root, is_root_of}
@@ -66,7 +66,7 @@ pub use Rattle.btr_reader_walk.specs.outside.History.{Image, block_at}
 pub use Rattle.btr_reader_walk.specs.refusals.declared.answer.BtrAnswer.{BtrAnswer}
 pub use Rattle.btr_reader_walk.specs.refusals.declared.answer.BtrAnswer.TheVariants.{Fault, Memory, Refused}
 pub use Rattle.btr_reader_walk.specs.refusals.declared.refusal.BtrRefusal.{BtrRefusal}
-pub use Rattle.btr_reader_walk.specs.refusals.declared.refusal.BtrRefusal.TheVariants.{BadBtrfs, Unsupported}
+pub use Rattle.btr_reader_walk.specs.refusals.declared.refusal.BtrRefusal.TheVariants.{BadBtrfs, LogPending, Unsupported}
 pub use Rattle.btr_reader_walk.specs.refusals.declared.rule.BtrRule.TheVariants.{Body, ChunkForm, ExtentForm, NameForm, NoInode, SuperCsum, SuperField, Unmapped}
 pub use Rattle.btr_reader_walk.specs.refusals.declared.rule.Feature.TheVariants.{ChecksumType, ChunkType, Compression, DeviceCount, Encryption, Incompat, NodeSize, SectorSize}
 pub use Rattle.btr_reader_walk.specs.vol_block.Format.{format, has_bytes_at}

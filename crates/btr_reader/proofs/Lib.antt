@@ -21,6 +21,7 @@ pub mod MapBlocks
 pub mod NoLogs
 pub mod Nodes
 pub mod NotedRoots
+pub mod Noting
 pub mod OneExtent
 pub mod OneRows
 pub mod Opens

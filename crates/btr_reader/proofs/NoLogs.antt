@@ -1,5 +1,5 @@
 -- Refusals that name no log tree.
-use Rattle.btr_reader.proofs.Imports.{◌==◌, ℕ, zero, suc, ◌+◌, ◌/◌, Bool, true, false, cond, List, [], ◌∷◌, ◌++◌, Contains, Option, Some, None, All, All-nil, All-cons, All-append, All-contains, BtrRefusal, BadBtrfs, Unsupported, ExtentForm, Compression, Encryption, ContentValue, Inline, Regular, Prealloc, FileExtentValue, NamesNoLog, MapRange, place, refused_unless, at_unmapped, unmapped_in, place_refusals, has_form, is_hole, extent_refusals}
+use Rattle.btr_reader.proofs.Imports.{◌≡◌, refl, ◌==◌, ℕ, zero, suc, ◌+◌, ◌/◌, Bool, true, false, cond, List, [], ◌∷◌, ◌++◌, Contains, Option, Some, None, All, All-nil, All-cons, All-append, All-contains, BtrRefusal, BadBtrfs, LogPending, Unsupported, ExtentForm, Compression, Encryption, ContentValue, Inline, Regular, Prealloc, FileExtentValue, NamesNoLog, MapRange, place, refused_unless, at_unmapped, unmapped_in, place_refusals, has_form, is_hole, extent_refusals}
 
 abbrev NoneNamesLog : List BtrRefusal → Type 0
 NoneNamesLog rs = All NamesNoLog rs
@@ -42,3 +42,14 @@ of_extent ranges end covered offset leaf e r among =
     let unencrypted = both (refused_unless (e.encryption == 0) (Unsupported Encryption e.encryption)) _ (by_test (e.encryption == 0) (Unsupported Encryption e.encryption) tt) formed in
     let all = both (refused_unless (e.compression == 0) (Unsupported Compression e.compression)) _ (by_test (e.compression == 0) (Unsupported Compression e.compression) tt) unencrypted in
     All-contains NamesNoLog (extent_refusals ranges end covered offset leaf e) r all among
+
+-- the same as what a refusal is not
+pub names_none : (r : BtrRefusal) → NamesNoLog r → (address : ℕ) → ¬ (Some r ≡ Some (LogPending address))
+names_none (BadBtrfs at rule) h address is = cc is
+names_none (Unsupported feature value) h address is = cc is
+names_none (LogPending at) h address is = h
+
+pub none_named : (r : BtrRefusal) → ((address : ℕ) → ¬ (Some r ≡ Some (LogPending address))) → NamesNoLog r
+none_named (BadBtrfs at rule) h = tt
+none_named (Unsupported feature value) h = tt
+none_named (LogPending at) h = absurd (h at refl)

@@ -1,7 +1,7 @@
 -- The steps on the way to the saved image.
-use Rattle.btr_reader.proofs.Imports.{◌≡◌, ⊎_elim, ℕ, true, List, [], ◌∷◌, ◌++◌, length, codes, if◌then◌else◌, Option, Some, None, Result, Ok, Err, refl, sym, ◌∙◌, ap, subst, arith, option_and_then, FS_TREE, Image, BtrAnswer, Refused, Fault, Memory, BtrRefusal, BadBtrfs, Body, inode_of, Inode, Key, Super, MapRange, NodePointer, Tree, TreeItem, found, wrong, Gathered, extents_of, extents_refusals, ImageFile, is_file_mode, is_called, entry_named, image_entry, saved_location, pointer_in, tree_number, inode_number, file_if_image, image_at, image_in, items_at, image_below, saved_image, entry_refusals, after_pointer, after_root, if_there, own_refusals, file_refusals, image_refusals_in, refusals_below, saved_refusals, image_refusals, find_inode_item, dir_indexes, ChunkAt, tree_of, root_tree, boot_chunks, boot_list, boot_refusals, map_from, or_later, trees_refusals, IsBtrfsOpened, IsAmong, GathersExtents, MapsImage, FindsTree, FindsNumbered, FindsSaved, FindsFile, ReadsImage, root_item, pointer_of, roots_on}
+use Rattle.btr_reader.proofs.Imports.{◌≡◌, ⊎_elim, ℕ, true, List, [], ◌∷◌, ◌++◌, length, codes, if◌then◌else◌, Option, Some, None, Result, Ok, Err, refl, sym, ◌∙◌, ap, subst, arith, option_and_then, FS_TREE, Image, BtrAnswer, Refused, Fault, Memory, BtrRefusal, BadBtrfs, Body, inode_of, Inode, Key, Super, MapRange, NodePointer, Tree, TreeItem, found, wrong, extents_of, extents_refusals, ImageFile, is_file_mode, is_called, entry_named, image_entry, saved_location, pointer_in, tree_number, inode_number, file_if_image, image_at, image_in, items_at, image_below, saved_image, entry_refusals, after_pointer, after_root, if_there, own_refusals, file_refusals, image_refusals_in, refusals_below, saved_refusals, image_refusals, find_inode_item, dir_indexes, ChunkAt, tree_of, root_tree, boot_chunks, boot_list, boot_refusals, map_from, or_later, trees_refusals, IsBtrfsOpened, IsAmong, MapsImage, FindsTree, FindsNumbered, FindsSaved, FindsFile, ReadsImage, root_item, pointer_of, roots_on}
 use Rattle.btr_reader.specs.declared.image_map.ImageMap.{ImageMap}
-use Rattle.btr_reader.proofs.Among.{among_none, among_first, among_later}
+use Rattle.btr_reader.proofs.Among.{among_first, among_later}
 use Rattle.btr_reader.proofs.Opens.{opening_is}
 
 -- the same answer, of the same image and refusals
@@ -10,14 +10,8 @@ reads_as : (ranges : List MapRange) (file other : Option ImageFile) (refusals ot
 reads_as ranges file other refusals others result is same reads =
     subst (λ (z : List BtrRefusal). ReadsImage ranges other z result) same (subst (λ (f : Option ImageFile). ReadsImage ranges f refusals result) is reads)
 
--- a walk of a tree with which nothing is wrong is not refused
-pub walk_refused : (image : Image) (ranges slice : List MapRange) (tree : Tree) (others : List BtrRefusal) (e : BtrAnswer) → slice ≡ ranges → wrong image ranges tree ≡ [] → IsAmong (wrong image slice tree) e
-    → IsAmong others e
-walk_refused image ranges slice tree others e same sound bad =
-    among_none others e (subst (λ (z : List BtrRefusal). IsAmong z e) sound (subst (λ (r : List MapRange). IsAmong (wrong image r tree) e) same bad))
-
 -- an inode item that is off its grammar
-inode_off : (ranges : List MapRange) (items : List TreeItem) (ino : ℕ) (item : Option TreeItem) (e : BtrAnswer) → FindsFile item (Err e) → IsAmong (file_refusals ranges items ino item) e
+pub inode_off : (ranges : List MapRange) (items : List TreeItem) (ino : ℕ) (item : Option TreeItem) (e : BtrAnswer) → FindsFile item (Err e) → IsAmong (file_refusals ranges items ino item) e
 inode_off ranges items ino None (Refused r) finds = absurd finds
 inode_off ranges items ino None Fault finds = tt
 inode_off ranges items ino None Memory finds = tt
@@ -26,13 +20,6 @@ inode_off ranges items ino (Some i) (Refused r) (none, is) =
     (subst (λ (x : BtrRefusal). IsAmong (BadBtrfs i.leaf Body ∷ []) (Refused x)) (sym is) (0, omega arith, refl))
 inode_off ranges items ino (Some i) Fault finds = tt
 inode_off ranges items ino (Some i) Memory finds = tt
-
-pub inode_refused : (image : Image) (ranges slice : List MapRange) (tree : Tree) (items : List TreeItem) (ino : ℕ) (e : BtrAnswer) → slice ≡ ranges → found image ranges tree ≡ items
-    → FindsFile (find_inode_item (found image slice tree) ino) (Err e) → IsAmong (file_refusals ranges items ino (find_inode_item items ino)) e
-inode_refused image ranges slice tree items ino e same is finds =
-    let all : List TreeItem = found image ranges tree in
-    subst (λ (z : List TreeItem). IsAmong (file_refusals ranges z ino (find_inode_item z ino)) e) is
-    (inode_off ranges all ino (find_inode_item all ino) e (subst (λ (r : List MapRange). FindsFile (find_inode_item (found image r tree) ino) (Err e)) same finds))
 
 -- a root item that is off its grammar
 pub root_item_refused : (s : Super) (number : ℕ) (next : NodePointer → List BtrRefusal) (root : Option TreeItem) (e : BtrAnswer) → FindsTree s number root (Err e) → IsAmong (after_root next root) e
@@ -49,25 +36,13 @@ refusals_of_file ranges items ino i own read regular =
     let extents : List TreeItem = extents_of items ino in
     ap (own_refusals ranges extents i.leaf) read ∙ ap (λ t. if t then extents_refusals ranges 0 0 extents else []) regular
 
-among_file : (ranges : List MapRange) (items : List TreeItem) (ino : ℕ) (item : Option TreeItem) (own : Inode) (e : BtrAnswer) → FindsFile item (Ok (Some own))
+pub among_file : (ranges : List MapRange) (items : List TreeItem) (ino : ℕ) (item : Option TreeItem) (own : Inode) (e : BtrAnswer) → FindsFile item (Ok (Some own))
     → IsAmong (extents_refusals ranges 0 0 (extents_of items ino)) e → IsAmong (file_refusals ranges items ino item) e
 among_file ranges items ino None own e finds bad = absurd finds
 among_file ranges items ino (Some i) own e finds bad = subst (λ (z : List BtrRefusal). IsAmong z e) (sym (refusals_of_file ranges items ino i own finds.0 finds.1)) bad
 
-pub file_refused : (image : Image) (ranges slice : List MapRange) (tree : Tree) (items : List TreeItem) (ino : ℕ) (own : Inode) (e : BtrAnswer) → slice ≡ ranges → found image ranges tree ≡ items
-    → wrong image ranges tree ≡ [] → FindsFile (find_inode_item (found image slice tree) ino) (Ok (Some own))
-    → IsAmong (wrong image slice tree ++ extents_refusals slice 0 0 (extents_of (found image slice tree) ino)) e → IsAmong (file_refusals ranges items ino (find_inode_item items ino)) e
-file_refused image ranges slice tree items ino own e same is sound finds bad =
-    let all : List TreeItem = found image ranges tree in
-    let there : FindsFile (find_inode_item all ino) (Ok (Some own)) = subst (λ (r : List MapRange). FindsFile (find_inode_item (found image r tree) ino) (Ok (Some own))) same finds in
-    let here : IsAmong (wrong image ranges tree ++ extents_refusals ranges 0 0 (extents_of all ino)) e =
-    subst (λ (r : List MapRange). IsAmong (wrong image r tree ++ extents_refusals r 0 0 (extents_of (found image r tree) ino)) e) same bad in
-    subst (λ (z : List TreeItem). IsAmong (file_refusals ranges z ino (find_inode_item z ino)) e) is
-    (among_file ranges all ino (find_inode_item all ino) own e there
-    (subst (λ (z : List BtrRefusal). IsAmong (z ++ extents_refusals ranges 0 0 (extents_of all ino)) e) sound here))
-
 -- a map of a file is one of what its inode item gives
-file_maps : (ranges : List MapRange) (items : List TreeItem) (ino : ℕ) (item : Option TreeItem) (own : Inode) (map : Option ImageMap) → FindsFile item (Ok (Some own))
+pub file_maps : (ranges : List MapRange) (items : List TreeItem) (ino : ℕ) (item : Option TreeItem) (own : Inode) (map : Option ImageMap) → FindsFile item (Ok (Some own))
     → (is_file_mode own.mode ≡ true → MapsImage ranges map (file_if_image (extents_of items ino) (Some own))) → extents_refusals ranges 0 0 (extents_of items ino) ≡ []
     → MapsImage ranges map (image_at items ino item) × (file_refusals ranges items ino item ≡ [])
 file_maps ranges items ino None own map finds maps none = absurd finds
@@ -75,20 +50,6 @@ file_maps ranges items ino (Some i) own map finds maps none = (
   subst (λ (o : Option Inode). MapsImage ranges map (file_if_image (extents_of items ino) o)) (sym finds.0) (maps finds.1),
   refusals_of_file ranges items ino i own finds.0 finds.1 ∙ none,
 )
-
-pub file_read : (image : Image) (ranges slice : List MapRange) (tree : Tree) (items : List TreeItem) (ino : ℕ) (own : Inode) (g : Gathered) (map : Option ImageMap) → slice ≡ ranges
-    → found image ranges tree ≡ items → FindsFile (find_inode_item (found image slice tree) ino) (Ok (Some own)) → GathersExtents slice (extents_of (found image slice tree) ino) g
-    → ((extents : List TreeItem) → is_file_mode own.mode ≡ true → GathersExtents slice extents g → MapsImage slice map (file_if_image extents (Some own)))
-    → MapsImage ranges map (image_at items ino (find_inode_item items ino)) × (file_refusals ranges items ino (find_inode_item items ino) ≡ [])
-file_read image ranges slice tree items ino own g map same is finds gathers maps =
-    let all : List TreeItem = found image ranges tree in
-    let there : FindsFile (find_inode_item all ino) (Ok (Some own)) = subst (λ (r : List MapRange). FindsFile (find_inode_item (found image r tree) ino) (Ok (Some own))) same finds in
-    let gathered : GathersExtents ranges (extents_of all ino) g = subst (λ (r : List MapRange). GathersExtents r (extents_of (found image r tree) ino) g) same gathers in
-    let mapped : GathersExtents ranges (extents_of all ino) g → is_file_mode own.mode ≡ true → MapsImage ranges map (file_if_image (extents_of all ino) (Some own)) =
-    subst (λ (r : List MapRange). GathersExtents r (extents_of all ino) g → is_file_mode own.mode ≡ true → MapsImage r map (file_if_image (extents_of all ino) (Some own))) same
-    (λ k regular. maps (extents_of all ino) regular k) in
-    subst (λ (z : List TreeItem). MapsImage ranges map (image_at z ino (find_inode_item z ino)) × (file_refusals ranges z ino (find_inode_item z ino) ≡ [])) is
-    (file_maps ranges all ino (find_inode_item all ino) own map there (mapped gathered) gathered.sound)
 
 -- a tree that is there
 after_there : (next : NodePointer → List BtrRefusal) (root : Option TreeItem) (i : TreeItem) (p : NodePointer) → root ≡ Some i → pointer_of i.body ≡ Some p → after_root next root ≡ next p

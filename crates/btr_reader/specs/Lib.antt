@@ -14,6 +14,7 @@ pub use Rattle.btr_reader_walk.specs.vol_block as vol_block
 pub mod Apart
 pub mod Ascending
 pub mod Chunks
+pub mod FileNotes
 pub mod Image
 pub mod Laws
 pub mod Made

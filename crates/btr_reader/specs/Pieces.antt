@@ -1,5 +1,5 @@
 -- The saved image as a list of pieces.
-use Rattle.std.specs.Prelude.{◌≡◌, ℕ, ◌+◌, ◌-◌, ◌*◌, ◌/◌, ◌≤◌, All, nat_lt, nat_le, Bool, ◌&&◌, if◌then◌else◌, List, [], ◌∷◌, Option, Some, None}
+use Rattle.std.specs.Prelude.{◌≡◌, ℕ, ◌+◌, ◌-◌, ◌*◌, ◌/◌, ◌≤◌, All, nat_lt, nat_le, Bool, ◌&&◌, if◌then◌else◌, List, [], ◌∷◌, Option, Some, None, Contains}
 use Rattle.std.specs.List.{list_any}
 use Rattle.std.specs.Option.{option_map}
 use Rattle.btr_reader_walk.specs.btr_keys.FileExtent.{ContentValue, Inline, Regular, Prealloc, file_extent_of}
@@ -7,6 +7,7 @@ use Rattle.btr_reader_walk.specs.btr_keys.declared.file_extent.DiskRange.{DiskRa
 use Rattle.btr_reader_walk.specs.declared.map.MapRange.{MapRange}
 use Rattle.btr_reader_walk.specs.Map.{place}
 use Rattle.btr_reader_walk.specs.Events.{TreeItem}
+use Rattle.btr_reader_walk.specs.refusals.declared.refusal.BtrRefusal.{BtrRefusal}
 use Rattle.btr_reader.specs.declared.mapped_extent.MappedExtent.{MappedExtent}
 use Rattle.btr_reader.specs.declared.image_map.ImageMap.{ImageMap}
 use Rattle.btr_reader.specs.Ascending.{AscendApart}
@@ -59,6 +60,11 @@ pub record GathersExtents (ranges : List MapRange) (extents : List TreeItem) (g 
   pub covered : g.reach.covered ≡ extents_covered 0 extents
   pub inline : g.inline ≡ any_inline extents
   pub blocks : (b : ℕ) → pieces_place ranges g.pieces.items b ≡ file_block ranges extents b
+
+-- what is noted of these extents: what is wrong with one of them, or what was gathered of all
+abbrev pub TellsExtents : List MapRange → List TreeItem → Option BtrRefusal → Gathered → Type 0
+TellsExtents ranges extents None g = GathersExtents ranges extents g
+TellsExtents ranges extents (Some r) g = Contains (extents_refusals ranges 0 0 extents) r
 
 -- the place of block b by a map; none past its length
 abbrev pub map_place : ImageMap → ℕ → Option ℕ

@@ -92,24 +92,27 @@ fn seek_entry(
 
 /// The location of the first entry of inode 256 of a tree that is called so. The entries of that directory keep the rules
 /// of names: each has a name, its location is an inode or another tree, and no name is there twice. All items of the tree
-/// are noted by the way.
-pub fn find_entry<S: BlockSource, N: Notes>(
+/// are noted by the way, in both notes.
+pub fn find_entry<S: BlockSource, N: Notes, M: Notes>(
     alloc: Global,
     src: &mut S,
     tree: Tree,
     ranges: &[MapRange],
     name: &[u8],
     notes: &mut N,
+    others: &mut M,
 ) -> Result<Option<Key>, BtrAnswer>
     requires size { IsNodeSize tree.form.nodesize }
     requires high { tree.root.level ≤ 7 }
     requires inside { LieOn (S.size src.old) ranges.now }
     requires begun { N.holds notes.old notes.old [] }
+    requires begun_others { M.holds others.old others.old [] }
     ensures kept { S.kept src.old src.new }
     ensures cause { HasCauseOf BtrAnswer.Fault (S.faults src.old) (S.faults src.new) result }
     ensures known { IfErr result NamesNoLogTree }
     ensures entry { OverTold S.tells (S.blocks src.old) (λ image. IfOk result (λ o. o ≡ entry_named (is_called name.now) (dir_indexes (found image ranges.now tree)))) }
     ensures noted { OverTold S.tells (S.blocks src.old) (λ image. OnOk result (N.holds notes.old notes.new (found image ranges.now tree))) }
+    ensures noted_others { OverTold S.tells (S.blocks src.old) (λ image. OnOk result (M.holds others.old others.new (found image ranges.now tree))) }
     ensures ok { OverTold S.tells (S.blocks src.old) (λ image. OnOk result (entry_refusals image ranges.now tree ≡ [])) }
     ensures err { OverTold S.tells (S.blocks src.old) (λ image. IfErr result (IsAmong (entry_refusals image ranges.now tree))) }
 {
@@ -127,6 +130,7 @@ pub fn find_entry<S: BlockSource, N: Notes>(
             walker.leaf(),
         )?;
         notes.note(alloc, &walker.key(), walker.body(), walker.leaf())?;
+        others.note(alloc, &walker.key(), walker.body(), walker.leaf())?;
     }
     Ok(first)
 }

@@ -1,24 +1,17 @@
-ghost use Rattle.std.specs.Prelude.{◌≡◌, true, ◌≤◌, ◌<◌, ◌+◌, ◌^◌, ◌++◌, ◌∷◌, ◌||◌, [], List, IfErr, IfOk, OnOk};
-ghost use Rattle.btr_reader_walk.specs.outside.Fault.{HasCauseOf};
-ghost use Rattle.btr_reader_walk.specs.outside.History.{OverTold};
+ghost use Rattle.std.specs.Prelude.{◌≡◌, ◌≢◌, ℕ, Some, true, ◌≤◌, ◌<◌, ◌+◌, ◌^◌, ◌++◌, ◌∷◌, ◌||◌, [], List, IfOk, OnErr, OnOk};
+ghost use Rattle.btr_reader_walk.specs.refusals.declared.refusal.BtrRefusal.TheVariants.{LogPending};
 ghost use Rattle.btr_reader_walk.specs.btr_keys.FileExtent.{content_value};
-ghost use Rattle.btr_reader_walk.specs.btr_node.NodeSize.{IsNodeSize};
 ghost use Rattle.btr_reader_walk.specs.declared.map.MapRange.{MapRange as RangeOf};
 ghost use Rattle.btr_reader_walk.specs.Events.{TreeItem};
-ghost use Rattle.btr_reader_walk.specs.Walks.{LieOn, found, wrong};
-ghost use Rattle.btr_reader_contents.specs.Extents.{extent_length, covered_by, is_aligned, is_extent_key, extents_of, extents_refusals};
+ghost use Rattle.btr_reader_contents.specs.Extents.{extent_length, covered_by, is_aligned, is_extent_key, extents_of};
 ghost use Rattle.btr_reader.specs.Image.{content_is_inline};
-ghost use Rattle.btr_reader_names.specs.Refuses.{IsNoFault};
-ghost use Rattle.btr_reader.specs.Opening.{IsAmong, NamesNoLogTree};
-ghost use Rattle.btr_reader.specs.Pieces.{range_pieces, pieces_of, GathersExtents, AreGatheredInOrder};
+ghost use Rattle.btr_reader.specs.Pieces.{range_pieces, pieces_of, GathersExtents, AreGatheredInOrder, TellsExtents};
 
 use crate::gathered::Gathered;
 use crate::mapped_extent::MappedExtent;
-use crate::refusal::refused;
 use btr_reader_contents::{Reach, check_extent, covered_by, extent_length, is_hole};
 use btr_reader_walk::{
-    BlockSource, BtrAnswer, BtrRule, DiskRange, ExtentContent, FileExtent, Key, MapRange, Memory,
-    Tree, TreeWalker,
+    BtrRefusal, BtrRule, DiskRange, ExtentContent, FileExtent, Key, MapRange, Memory,
 };
 use btrfs_format::key::EXTENT_DATA;
 use std::alloc::Global;
@@ -42,7 +35,8 @@ fn is_inline(content: &ExtentContent<'_>) -> bool
 
 /// Adds the piece of a regular extent at byte `offset` of the file, unless it is a hole.
 fn push_range(pieces: &mut Vec<MappedExtent>, offset: u64, range: &DiskRange) -> Result<(), Memory>
-    ensures { OnOk result (pieces.new.items ≡ pieces.old.items ++ range_pieces offset range.now) }
+    ensures pushed { OnOk result (pieces.new.items ≡ pieces.old.items ++ range_pieces offset range.now) }
+    ensures unchanged { OnErr result (pieces.new.items ≡ pieces.old.items) }
 {
     if is_hole(range) {
         return Ok(());
@@ -61,7 +55,8 @@ fn push_content(
     offset: u64,
     content: &ExtentContent<'_>,
 ) -> Result<(), Memory>
-    ensures { OnOk result (pieces.new.items ≡ pieces.old.items ++ pieces_of offset (content_value content.now)) }
+    ensures pushed { OnOk result (pieces.new.items ≡ pieces.old.items ++ pieces_of offset (content_value content.now)) }
+    ensures unchanged { OnErr result (pieces.new.items ≡ pieces.old.items) }
 {
     match content {
         ExtentContent::Inline(_) => Ok(()),
@@ -76,7 +71,8 @@ fn add_extent(g: &mut Gathered, offset: u64, content: &ExtentContent<'_>) -> Res
     requires behind { g.old.reach.end ≤ offset }
     requires aligned { is_aligned offset (content_value content.now) ≡ true }
     requires order { AreGatheredInOrder g.old }
-    ensures order { OnOk result (AreGatheredInOrder g.new) }
+    ensures order { AreGatheredInOrder g.new }
+    ensures reach { OnErr result (g.new.reach ≡ g.old.reach) }
     ensures end { OnOk result (g.new.reach.end ≡ offset + extent_length (content_value content.now)) }
     ensures covered { OnOk result (g.new.reach.covered ≡ g.old.reach.covered + covered_by (content_value content.now)) }
     ensures inline { OnOk result (g.new.inline ≡ (g.old.inline || content_is_inline (content_value content.now))) }
@@ -91,39 +87,42 @@ fn add_extent(g: &mut Gathered, offset: u64, content: &ExtentContent<'_>) -> Res
     Ok(())
 }
 
-/// Gathers an item of a tree, if it is an extent of this inode.
-fn gather_item(
+/// Gathers an item of a tree, if it is an extent of this inode. Where something is wrong with that, it is answered, and nothing is gathered.
+pub fn gather_item(
     g: &mut Gathered,
     ranges: &[MapRange],
     inode: u64,
     key: &Key,
     body: &[u8],
     leaf: u64,
-) -> Result<(), BtrAnswer>
+) -> Result<Option<BtrRefusal>, Memory>
     requires few { g.old.reach.covered < 2 ^ 59 }
     requires order { AreGatheredInOrder g.old }
-    ensures order { OnOk result (AreGatheredInOrder g.new) }
-    ensures few { OnOk result (g.new.reach.covered < 2 ^ 59) }
-    ensures ok { (i : TreeItem) (given : List TreeItem) → i.key ≡ key.now → i.body ≡ body.now → i.leaf ≡ leaf → GathersExtents ranges.now (extents_of given inode) g.old
-        → OnOk result (GathersExtents ranges.now (extents_of (given ++ i ∷ []) inode) g.new) }
-    ensures err { (i : TreeItem) (given : List TreeItem) → i.key ≡ key.now → i.body ≡ body.now → i.leaf ≡ leaf → GathersExtents ranges.now (extents_of given inode) g.old
-        → IfErr result (IsAmong (extents_refusals ranges.now 0 0 (extents_of (given ++ i ∷ []) inode))) }
-    ensures known { IfErr result NamesNoLogTree }
-    ensures cause { IfErr result IsNoFault }
+    ensures order { AreGatheredInOrder g.new }
+    ensures few { g.new.reach.covered < 2 ^ 59 }
+    ensures told { (i : TreeItem) (given : List TreeItem) → i.key ≡ key.now → i.body ≡ body.now → i.leaf ≡ leaf → GathersExtents ranges.now (extents_of given inode) g.old
+        → IfOk result (λ refusal. TellsExtents ranges.now (extents_of (given ++ i ∷ []) inode) refusal g.new) }
+    ensures known { IfOk result (λ refusal. (address : ℕ) → refusal ≢ Some (LogPending address)) }
 {
     if !is_extent_key(inode, key) {
-        return Ok(());
+        return Ok(None);
     }
     let extent = match FileExtent::read(body) {
         Some(extent) => extent,
-        None => return Err(refused(leaf, BtrRule::Body)),
+        None => return Ok(Some(BtrRefusal::BadBtrfs {
+            address: leaf,
+            rule: BtrRule::Body,
+        })),
     };
-    check_extent(&g.reach, ranges, key.offset, leaf, &extent)?;
+    if let Err(refusal) = check_extent(&g.reach, ranges, key.offset, leaf, &extent) {
+        return Ok(Some(refusal));
+    }
     add_extent(g, key.offset, &extent.content)?;
-    Ok(())
+    Ok(None)
 }
 
-fn nothing(alloc: Global) -> Gathered
+/// Nothing of a file.
+pub fn nothing(alloc: Global) -> Gathered
     ensures gathers { (ranges : List RangeOf) → GathersExtents ranges [] result }
     ensures none { result.reach.covered ≡ 0 }
     ensures order { AreGatheredInOrder result }
@@ -133,37 +132,4 @@ fn nothing(alloc: Global) -> Gathered
         inline: false,
         pieces: Vec::new(alloc),
     }
-}
-
-/// Gathers the extents of an inode in a tree.
-pub fn gather_extents<S: BlockSource>(
-    alloc: Global,
-    src: &mut S,
-    tree: Tree,
-    ranges: &[MapRange],
-    inode: u64,
-) -> Result<Gathered, BtrAnswer>
-    requires size { IsNodeSize tree.form.nodesize }
-    requires high { tree.root.level ≤ 7 }
-    requires inside { LieOn (S.size src.old) ranges.now }
-    ensures kept { S.kept src.old src.new }
-    ensures cause { HasCauseOf BtrAnswer.Fault (S.faults src.old) (S.faults src.new) result }
-    ensures known { IfErr result NamesNoLogTree }
-    ensures order { IfOk result AreGatheredInOrder }
-    ensures gathered { OverTold S.tells (S.blocks src.old) (λ image. IfOk result (GathersExtents ranges.now (extents_of (found image ranges.now tree) inode))) }
-    ensures err { OverTold S.tells (S.blocks src.old) (λ image. IfErr result (IsAmong (wrong image ranges.now tree ++ extents_refusals ranges.now 0 0 (extents_of (found image ranges.now tree) inode)))) }
-{
-    let mut g = nothing(alloc);
-    let mut walker = TreeWalker::new(alloc, tree)?;
-    while walker.advance(src, ranges)? {
-        gather_item(
-            &mut g,
-            ranges,
-            inode,
-            &walker.key(),
-            walker.body(),
-            walker.leaf(),
-        )?;
-    }
-    Ok(g)
 }

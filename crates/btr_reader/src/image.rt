@@ -9,7 +9,8 @@ ghost use Rattle.btr_reader_walk.specs.Walks.{LieOn, found, wrong};
 ghost use Rattle.btr_reader.specs.Image.{is_file_mode, inode_number, file_if_image, image_at, image_in, saved_image, file_refusals, saved_refusals, image_refusals};
 ghost use Rattle.btr_reader_names.specs.Inodes.{find_inode_item, TellsInode};
 ghost use Rattle.btr_reader_names.specs.Refuses.{IsNoFault};
-ghost use Rattle.btr_reader.specs.Opening.{NamesNoLogTree};
+ghost use Rattle.btr_reader.specs.FileNotes.{HoldsFile};
+ghost use Rattle.btr_reader.specs.Opening.{IsAmong, NamesNoLogTree};
 ghost use Rattle.btr_reader.specs.Pieces.{GathersExtents, AreGatheredInOrder, MapsImage};
 ghost use Rattle.btr_reader.specs.Reading.{IsWalkable, FindsFile, ReadsImage};
 ghost use Rattle.btr_reader.specs.Roots.{HasRoots};
@@ -18,17 +19,18 @@ ghost use Rattle.btr_reader.specs.Rows.{roots_on};
 
 use crate::chunk::copy_of;
 use crate::entries::find_entry;
-use crate::gather::gather_extents;
+use crate::file_notes::FileNotes;
 use crate::gathered::Gathered;
 use crate::image_map::ImageMap;
-use crate::inodes::find_inode;
 use crate::refusal::refused;
 use crate::volume::Btrfs;
 use btr_reader_names::InodeFound;
-use btr_reader_walk::{BlockSource, BtrAnswer, BtrRule, Inode, Key, MapRange, Memory, Notes, Tree};
+use btr_reader_walk::{
+    BlockSource, BtrAnswer, BtrRule, Inode, Key, MapRange, Memory, Notes, Tree, note_items,
+};
 use btrfs_format::block::SUPER_INFO_OFFSET;
 use btrfs_format::key::INODE_ITEM;
-use btrfs_format::object::FS_TREE;
+use btrfs_format::object::{FIRST_FREE_OBJECTID, FS_TREE};
 use std::alloc::Global;
 
 /// The inode of an inode item that was looked for, if it is that of a regular file.
@@ -94,7 +96,7 @@ fn map_of(
 
 /// Notes nothing of a tree's items.
 #[derive(Drop)]
-struct NoNotes;
+pub struct NoNotes;
 
 impl Notes for NoNotes {
     ghost holds = { λ begun noted items. Unit {0} };
@@ -104,37 +106,94 @@ impl Notes for NoNotes {
     }
 }
 
-impl Btrfs {
-    /// The map of a file in a tree with which nothing is wrong.
-    fn read_file<S: BlockSource>(
-        &self,
-        alloc: Global,
-        src: &mut S,
-        tree: Tree,
-        inode: u64,
-    ) -> Result<Option<ImageMap>, BtrAnswer>
-        requires inside { LieOn (S.size src.old) self.now.ranges.items }
-        requires walkable { IsWalkable tree }
-        ensures kept { S.kept src.old src.new }
-        ensures cause { HasCauseOf BtrAnswer.Fault (S.faults src.old) (S.faults src.new) result }
-        ensures known { IfErr result NamesNoLogTree }
-        ensures device { IfOk result (λ o. IfSome o (λ m. m.device ≡ self.now.device)) }
-        ensures reads { OverTold S.tells (S.blocks src.old) (λ image. (items : List TreeItem) → found image self.now.ranges.items tree ≡ items → wrong image self.now.ranges.items tree ≡ [] →
-            ReadsImage self.now.ranges.items (image_at items inode (find_inode_item items inode)) (file_refusals self.now.ranges.items items inode (find_inode_item items inode)) result) }
-    {
-        let ranges = self.ranges.as_slice();
-        let item = find_inode(alloc, src, tree, ranges, inode)?;
-        let own = match file_in(item)? {
-            Some(own) => own,
-            None => return Ok(None),
-        };
-        let gathered = gather_extents(alloc, src, tree, ranges, inode)?;
-        Ok(map_of(alloc, &own, gathered, ranges, self.device)?)
-    }
+/// The inode that the image has where no one put it elsewhere: this program and btrfs-convert give it the one behind the root directory.
+const USUAL_INODE: u64 = FIRST_FREE_OBJECTID + 1;
 
+/// What is noted of the file with this number in a tree. The tree is walked only where the notes that are there are of another one.
+fn file_notes<'a, S: BlockSource>(
+    alloc: Global,
+    src: &mut S,
+    tree: Tree,
+    ranges: &'a [MapRange],
+    number: u64,
+    there: FileNotes<'a>,
+) -> Result<FileNotes<'a>, BtrAnswer>
+    requires inside { LieOn (S.size src.old) ranges.now }
+    requires walkable { IsWalkable tree }
+    ensures kept { S.kept src.old src.new }
+    ensures cause { HasCauseOf BtrAnswer.Fault (S.faults src.old) (S.faults src.new) result }
+    ensures known { IfErr result NamesNoLogTree }
+    ensures noted { OverTold S.tells (S.blocks src.old) (λ image. there.entry.ranges.now ≡ ranges.now → HoldsFile there.entry (found image ranges.now tree) → IfOk result (λ notes. (notes.ranges.now ≡ ranges.now) × (notes.number ≡ number) × HoldsFile notes (found image ranges.now tree))) }
+    ensures err { OverTold S.tells (S.blocks src.old) (λ image. IfErr result (IsAmong (wrong image ranges.now tree))) }
+{
+    if there.number == number {
+        return Ok(there);
+    }
+    let mut notes = FileNotes::new(alloc, ranges, number);
+    note_items(alloc, src, tree, ranges, &mut notes)?;
+    Ok(notes)
+}
+
+/// The map of a file of which these notes were taken by `ranges`, if it has the form of an image.
+fn noted_map(
+    alloc: Global,
+    notes: FileNotes<'_>,
+    ranges: &[MapRange],
+    device: u64,
+) -> Result<Option<ImageMap>, BtrAnswer>
+    requires inside { LieOn device ranges.now }
+    ensures device { IfOk result (λ o. IfSome o (λ m. m.device ≡ device)) }
+    ensures known { IfErr result NamesNoLogTree }
+    ensures cause { IfErr result IsNoFault }
+    ensures reads { (items : List TreeItem) → notes.entry.ranges.now ≡ ranges.now → HoldsFile notes.entry items →
+        ReadsImage ranges.now (image_at items notes.entry.number (find_inode_item items notes.entry.number)) (file_refusals ranges.now items notes.entry.number (find_inode_item items notes.entry.number)) result }
+{
+    let own = match file_in(notes.item)? {
+        Some(own) => own,
+        None => return Ok(None),
+    };
+    if let Some(refusal) = notes.refusal {
+        return Err(BtrAnswer::Refused(refusal));
+    }
+    Ok(map_of(alloc, &own, notes.gathered, ranges, device)?)
+}
+
+/// The map of the image in a tree, on a device of `device` blocks: one walk where the image has its usual inode, else two.
+fn saved_map<S: BlockSource, N: Notes>(
+    alloc: Global,
+    src: &mut S,
+    tree: Tree,
+    ranges: &[MapRange],
+    device: u64,
+    notes: &mut N,
+) -> Result<Option<ImageMap>, BtrAnswer>
+    requires inside { LieOn (S.size src.old) ranges.now }
+    requires mapped { LieOn device ranges.now }
+    requires walkable { IsWalkable tree }
+    requires begun { N.holds notes.old notes.old [] }
+    ensures kept { S.kept src.old src.new }
+    ensures cause { HasCauseOf BtrAnswer.Fault (S.faults src.old) (S.faults src.new) result }
+    ensures known { IfErr result NamesNoLogTree }
+    ensures device { IfOk result (λ o. IfSome o (λ m. m.device ≡ device)) }
+    ensures reads { OverTold S.tells (S.blocks src.old) (λ image. ReadsImage ranges.now (image_in (found image ranges.now tree)) (saved_refusals image ranges.now tree) result) }
+    ensures noted { OverTold S.tells (S.blocks src.old) (λ image. OnOk result (N.holds notes.old notes.new (found image ranges.now tree))) }
+{
+    let mut usual = FileNotes::new(alloc, ranges, USUAL_INODE);
+    let key = find_entry(alloc, src, tree, ranges, b"image", notes, &mut usual)?;
+    let number = match inode_number(key) {
+        Some(number) => number,
+        None => return Ok(None),
+    };
+    let file = file_notes(alloc, src, tree, ranges, number, usual)?;
+    noted_map(alloc, file, ranges, device)
+}
+
+impl Btrfs {
     /// The map of the image in the tree of the saved image; None exactly where the entry `image` or the file is not there,
     /// or the file has not the form of an image. It is refused exactly where something is wrong with the tree, the entries
     /// of its root directory or the file, by one of the things that are. All items of the tree are noted by the way.
+    ///
+    /// The tree is walked once where the image has the inode that it has after a conversion, and else twice.
     pub fn read_saved<S: BlockSource, N: Notes>(
         &self,
         alloc: Global,
@@ -152,12 +211,7 @@ impl Btrfs {
         ensures reads { OverTold S.tells (S.blocks src.old) (λ image. ReadsImage self.now.ranges.items (image_in (found image self.now.ranges.items tree)) (saved_refusals image self.now.ranges.items tree) result) }
         ensures noted { OverTold S.tells (S.blocks src.old) (λ image. OnOk result (N.holds notes.old notes.new (found image self.now.ranges.items tree))) }
     {
-        let key = find_entry(alloc, src, tree, self.ranges.as_slice(), b"image", notes)?;
-        let inode = match inode_number(key) {
-            Some(inode) => inode,
-            None => return Ok(None),
-        };
-        self.read_file(alloc, src, tree, inode)
+        saved_map(alloc, src, tree, self.ranges.as_slice(), self.device, notes)
     }
 
     /// The map of the image of a volume whose root tree is right.

@@ -6,6 +6,7 @@ mod checks;
 mod chunk;
 mod chunk_tree;
 mod entries;
+mod file_notes;
 mod gather;
 mod gathered;
 mod image;
@@ -16,6 +17,7 @@ mod laws;
 mod listing;
 mod mapped_extent;
 mod metadata_laws;
+mod note_file;
 mod open;
 mod placed;
 mod refusal;
@@ -29,7 +31,6 @@ pub use bootstrap::array_chunks;
 pub use chunk::{ChunkAt, is_among, is_chunk_key};
 pub use entries::find_entry;
 pub use image_map::ImageMap;
-pub use inodes::find_inode;
 pub use laws::{
     arrays_read_back, btrfs_rows_are_one, items_decide_btrfs_rows, opened_maps_are_apart,
     opened_maps_are_in_blocks,

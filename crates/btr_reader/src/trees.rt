@@ -13,6 +13,7 @@ ghost use Rattle.btr_reader.specs.Reading.{FindsSaved, FindsTree, IsWalkable};
 ghost use Rattle.btr_reader.specs.Roots.{HasRoots, TellsRoot, root_item};
 
 use crate::entries::find_entry;
+use crate::image::NoNotes;
 use crate::refusal::refused;
 use crate::roots::RootFound;
 use crate::volume::Btrfs;
@@ -167,6 +168,7 @@ impl Btrfs {
             self.ranges.as_slice(),
             b"reiserfs_saved",
             notes,
+            &mut NoNotes,
         )?;
         match tree_number(entry) {
             Some(number) => self.find_tree(number),

@@ -1,5 +1,5 @@
 -- The layouts of this crate read what they write.
-use Rattle.btr_space_items.proofs.Imports.{◌≡◌, ◌+◌, ◌*◌, ◌==◌, ℕ, List, [], ◌++◌, length, drop, cond, ltb, Bool, true, false, None, Some, refl, ap, sym, ◌∙◌, arith, lit<, length-append, eq-eqb, le-ltb, take_at, append-nil, key_layout, stamp_layout, inode_layout, Reads, start, ◌▹◌, skip, u8_reads, u16_reads, u32_reads, u64_reads, array_reads, part_reads, reads_back, device_layout, make_device, stripe_layout, make_stripe, chunk_layout, make_chunk, chunk_bytes, root_item_layout, make_root_item, BlockGroupsReadBack, DevExtentsReadBack, DevicesReadBack, StripesReadBack, ExtentHeadsReadBack, ChunksReadBack, RootItemsReadBack, RootRefsReadBack}
+use Rattle.btr_space_items.proofs.Imports.{◌≡◌, ◌+◌, ◌*◌, ◌==◌, ℕ, List, [], ◌++◌, length, drop, cond, ltb, Bool, true, false, None, Some, refl, ap, sym, ◌∙◌, arith, lit<, length-append, eq-eqb, le-ltb, take_at, append-nil, key_layout, stamp_layout, inode_layout, Reads, start, ◌▹◌, skip, u8_reads, u16_reads, u32_reads, u64_reads, array_reads, part_reads, reads_back, device_layout, make_device, stripe_layout, make_stripe, chunk_layout, make_chunk, chunk_bytes, root_item_layout, make_root_item, BlockGroupsReadBack, DevExtentsReadBack, DevicesReadBack, StripesReadBack, ExtentHeadsReadBack, ChunksReadBack, RootItemsReadBack, RootRefsReadBack, extent_head_layout, make_extent_head, extent_head_bytes}
 use Rattle.byteorder.specs.Endian.{little_bytes}
 use Rattle.byteorder.specs.Numbers.{little_number-reads_back}
 use Rattle.btr_keys.specs.vol_block.Volume.{field}
@@ -8,7 +8,6 @@ use Rattle.btr_keys.proofs.Repeats.{IsNamed, front_of}
 use Rattle.btr_space_items.specs.declared.chunk.Chunk.{Chunk}
 use Rattle.btr_space_items.specs.BlockGroup.{block_group_layout, make_block_group}
 use Rattle.btr_space_items.specs.DevExtent.{dev_extent_layout, make_dev_extent}
-use Rattle.btr_space_items.specs.ExtentHead.{extent_head_layout, make_extent_head, extent_head_bytes}
 use Rattle.btr_space_items.specs.RootRef.{root_ref_head, make_root_ref, root_ref_bytes}
 
 pub block_group_reads : Reads block_group_layout (λ v. v)

@@ -3,6 +3,7 @@ pub mod BlockGroup
 pub mod Chunk
 pub mod DevExtent
 pub mod Device
+pub mod ExtentBody
 pub mod ExtentHead
 pub mod InlineRef
 pub mod Laws

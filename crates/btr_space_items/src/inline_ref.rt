@@ -8,12 +8,17 @@ ghost use Rattle.btr_space_items.specs.InlineRef.{
   inline_ref_bytes,
   inline_ref_size,
   inline_refs_of,
+  ref_kind,
+  ref_uses,
 };
 
 use btr_keys::{Field, put_fields, u32_at, u64_at};
-use btrfs_format::key::{EXTENT_DATA_REF, TREE_BLOCK_REF};
+use btrfs_format::key::{EXTENT_DATA_REF, SHARED_BLOCK_REF, SHARED_DATA_REF, TREE_BLOCK_REF};
 use btrfs_format::size::{INLINE_BLOCK_REF_SIZE, INLINE_DATA_REF_SIZE};
 use std::marker::Model;
+
+/// An inline reference to data by a leaf: a kind, the leaf's address, and `struct btrfs_shared_data_ref`.
+pub const INLINE_SHARED_DATA_REF_SIZE: usize = INLINE_BLOCK_REF_SIZE + 4;
 
 /// A reference to an extent that stands in the extent's item, as the Btrfs on-disk format documentation has it.
 #[derive(Clone, Copy, Debug, PartialEq, Eq)]
@@ -22,6 +27,11 @@ pub enum InlineRef {
     TreeBlock {
         /// The tree's number.
         root: u64,
+    },
+    /// A node, by the node that is its parent: kind 182, 9 bytes.
+    SharedBlock {
+        /// The parent's logical address, in bytes.
+        parent: u64,
     },
     /// Data of a file: kind 178, 29 bytes.
     DataRef {
@@ -34,21 +44,51 @@ pub enum InlineRef {
         /// How many file extents refer to it so.
         count: u32,
     },
+    /// Data, by the leaf that has the file extents: kind 184, 13 bytes.
+    SharedData {
+        /// The leaf's logical address, in bytes.
+        parent: u64,
+        /// How many file extents of the leaf refer to it.
+        count: u32,
+    },
 }
 
 impl InlineRef {
+    /// The byte that it begins with, which is the kind of an item that has it alone.
+    pub fn kind(&self) -> u8
+        ensures { result ≡ ref_kind self.now }
+    {
+        match self {
+            InlineRef::TreeBlock { .. } => TREE_BLOCK_REF,
+            InlineRef::SharedBlock { .. } => SHARED_BLOCK_REF,
+            InlineRef::DataRef { .. } => EXTENT_DATA_REF,
+            InlineRef::SharedData { .. } => SHARED_DATA_REF,
+        }
+    }
+
     /// How many bytes the reference takes.
     pub fn size(&self) -> usize
         ensures { result ≡ inline_ref_size self.now }
     {
         match self {
-            InlineRef::TreeBlock { .. } => INLINE_BLOCK_REF_SIZE,
+            InlineRef::TreeBlock { .. } | InlineRef::SharedBlock { .. } => INLINE_BLOCK_REF_SIZE,
             InlineRef::DataRef { .. } => INLINE_DATA_REF_SIZE,
+            InlineRef::SharedData { .. } => INLINE_SHARED_DATA_REF_SIZE,
+        }
+    }
+
+    /// How many uses of the extent it stands for.
+    pub fn uses(&self) -> u32
+        ensures { result ≡ ref_uses self.now }
+    {
+        match *self {
+            InlineRef::TreeBlock { .. } | InlineRef::SharedBlock { .. } => 1,
+            InlineRef::DataRef { count, .. } | InlineRef::SharedData { count, .. } => count,
         }
     }
 
     /// Writes the reference into a slice of its size.
-    #[tactic(auto, unfolding(crate::specs::InlineRef::tree_block_layout, crate::specs::InlineRef::data_ref_layout))]
+    #[tactic(auto, unfolding(crate::specs::InlineRef::tree_block_layout, crate::specs::InlineRef::shared_block_layout, crate::specs::InlineRef::data_ref_layout, crate::specs::InlineRef::shared_data_layout))]
     pub fn write(&self, into: &mut [u8])
         requires { length into.old ≡ inline_ref_size self.now }
         ensures { into.new ≡ inline_ref_bytes self.now }
@@ -56,6 +96,9 @@ impl InlineRef {
         match *self {
             InlineRef::TreeBlock { root } => {
                 put_fields(into, &[Field::U8(TREE_BLOCK_REF), Field::U64(root)]);
+            }
+            InlineRef::SharedBlock { parent } => {
+                put_fields(into, &[Field::U8(SHARED_BLOCK_REF), Field::U64(parent)]);
             }
             InlineRef::DataRef {
                 root,
@@ -72,10 +115,18 @@ impl InlineRef {
                     Field::U32(count),
                 ],
             ),
+            InlineRef::SharedData { parent, count } => put_fields(
+                into,
+                &[
+                    Field::U8(SHARED_DATA_REF),
+                    Field::U64(parent),
+                    Field::U32(count),
+                ],
+            ),
         }
     }
 
-    #[tactic(auto, unfolding(crate::specs::InlineRef::tree_block_layout, crate::specs::InlineRef::data_ref_layout, crate::specs::InlineRef::behind_inline))]
+    #[tactic(auto, unfolding(crate::specs::InlineRef::tree_block_layout, crate::specs::InlineRef::shared_block_layout, crate::specs::InlineRef::data_ref_layout, crate::specs::InlineRef::shared_data_layout, crate::specs::InlineRef::behind_inline))]
     fn front(bytes: &[u8]) -> InlineRef
         requires { IsSome (behind_inline bytes.now) }
         ensures { result ≡ inline_ref_front bytes.now }
@@ -83,6 +134,15 @@ impl InlineRef {
         if bytes[0] == TREE_BLOCK_REF {
             InlineRef::TreeBlock {
                 root: u64_at(bytes, 1),
+            }
+        } else if bytes[0] == SHARED_BLOCK_REF {
+            InlineRef::SharedBlock {
+                parent: u64_at(bytes, 1),
+            }
+        } else if bytes[0] == SHARED_DATA_REF {
+            InlineRef::SharedData {
+                parent: u64_at(bytes, 1),
+                count: u32_at(bytes, 9),
             }
         } else {
             InlineRef::DataRef {
@@ -102,7 +162,9 @@ fn behind(bytes: &[u8]) -> Option<&[u8]>
 {
     match bytes {
         [TREE_BLOCK_REF, ..] => rest_of(INLINE_BLOCK_REF_SIZE, bytes),
+        [SHARED_BLOCK_REF, ..] => rest_of(INLINE_BLOCK_REF_SIZE, bytes),
         [EXTENT_DATA_REF, ..] => rest_of(INLINE_DATA_REF_SIZE, bytes),
+        [SHARED_DATA_REF, ..] => rest_of(INLINE_SHARED_DATA_REF_SIZE, bytes),
         _ => None,
     }
 }
@@ -165,7 +227,7 @@ impl<'a> Model for InlineRefs<'a> {
 }
 
 impl<'a> InlineRefs<'a> {
-    /// The references that a slice is; None exactly where it is not any number of whole references of the two kinds.
+    /// The references that a slice is; None exactly where it is not any number of whole references of the four kinds.
     pub fn read(body: &'a [u8]) -> Option<InlineRefs<'a>>
         ensures { result ≡ inline_refs_of body.now }
     {

@@ -10,6 +10,7 @@ mod block_group;
 mod chunk;
 mod dev_extent;
 mod device;
+mod extent_body;
 mod extent_head;
 mod inline_ref;
 mod laws;
@@ -21,8 +22,9 @@ pub use block_group::BlockGroup;
 pub use chunk::Chunk;
 pub use dev_extent::DevExtent;
 pub use device::Device;
+pub use extent_body::{extent_body_size, write_extent_body};
 pub use extent_head::ExtentHead;
-pub use inline_ref::{InlineRef, InlineRefs};
+pub use inline_ref::{INLINE_SHARED_DATA_REF_SIZE, InlineRef, InlineRefs};
 pub use laws::{
     block_groups_read_back, chunks_read_back, dev_extents_read_back, devices_read_back,
     extent_heads_read_back, inline_refs_read_back, root_items_read_back, root_refs_read_back,

@@ -1,5 +1,5 @@
 -- From the leaves of a tree up to its root.
-use Rattle.btr_tree.proofs.Imports.{◌≡◌, ℕ, zero, suc, ◌+◌, ◌^◌, ◌<◌, ◌≤◌, Bool, List, [], ◌∷◌, ◌++◌, length, map, get_or, refl, sym, ◌∙◌, ap, subst, arith, append_assoc, ⊎_elim, flat_map, sum, div_ceil, pow-suc, cases_lt, append-nil, length_push, first_keys, Item, keys_of, IsNodeSize, Ascends, ascends, Child, IsSubtree, SubtreesAreTrees, may_be_bare, nodes_in, pointer_events, identity, child_pointer, NodePointer, Made, StandAt, pointer_to, fan_out, level_sizes, IsWhole, AreRoots, IsExtended, HasSubtreeRoots, IsRaised, IsRoot, HasNodes, HasWholeNodes, AreFirst, nodes_below, pointers_to, level_pointers, IsPermutation, IsPermutation-refl, IsPermutation-trans, IsPermutation-append_right, IsPermutation-append_comm, sum_by_push, Image}
+use Rattle.btr_tree.proofs.Imports.{MapRange, ◌≡◌, ℕ, zero, suc, ◌+◌, ◌^◌, ◌<◌, ◌≤◌, Bool, List, [], ◌∷◌, ◌++◌, length, map, get_or, refl, sym, ◌∙◌, ap, subst, arith, append_assoc, ⊎_elim, flat_map, sum, div_ceil, pow-suc, cases_lt, append-nil, length_push, first_keys, Item, keys_of, IsNodeSize, Ascends, ascends, Child, IsSubtree, SubtreesAreTrees, may_be_bare, nodes_in, pointer_events, child_pointer, NodePointer, Made, StandBy, pointer_to, fan_out, level_sizes, IsWhole, AreRoots, IsExtended, HasSubtreeRoots, IsRaised, IsRoot, HasNodes, HasWholeNodes, AreFirst, nodes_below, pointers_to, level_pointers, IsPermutation, IsPermutation-refl, IsPermutation-trans, IsPermutation-append_right, IsPermutation-append_comm, sum_by_push, Image}
 use Rattle.std.specs.List.{All}
 use Rattle.btr_tree.proofs.Meeting.{below_one, levels_more}
 use Rattle.btr_tree.proofs.KeyOrder.{heads_ascend}
@@ -38,8 +38,8 @@ pub record IsClimbing (old now : Made) (leaves children : List Child) (level : �
   pub levels : length sizes ≡ level
   pub sum_is : length now.nodes ≡ sum sizes + length children
   pub sizes_are : level_sizes 256 (fan_out old.form.nodesize) (length leaves) ≡ sizes ++ level_sizes (suc depth) (fan_out old.form.nodesize) (length children)
-  pub nodes : (items : List Item) → HasSubtreeRoots old 0 leaves items → AreFirst old leaves → (image : Image) (bare : Bool) → StandAt image now.form.nodesize now.slots now.nodes
-      → IsPermutation (nodes_below image now bare level children) (level_pointers old.generation 0 0 old.slots (sizes ++ length children ∷ []))
+  pub nodes : (items : List Item) → HasSubtreeRoots old 0 leaves items → AreFirst old leaves → (image : Image) (ranges : List MapRange) (bare : Bool) → StandBy image ranges now.form.nodesize now.slots now.nodes
+      → IsPermutation (nodes_below image ranges now bare level children) (level_pointers old.generation 0 0 old.slots (sizes ++ length children ∷ []))
 
 pub climbing_begins : (old : Made) (leaves : List Child) → 1 ≤ length leaves → length leaves ≤ 2 ^ 64 → length old.nodes ≡ length leaves → length old.nodes ≤ length old.slots
     → IsClimbing old old leaves leaves 0
@@ -56,9 +56,9 @@ climbing_begins old leaves some small made few = record {
   levels = refl;
   sum_is = omega (arith, made);
   sizes_are = refl;
-  nodes = λ items has first image bare stand.
+  nodes = λ items has first image ranges bare stand.
       subst (λ ps. IsPermutation ps (level_pointers old.generation 0 0 old.slots (length leaves ∷ [])))
-      (append-nil (pointers_to old.generation 0 0 (length leaves) old.slots) ∙ sym (first image bare stand)) (IsPermutation-refl (level_pointers old.generation 0 0 old.slots (length leaves ∷ [])));
+      (append-nil (pointers_to old.generation 0 0 (length leaves) old.slots) ∙ sym (first image ranges bare stand)) (IsPermutation-refl (level_pointers old.generation 0 0 old.slots (length leaves ∷ [])));
 }
 
 -- a level is a byte
@@ -75,9 +75,9 @@ zeroth k = omega arith
 sum_push : (xs : List ℕ) (n : ℕ) → sum (xs ++ n ∷ []) ≡ sum xs + n
 sum_push xs n = sum_by_push (λ x. x) xs n
 
-stand_old : (image : Image) (old new : Made) → IsExtended old new → StandAt image new.form.nodesize new.slots new.nodes → StandAt image old.form.nodesize old.slots old.nodes
-stand_old image old new ext stand =
-    stand_front image old.form.nodesize old.slots old.nodes ext.more (subst (λ (x : Made). StandAt image x.form.nodesize x.slots x.nodes) ext.is stand)
+stand_old : (image : Image) (ranges : List MapRange) (old new : Made) → IsExtended old new → StandBy image ranges new.form.nodesize new.slots new.nodes → StandBy image ranges old.form.nodesize old.slots old.nodes
+stand_old image ranges old new ext stand =
+    stand_front image ranges old.form.nodesize old.slots old.nodes ext.more (subst (λ (x : Made). StandBy image ranges x.form.nodesize x.slots x.nodes) ext.is stand)
 
 met_more : {X : Type 0} (all own below old new : List X) → IsPermutation all (own ++ below) → IsPermutation below old → new ≡ old ++ own → IsPermutation all new
 met_more all own below old new upper lower is =
@@ -117,11 +117,11 @@ climbing_goes_on old now new leaves children parents level above wide so_far mor
               sizes
               ∙ (ap (λ ss. so_far.sizes ++ ss) (sizes-more (suc depth) fan n more ∙ ap (λ (k : ℕ). n ∷ level_sizes (suc depth) fan k) (sym count))
               ∙ sym (append_assoc so_far.sizes (n ∷ []) (level_sizes (suc depth) fan (length parents))));
-          nodes = λ items has first image bare stand.
-              let stand_now : StandAt image now.form.nodesize now.slots now.nodes = stand_old image now new raised.extended stand in
-              let lower : IsPermutation (nodes_below image now bare level children) (level_pointers old.generation 0 0 old.slots (so_far.sizes ++ n ∷ [])) = so_far.nodes items has first image bare stand_now in
-              let same : nodes_below image now bare level children ≡ nodes_below image new bare level children = ap (λ (x : Made). nodes_below image x bare level children) (sym (ap (λ (x : Made). let y : Made = record now { form = x.form; owner = x.owner } in y) raised.extended.is)) in
-              let upper = raised.nodes level items at (so_far.roots items has) image bare stand in
+          nodes = λ items has first image ranges bare stand.
+              let stand_now : StandBy image ranges now.form.nodesize now.slots now.nodes = stand_old image ranges now new raised.extended stand in
+              let lower : IsPermutation (nodes_below image ranges now bare level children) (level_pointers old.generation 0 0 old.slots (so_far.sizes ++ n ∷ [])) = so_far.nodes items has first image ranges bare stand_now in
+              let same : nodes_below image ranges now bare level children ≡ nodes_below image ranges new bare level children = ap (λ (x : Made). nodes_below image ranges x bare level children) (sym (ap (λ (x : Made). let y : Made = record now { form = x.form; owner = x.owner } in y) raised.extended.is)) in
+              let upper = raised.nodes level items at (so_far.roots items has) image ranges bare stand in
               let skip : length now.nodes ≡ sum (so_far.sizes ++ n ∷ []) = omega (arith, so_far.sum_is, sum_push so_far.sizes n) in
               let at_level : above ≡ length (so_far.sizes ++ n ∷ []) = omega (arith, so_far.levels, at, length_push so_far.sizes n) in
               let own : map (child_pointer above) parents ≡ pointers_to old.generation (0 + length (so_far.sizes ++ n ∷ [])) (0 + sum (so_far.sizes ++ n ∷ [])) (length parents) old.slots =
@@ -129,7 +129,7 @@ climbing_goes_on old now new leaves children parents level above wide so_far mor
               ∙ (ap (λ (x : Made). pointers_to x.generation above (length now.nodes) (length parents) x.slots) so_far.extended.is
               ∙ (ap (λ (k : ℕ). pointers_to old.generation above k (length parents) old.slots) (skip ∙ zeroth (sum (so_far.sizes ++ n ∷ [])))
               ∙ ap (λ (l : ℕ). pointers_to old.generation l (0 + sum (so_far.sizes ++ n ∷ [])) (length parents) old.slots) (at_level ∙ zeroth (length (so_far.sizes ++ n ∷ []))))) in
-              met_more (nodes_below image new bare above parents) (map (child_pointer above) parents) (nodes_below image new bare level children) (level_pointers old.generation 0 0 old.slots (so_far.sizes ++ n ∷ []))
+              met_more (nodes_below image ranges new bare above parents) (map (child_pointer above) parents) (nodes_below image ranges new bare level children) (level_pointers old.generation 0 0 old.slots (so_far.sizes ++ n ∷ []))
               (level_pointers old.generation 0 0 old.slots ((so_far.sizes ++ n ∷ []) ++ length parents ∷ [])) upper
               (subst (λ ps. IsPermutation ps (level_pointers old.generation 0 0 old.slots (so_far.sizes ++ n ∷ []))) same lower)
               (levels_more old.generation 0 0 old.slots (so_far.sizes ++ n ∷ []) (length parents) ∙ ap (λ ps. level_pointers old.generation 0 0 old.slots (so_far.sizes ++ n ∷ []) ++ ps) (sym own));
@@ -162,37 +162,37 @@ climbing_count old now leaves children level so_far one = omega (arith, so_far.r
 -- one root meets the nodes of all levels
 pub climbing_nodes : (old now : Made) (leaves children : List Child) (level : ℕ) (items : List Item) (d : Child) → IsClimbing old now leaves children level → length children ≡ 1 → HasSubtreeRoots old 0 leaves items → AreFirst old leaves
     → HasNodes now (get_or children 0 d).address level (level_sizes 256 (fan_out old.form.nodesize) (length leaves))
-climbing_nodes old now leaves children level items d so_far one has first = λ image stand.
+climbing_nodes old now leaves children level items d so_far one has first = λ image ranges stand.
     let sizes : level_sizes 256 (fan_out old.form.nodesize) (length leaves) ≡ so_far.sizes ++ length children ∷ [] =
     so_far.sizes_are ∙ ap (λ ss. so_far.sizes ++ ss) (sizes-one so_far.depth (fan_out old.form.nodesize) (length children) (omega (arith, one))) in
     let bare : Bool = may_be_bare (pointer_to now.generation level (get_or children 0 d).address) in
-    let met = so_far.nodes items has first image bare stand in
-    let same : nodes_below image now bare level children ≡ nodes_in (pointer_events image identity now.form now.owner bare (pointer_to now.generation level (get_or children 0 d).address)) =
-    one_met children (so_far.roots items has) one image bare in
-    subst (λ ss. IsPermutation (nodes_in (pointer_events image identity now.form now.owner bare (pointer_to now.generation level (get_or children 0 d).address))) (level_pointers now.generation 0 0 now.slots ss)) (sym sizes)
+    let met = so_far.nodes items has first image ranges bare stand in
+    let same : nodes_below image ranges now bare level children ≡ nodes_in (pointer_events image ranges now.form now.owner bare (pointer_to now.generation level (get_or children 0 d).address)) =
+    one_met children (so_far.roots items has) one image ranges bare in
+    subst (λ ss. IsPermutation (nodes_in (pointer_events image ranges now.form now.owner bare (pointer_to now.generation level (get_or children 0 d).address))) (level_pointers now.generation 0 0 now.slots ss)) (sym sizes)
     (subst (λ ps. IsPermutation ps (level_pointers now.generation 0 0 now.slots (so_far.sizes ++ length children ∷ []))) same
-    (subst (λ (x : Made). IsPermutation (nodes_below image now bare level children) (level_pointers x.generation 0 0 x.slots (so_far.sizes ++ length children ∷ [])))
+    (subst (λ (x : Made). IsPermutation (nodes_below image ranges now bare level children) (level_pointers x.generation 0 0 x.slots (so_far.sizes ++ length children ∷ [])))
     (sym (ap (λ (x : Made). let y : Made = record old { generation = x.generation; slots = x.slots } in y) so_far.extended.is)) met))
   where
-    one_met : (children : List Child) → HasSubtreeRoots now level children items → length children ≡ 1 → (image : Image) (bare : Bool)
-        → nodes_below image now bare level children ≡ nodes_in (pointer_events image identity now.form now.owner bare (pointer_to now.generation level (get_or children 0 d).address))
-    one_met [] has one image bare = absurd (omega arith)
-    one_met (c ∷ (e ∷ children)) has one image bare = absurd (omega arith)
-    one_met (c ∷ []) has one image bare =
+    one_met : (children : List Child) → HasSubtreeRoots now level children items → length children ≡ 1 → (image : Image) (ranges : List MapRange) (bare : Bool)
+        → nodes_below image ranges now bare level children ≡ nodes_in (pointer_events image ranges now.form now.owner bare (pointer_to now.generation level (get_or children 0 d).address))
+    one_met [] has one image ranges bare = absurd (omega arith)
+    one_met (c ∷ (e ∷ children)) has one image ranges bare = absurd (omega arith)
+    one_met (c ∷ []) has one image ranges bare =
         let is : child_pointer level c ≡ pointer_to now.generation level c.address =
         ap (λ (g : ℕ). let p : NodePointer = record { address = c.address; level = level; generation = g } in p) (has.roots.one_generation 0 c (omega arith)) in
-        below_one image now bare level c ∙ ap (λ (p : NodePointer). nodes_in (pointer_events image identity now.form now.owner bare p)) is
+        below_one image ranges now bare level c ∙ ap (λ (p : NodePointer). nodes_in (pointer_events image ranges now.form now.owner bare p)) is
 
 -- and they are whole
 pub whole_of : (m : Made) (level : ℕ) (children : List Child) (items : List Item) (d : Child) → length children ≡ 1 → HasSubtreeRoots m level children items → HasWholeNodes m (get_or children 0 d).address level
 whole_of m level [] items d one has = absurd (omega arith)
 whole_of m level (c ∷ (e ∷ children)) items d one has = absurd (omega arith)
-whole_of m level (c ∷ []) items d one has = λ image stand.
+whole_of m level (c ∷ []) items d one has = λ image ranges stand.
     let root : NodePointer = pointer_to m.generation level c.address in
     let bare : Bool = may_be_bare root in
     let same : child_pointer level c ≡ root = ap (λ (g : ℕ). let p : NodePointer = record { address = c.address; level = level; generation = g } in p) (has.roots.one_generation 0 c (omega arith)) in
-    subst (All (IsWhole image identity m.form m.owner m.chunk_tree)) (below_one image m bare level c ∙ ap (λ (p : NodePointer). nodes_in (pointer_events image identity m.form m.owner bare p)) same)
-    (has.roots.whole image bare stand).nodes
+    subst (All (IsWhole image ranges m.form m.owner m.chunk_tree)) (below_one image ranges m bare level c ∙ ap (λ (p : NodePointer). nodes_in (pointer_events image ranges m.form m.owner bare p)) same)
+    (has.roots.whole image ranges bare stand).nodes
 
 -- one root is the root of the tree
 pub root_of : (law : SubtreesAreTrees) (m : Made) (level : ℕ) (children : List Child) (items : List Item) (d : Child) → length children ≡ 1 → HasSubtreeRoots m level children items → Ascends (keys_of items)
@@ -204,14 +204,14 @@ root_of law m level (c ∷ []) items d one has order = by_lists has.lists has.ro
     by_lists : (lists : List (List Item)) → AreRoots m level (c ∷ []) lists → flat_map (λ is. is) lists ≡ items → IsRoot m c.address level items
     by_lists [] roots are = absurd (omega (arith, ap length roots.keys))
     by_lists (l ∷ (k ∷ lists)) roots are = absurd (omega (arith, ap length roots.keys))
-    by_lists (l ∷ []) roots are = λ image stand.
+    by_lists (l ∷ []) roots are = λ image ranges stand.
         let root : NodePointer = pointer_to m.generation level c.address in
         let same : child_pointer level c ≡ root = ap (λ (g : ℕ). let p : NodePointer = record { address = c.address; level = level; generation = g } in p) (roots.one_generation 0 c (omega arith)) in
-        let below = (roots.subtrees image (may_be_bare root) stand).0 in
-        let below' : IsSubtree image identity m.form m.owner (may_be_bare root) root items =
-        subst (λ is. IsSubtree image identity m.form m.owner (may_be_bare root) root is) (sym (append-nil l) ∙ are)
-        (subst (λ (p : NodePointer). IsSubtree image identity m.form m.owner (may_be_bare root) p l) same below) in
-        law image identity m.form m.owner root items below' order
+        let below = (roots.subtrees image ranges (may_be_bare root) stand).0 in
+        let below' : IsSubtree image ranges m.form m.owner (may_be_bare root) root items =
+        subst (λ is. IsSubtree image ranges m.form m.owner (may_be_bare root) root is) (sym (append-nil l) ∙ are)
+        (subst (λ (p : NodePointer). IsSubtree image ranges m.form m.owner (may_be_bare root) p l) same below) in
+        law image ranges m.form m.owner root items below' order
 
 pub wide_fan : (n : ℕ) → IsNodeSize n → 121 ≤ fan_out n
 wide_fan n size =

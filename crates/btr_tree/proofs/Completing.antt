@@ -38,12 +38,11 @@ module _ (law : LeavesGiveItems) (b : Building) (child : Child) (so_far : Standi
     whole = climbed.whole (pushed b) (leaf_roots law b child so_far hand read);
   }
 
-pub completed_empty : (give : LeavesGiveItems) (are : SubtreesAreTrees) (b new : Building) (root : Root) (a : ℕ) → IsNodeSize b.made.form.nodesize → AreSlots b.made.form.nodesize b.made.slots
-    → b.made.nodes ≡ [] → b.made.draft.items ≡ [] → IsNextSlot b.made a
+pub completed_empty : (give : LeavesGiveItems) (are : SubtreesAreTrees) (b new : Building) (root : Root) (a : ℕ) → b.made.nodes ≡ [] → b.made.draft.items ≡ [] → IsNextSlot b.made a
     → NodeReadsBack (begun_at b.made 0 a).draft (node_bytes (begun_at b.made 0 a).draft)
     → new.made ≡ with_node (begun_at b.made 0 a) (node_bytes (begun_at b.made 0 a).draft)
     → root.address ≡ a → root.level ≡ 0 → root.nodes ≡ length new.made.nodes → IsCompleted b new root
-completed_empty give are b new root a size slots none no_items at read is address level nodes =
+completed_empty give are b new root a none no_items at read is address level nodes =
     let bytes : List ℕ = node_bytes (begun_at b.made 0 a).draft in
     let empty : pushed b ≡ [] = ap (λ ns. flat_map items_in ns ++ b.made.draft.items) none ∙ no_items in
     let one : tree_nodes b.made.form.nodesize (lengths_of (pushed b)) ≡ 1 = ap (λ is. tree_nodes b.made.form.nodesize (lengths_of is)) empty ∙ empty_nodes b.made.form.nodesize in
@@ -58,7 +57,7 @@ completed_empty give are b new root a size slots none no_items at read is addres
           subst (λ is. IsRoot new.made root.address root.level is) (sym empty)
           (subst (λ (l : ℕ). IsRoot new.made root.address l []) (sym level)
           (subst (λ (x : ℕ). IsRoot new.made x 0 []) (sym address)
-          (subst (λ (m : Made). IsRoot m a 0 []) (sym is) (empty_root give are b.made a size slots none at read))));
+          (subst (λ (m : Made). IsRoot m a 0 []) (sym is) (empty_root give are b.made a at read))));
       nodes =
           subst (λ is. HasNodes new.made root.address root.level (tree_levels b.made.form.nodesize (length (packed_leaves b.made.form.nodesize (lengths_of is))))) (sym empty)
           (subst (λ (l : ℕ). HasNodes new.made root.address l (tree_levels b.made.form.nodesize (length (packed_leaves b.made.form.nodesize [])))) (sym level)

@@ -7,7 +7,7 @@ goes_none tells image m = λ front count. record { back = front; count = count; 
 
 -- the nodes that were held were written
 pub goes_flushed : (tells : Bool) (before after : Image) (old new : Made) → new ≡ flushed old
-    → (IsTrue tells → (front : List (List ℕ)) → length front ≡ old.written → StandAt before old.form.nodesize old.slots front → StandAt after old.form.nodesize old.slots (front ++ old.nodes))
+    → (IsTrue tells → (front : List (List ℕ)) → length front ≡ old.written → StandAt before old.form.nodesize old.offsets front → StandAt after old.form.nodesize old.offsets (front ++ old.nodes))
     → Goes tells before after old new (λ x y. y ≡ x)
 goes_flushed tells before after old new is written =
     subst (λ (m : Made). Goes tells before after old m (λ x y. y ≡ x)) (sym is)
@@ -25,11 +25,12 @@ pub later_then : (old mid new : Made) → IsLater old mid → IsLater mid new �
 later_then old mid new first second = record {
   form = second.form ∙ first.form;
   slots = second.slots ∙ first.slots;
+  offsets = second.offsets ∙ first.offsets;
   grown = omega (arith, first.grown, second.grown);
 }
 
 pub later_none : (m : Made) → IsLater m m
-later_none m = record { form = refl; slots = refl; grown = omega arith }
+later_none m = record { form = refl; slots = refl; offsets = refl; grown = omega arith }
 
 -- a block of the first slots is one of more of them
 pub in_more : (size n m : ℕ) (slots : List ℕ) (b : ℕ) → n ≤ m → IsInSlots size (take n slots) b → IsInSlots size (take m slots) b
@@ -47,24 +48,24 @@ in_more size n m slots b low found =
 
 -- the blocks that were written are those of slots that are taken now
 abbrev pub TakenOnly : Made → Made → History → History → Type 0
-TakenOnly old new before after = WritesOnly (λ b _. IsInSlots old.form.nodesize (take (taken new) old.slots) b) before after
+TakenOnly old new before after = WritesOnly (λ b _. IsInSlots old.form.nodesize (take (taken new) old.offsets) b) before after
 
 pub taken_then : (old mid new : Made) (first second third : History) → IsLater old mid → IsLater mid new → TakenOnly old mid first second → TakenOnly mid new second third → TakenOnly old new first third
 taken_then old mid new first second third one two before after =
-    writes_then (λ b _. IsInSlots old.form.nodesize (take (taken new) old.slots) b) first second third
-    (writes_weaker (λ b _. IsInSlots old.form.nodesize (take (taken mid) old.slots) b) (λ b _. IsInSlots old.form.nodesize (take (taken new) old.slots) b)
-    (λ b _ h. in_more old.form.nodesize (taken mid) (taken new) old.slots b two.grown h) first second before)
-    (subst (λ (n : ℕ). WritesOnly (λ b _. IsInSlots n (take (taken new) old.slots) b) second third) (ap (λ f. f.nodesize) one.form)
-    (subst (λ ss. WritesOnly (λ b _. IsInSlots mid.form.nodesize (take (taken new) ss) b) second third) one.slots after))
+    writes_then (λ b _. IsInSlots old.form.nodesize (take (taken new) old.offsets) b) first second third
+    (writes_weaker (λ b _. IsInSlots old.form.nodesize (take (taken mid) old.offsets) b) (λ b _. IsInSlots old.form.nodesize (take (taken new) old.offsets) b)
+    (λ b _ h. in_more old.form.nodesize (taken mid) (taken new) old.offsets b two.grown h) first second before)
+    (subst (λ (n : ℕ). WritesOnly (λ b _. IsInSlots n (take (taken new) old.offsets) b) second third) (ap (λ f. f.nodesize) one.form)
+    (subst (λ ss. WritesOnly (λ b _. IsInSlots mid.form.nodesize (take (taken new) ss) b) second third) one.offsets after))
 
 -- more slots were taken since, and nothing was written
 pub taken_more : (old mid new : Made) (first second : History) → IsLater mid new → TakenOnly old mid first second → TakenOnly old new first second
 taken_more old mid new first second two before =
-    writes_weaker (λ b _. IsInSlots old.form.nodesize (take (taken mid) old.slots) b) (λ b _. IsInSlots old.form.nodesize (take (taken new) old.slots) b)
-    (λ b _ h. in_more old.form.nodesize (taken mid) (taken new) old.slots b two.grown h) first second before
+    writes_weaker (λ b _. IsInSlots old.form.nodesize (take (taken mid) old.offsets) b) (λ b _. IsInSlots old.form.nodesize (take (taken new) old.offsets) b)
+    (λ b _ h. in_more old.form.nodesize (taken mid) (taken new) old.offsets b two.grown h) first second before
 
 -- no block was written before
 pub taken_from : (old mid new : Made) (first second : History) → IsLater old mid → TakenOnly mid new first second → TakenOnly old new first second
 taken_from old mid new first second one after =
-    subst (λ (n : ℕ). WritesOnly (λ b _. IsInSlots n (take (taken new) old.slots) b) first second) (ap (λ f. f.nodesize) one.form)
-    (subst (λ ss. WritesOnly (λ b _. IsInSlots mid.form.nodesize (take (taken new) ss) b) first second) one.slots after)
+    subst (λ (n : ℕ). WritesOnly (λ b _. IsInSlots n (take (taken new) old.offsets) b) first second) (ap (λ f. f.nodesize) one.form)
+    (subst (λ ss. WritesOnly (λ b _. IsInSlots mid.form.nodesize (take (taken new) ss) b) first second) one.offsets after)

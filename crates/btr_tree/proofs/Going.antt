@@ -33,26 +33,26 @@ told_is image size (a ∷ slots) (n ∷ nodes) few stand =
 -- The builder holds these items, and the nodes that were written stand on a disk.
 pub record HasFront (b : Building) (image : Image) (items : List Item) : Type 0 where
   pub holds : Holds b items
-  pub stand : StandAt image b.made.form.nodesize b.made.slots holds.front
+  pub stand : StandAt image b.made.form.nodesize b.made.offsets holds.front
 
 pub front_told : (b : Building) (image : Image) → IsReady b → Stands b image → HasFront b image (pushed_on b image)
 front_told b image ready stands = record {
   holds = record {
     front = told_nodes b image;
-    count = told_count image b.made.form.nodesize b.made.slots b.made.written few;
+    count = told_count image b.made.form.nodesize b.made.offsets b.made.written few;
     standing = stands;
     pushed_is = refl;
   };
-  stand = told_stand image b.made.form.nodesize b.made.slots b.made.written;
+  stand = told_stand image b.made.form.nodesize b.made.offsets b.made.written;
 }
   where
-    few : b.made.written ≤ length b.made.slots
+    few : b.made.written ≤ length b.made.offsets
     few = omega (arith, ready.1.count, ready.1.standing.few, length-append ready.1.front b.made.nodes)
 
 pub told_same : (b : Building) (image : Image) (items : List Item) → (f : HasFront b image items) → told_nodes b image ≡ f.holds.front
 told_same b image items f =
-    let few : length f.holds.front ≤ length b.made.slots = omega (arith, f.holds.standing.few, length-append f.holds.front b.made.nodes) in
-    ap (nodes_on image b.made.form.nodesize b.made.slots) (sym f.holds.count) ∙ told_is image b.made.form.nodesize b.made.slots f.holds.front few f.stand
+    let few : length f.holds.front ≤ length b.made.offsets = omega (arith, f.holds.standing.few, f.holds.standing.as_many, length-append f.holds.front b.made.nodes) in
+    ap (nodes_on image b.made.form.nodesize b.made.offsets) (sym f.holds.count) ∙ told_is image b.made.form.nodesize b.made.offsets f.holds.front few f.stand
 
 pub told_front : (b : Building) (image : Image) (items : List Item) → HasFront b image items → Stands b image × (pushed_on b image ≡ items)
 told_front b image items f =
@@ -117,11 +117,11 @@ module _ (tells : Bool) (first second : Image) (b new : Building) (mid : Made) (
   put_front told later items f = record {
     holds = put_holds items f.holds;
     stand =
-        subst (λ n. StandAt second n new.made.slots (room f.holds.front f.holds.count).back) (sym (ap (λ x. x.nodesize) later.form))
-        (subst (λ ss. StandAt second mid.form.nodesize ss (room f.holds.front f.holds.count).back) (sym later.slots) ((room f.holds.front f.holds.count).stands told f.stand));
+        subst (λ n. StandAt second n new.made.offsets (room f.holds.front f.holds.count).back) (sym (ap (λ x. x.nodesize) later.form))
+        (subst (λ ss. StandAt second mid.form.nodesize ss (room f.holds.front f.holds.count).back) (sym later.offsets) ((room f.holds.front f.holds.count).stands told f.stand));
   }
 
 pub stands_by_slots : StandsBySlots
 stands_by_slots = λ b image other same stands.
-    let is : told_nodes b other ≡ told_nodes b image = nodes_same image other b.made.form.nodesize b.made.written b.made.slots stands.nodesize stands.slots.aligned stands.slots.small same in
+    let is : told_nodes b other ≡ told_nodes b image = nodes_same image other b.made.form.nodesize b.made.written b.made.offsets stands.nodesize stands.slots.aligned stands.slots.small same in
     (subst (λ ns. Standing (all_made b ns)) (sym is) stands, ap (λ ns. pushed (all_made b ns)) is)

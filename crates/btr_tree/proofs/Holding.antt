@@ -4,18 +4,18 @@ use Rattle.btr_tree.proofs.RaisingFronts.{whole_count}
 use Rattle.btr_tree.proofs.Standing.{stands_new, fresh_whole, stands_first, stands_next, stands_fits, leaves_next, some_leaf, pushed_same}
 
 -- nothing was pushed
-module _ (m : Made) (form : Form) (owner generation : ℕ) (chunk_tree slots : List ℕ) (size : IsNodeSize form.nodesize) (right : AreSlots form.nodesize slots) (fresh : IsFresh form owner generation chunk_tree slots m) where
+module _ (m : Made) (form : Form) (owner generation : ℕ) (chunk_tree slots offsets : List ℕ) (size : IsNodeSize form.nodesize) (right : AreSlots form.nodesize offsets) (fresh : IsFresh form owner generation chunk_tree slots offsets m) where
   abbrev begun : List Child → Building
   begun children = record { made = m; children = children; hand = None; spent = false; done = false }
 
   new_standing : (front : List (List ℕ)) → front ≡ [] → Standing (all_made (begun []) front)
-  new_standing front none = stands_new (with_written m front) form owner generation chunk_tree slots size right (fresh_whole m form owner generation chunk_tree slots front none fresh)
+  new_standing front none = stands_new (with_written m front) form owner generation chunk_tree slots offsets size right (fresh_whole m form owner generation chunk_tree slots offsets front none fresh)
 
   new_pushed : (front : List (List ℕ)) → front ≡ [] → pushed (all_made (begun []) front) ≡ []
   new_pushed front none = ap (λ ns. flat_map items_in (ns ++ m.nodes) ++ m.draft.items) none ∙ (ap (λ ns. flat_map items_in ns ++ m.draft.items) fresh.no_nodes ∙ fresh.no_items)
 
   none_told : (image : Image) → told_nodes (begun []) image ≡ []
-  none_told image = ap (λ n. nodes_on image m.form.nodesize m.slots n) fresh.none_written
+  none_told image = ap (λ n. nodes_on image m.form.nodesize m.offsets n) fresh.none_written
 
   pub new_holds : (children : List Child) → children ≡ [] → Holds (begun children) []
   new_holds children none = subst (λ cs. Holds (begun cs) []) (sym none) (record { front = []; count = sym fresh.none_written; standing = new_standing [] refl; pushed_is = new_pushed [] refl })

@@ -52,7 +52,7 @@ pub use Rattle.btr_reader_walk.specs.declared.map.MapRange.{MapRange}
 pub use Rattle.btr_reader_walk.specs.declared.tree.Form.{Form}
 pub use Rattle.btr_reader_walk.specs.declared.tree.NodePointer.{NodePointer}
 pub use Rattle.btr_tree.specs.Builder.{Building, HasPut, HasTree, HasWhole, Holds, IsIdle, IsInHand, IsNextSlot, IsNextTaken, IsPushed, IsReady, IsSameBuilding, Standing, Stands, all_made, child_of, children_of, first_key, item_size, leaf_begun, leaf_closed, leaves_of, pushed, pushed_on, told_nodes}
-pub use Rattle.btr_tree.specs.Building.{AreSlots, Goes, HasBack, IsFresh, IsLater, IsParent, IsParentAt, Made, NodeReadsBack, StandAt, begun_at, expected_at, filled, flushed, nodes_on, pieces_of, pointer_to, slot, taken, with_item, with_node, with_written}
+pub use Rattle.btr_tree.specs.Building.{AreSlots, Goes, HasBack, IsFresh, IsLater, IsParent, IsParentAt, Made, MapsSlots, NodeReadsBack, StandAt, StandBy, begun_at, expected_at, filled, flushed, nodes_on, pieces_of, pointer_to, slot, taken, with_item, with_node, with_written}
 pub use Rattle.btr_tree.specs.Counting.{Counted, Tally, bytes_of, nodes_above, tree_nodes}
 pub use Rattle.btr_tree.specs.Laws.{GivesItself, MapsAgree, NodesHaveLinuxForm, NodesNeverFall, PackingIsFull, StandsBySlots}
 pub use Rattle.btr_tree.specs.Packing.{capacity, fan_out, packed, packed_leaves, tree_levels, weight}

@@ -1,8 +1,8 @@
 -- The leaves that were made are subtrees.
-use Rattle.btr_tree.proofs.Imports.{◌≡◌, ℕ, suc, ◌+◌, ◌%◌, ◌^◌, ◌<◌, ◌≤◌, ◌||◌, ltb, Bool, true, List, [], ◌∷◌, ◌++◌, length, map, take, get_or, refl, sym, ◌∙◌, ap, subst, arith, ⊎_elim, All, flat_map, sum_by, or_right, lt-ltb, cases_lt, append-nil, take_more, length-map, length_push, map-append, sum_by-cons, All-nil, All-cons, All-head, All-tail, ITEM_SIZE, Image, node_bytes, nritems, behind_head, first_keys, Item, IsBtrfsLeaf, item_layout, heads_in, items_in, IsNodeSize, records_in, Child, length-records_in, IsSubtree, AreSubtrees, LeavesGiveItems, SubtreesAreTrees, identity, is_mapped, node_at, want, child_pointer, Form, NodePointer, Made, AreSlots, slot, pointer_to, begun_at, with_node, NodeReadsBack, Building, pushed, first_key, child_of, children_of, IsInHand, IsNextSlot, Standing, item_size, tree_nodes, packed_from, packed, weight, capacity, level_sizes, packed_leaves, tree_levels, IsWhole, HasSubtreeRoots, IsExtended, IsRoot, HasNodes, HasWholeNodes, AreFirst, nodes_below, pointers_to, level_pointers, lengths_of, may_be_bare, nodes_in, pointer_events, IsPermutation, IsPermutation-refl}
+use Rattle.btr_tree.proofs.Imports.{◌≡◌, ℕ, suc, ◌+◌, ◌%◌, ◌^◌, ◌<◌, ◌≤◌, ◌||◌, ltb, Bool, true, List, [], ◌∷◌, ◌++◌, length, map, take, get_or, refl, sym, ◌∙◌, ap, subst, arith, ⊎_elim, All, flat_map, sum_by, or_right, lt-ltb, cases_lt, append-nil, take_more, length-map, length_push, map-append, sum_by-cons, All-nil, All-cons, All-head, All-tail, ITEM_SIZE, Image, MapRange, node_bytes, nritems, behind_head, first_keys, Item, IsBtrfsLeaf, item_layout, heads_in, items_in, IsNodeSize, records_in, Child, length-records_in, IsSubtree, AreSubtrees, LeavesGiveItems, SubtreesAreTrees, is_mapped, node_at, want, child_pointer, Form, NodePointer, Made, AreSlots, slot, pointer_to, begun_at, with_node, NodeReadsBack, Building, pushed, first_key, child_of, children_of, IsInHand, IsNextSlot, Standing, item_size, tree_nodes, packed_from, packed, weight, capacity, level_sizes, packed_leaves, tree_levels, IsWhole, HasSubtreeRoots, IsExtended, IsRoot, HasNodes, HasWholeNodes, AreFirst, nodes_below, pointers_to, level_pointers, lengths_of, may_be_bare, nodes_in, pointer_events, IsPermutation, IsPermutation-refl}
 use Rattle.btr_tree.proofs.Meeting.{leaf_met}
 use Rattle.btr_tree.proofs.Groups.{packed-fits, packed-next, packed-none}
-use Rattle.btr_tree.proofs.Raising.{slot_mapped, stand_last}
+use Rattle.btr_tree.proofs.Raising.{stand_last, stand_mapped}
 use Rattle.btr_tree.proofs.Wholes.{leaves_whole}
 use Rattle.btr_tree.proofs.Standing.{leaves_more, exact_more, children_more, full_more, lists_are, pushed_same, next_is}
 
@@ -11,25 +11,24 @@ count_is : (bytes : List ℕ) → length (items_in bytes) ≡ nritems bytes
 unfolding items_in heads_in
 count_is bytes = length-map (records_in ITEM_SIZE item_layout (nritems bytes) (behind_head bytes)) _ ∙ length-records_in ITEM_SIZE item_layout (nritems bytes) (behind_head bytes)
 
-leaves_subtrees : (law : LeavesGiveItems) (image : Image) (form : Form) (owner generation : ℕ) (bare : Bool) (slots : List ℕ) (nodes : List (List ℕ)) → IsNodeSize form.nodesize
-    → All (λ a. a % form.nodesize ≡ 0) slots → All (λ a. a < 2 ^ 64) slots → length nodes ≤ length slots
-    → ((i : ℕ) → i < length nodes → node_at image identity form.nodesize (slot slots i) ≡ get_or nodes i [])
+leaves_subtrees : (law : LeavesGiveItems) (image : Image) (ranges : List MapRange) (form : Form) (owner generation : ℕ) (bare : Bool) (slots : List ℕ) (nodes : List (List ℕ)) → length nodes ≤ length slots
+    → ((i : ℕ) → i < length nodes → is_mapped ranges form.nodesize (slot slots i) ≡ true)
+    → ((i : ℕ) → i < length nodes → node_at image ranges form.nodesize (slot slots i) ≡ get_or nodes i [])
     → ((i : ℕ) → i < length nodes → IsBtrfsLeaf (want form owner (pointer_to generation 0 (slot slots i))) (get_or nodes i []))
     → All (λ items. 1 ≤ length items) (map items_in nodes)
-    → AreSubtrees image identity form owner bare (map (child_pointer 0) (children_of generation slots (map items_in nodes))) (map items_in nodes)
-leaves_subtrees law image form owner generation bare [] [] size aligned small few stand leaf full = tt
-leaves_subtrees law image form owner generation bare [] (n ∷ nodes) size aligned small few stand leaf full = absurd (omega arith)
-leaves_subtrees law image form owner generation bare (a ∷ slots) [] size aligned small few stand leaf full = tt
-leaves_subtrees law image form owner generation bare (a ∷ slots) (n ∷ nodes) size aligned small few stand leaf full =
+    → AreSubtrees image ranges form owner bare (map (child_pointer 0) (children_of generation slots (map items_in nodes))) (map items_in nodes)
+leaves_subtrees law image ranges form owner generation bare [] [] few mapped stand leaf full = tt
+leaves_subtrees law image ranges form owner generation bare [] (n ∷ nodes) few mapped stand leaf full = absurd (omega arith)
+leaves_subtrees law image ranges form owner generation bare (a ∷ slots) [] few mapped stand leaf full = tt
+leaves_subtrees law image ranges form owner generation bare (a ∷ slots) (n ∷ nodes) few mapped stand leaf full =
     let p : NodePointer = pointer_to generation 0 a in
-    let node : node_at image identity form.nodesize a ≡ n = stand 0 (omega arith) in
-    let mapped : is_mapped identity form.nodesize a ≡ true = slot_mapped form.nodesize a size (All-head (λ b. b % form.nodesize ≡ 0) a slots aligned) (All-head (λ b. b < 2 ^ 64) a slots small) in
-    let here : IsBtrfsLeaf (want form owner p) (node_at image identity form.nodesize a) = subst (IsBtrfsLeaf (want form owner p)) (sym node) (leaf 0 (omega arith)) in
+    let node : node_at image ranges form.nodesize a ≡ n = stand 0 (omega arith) in
+    let here : IsBtrfsLeaf (want form owner p) (node_at image ranges form.nodesize a) = subst (IsBtrfsLeaf (want form owner p)) (sym node) (leaf 0 (omega arith)) in
     let many : 1 ≤ length (items_in n) = All-head (λ items. 1 ≤ length items) (items_in n) (map items_in nodes) full in
-    let some : (bare || ltb 0 (nritems (node_at image identity form.nodesize a))) ≡ true =
-    or_right bare (ltb 0 (nritems (node_at image identity form.nodesize a))) (lt-ltb 0 (nritems (node_at image identity form.nodesize a)) (omega (arith, count_is n, many, ap nritems node))) in (
-      subst (λ is. IsSubtree image identity form owner bare p is) (ap items_in node) (law image identity form owner bare p mapped here some),
-      leaves_subtrees law image form owner generation bare slots nodes size (All-tail (λ b. b % form.nodesize ≡ 0) a slots aligned) (All-tail (λ b. b < 2 ^ 64) a slots small) (omega arith)
+    let some : (bare || ltb 0 (nritems (node_at image ranges form.nodesize a))) ≡ true =
+    or_right bare (ltb 0 (nritems (node_at image ranges form.nodesize a))) (lt-ltb 0 (nritems (node_at image ranges form.nodesize a)) (omega (arith, count_is n, many, ap nritems node))) in (
+      subst (λ is. IsSubtree image ranges form owner bare p is) (ap items_in node) (law image ranges form owner bare p (mapped 0 (omega arith)) here some),
+      leaves_subtrees law image ranges form owner generation bare slots nodes (omega arith) (λ i h. mapped (suc i) (omega arith))
           (λ i h. stand (suc i) (omega arith)) (λ i h. leaf (suc i) (omega arith)) (All-tail (λ items. 1 ≤ length items) (items_in n) (map items_in nodes) full),
     )
 
@@ -55,14 +54,14 @@ flat_same : (nodes : List (List ℕ)) → flat_map (λ is. is) (map items_in nod
 flat_same [] = refl
 flat_same (n ∷ nodes) = ap (λ is. items_in n ++ is) (flat_same nodes)
 
-first_met : (image : Image) (form : Form) (owner generation : ℕ) (bare : Bool) (slots : List ℕ) (lists : List (List Item)) → length lists ≤ length slots
-    → flat_map (λ p. nodes_in (pointer_events image identity form owner bare p)) (map (child_pointer 0) (children_of generation slots lists)) ≡ map (pointer_to generation 0) (take (length lists) slots)
-first_met image form owner generation bare [] [] few = refl
-first_met image form owner generation bare [] (l ∷ lists) few = absurd (omega arith)
-first_met image form owner generation bare (a ∷ slots) [] few = refl
-first_met image form owner generation bare (a ∷ slots) (l ∷ lists) few =
-    ap (λ ps. ps ++ flat_map (λ p. nodes_in (pointer_events image identity form owner bare p)) (map (child_pointer 0) (children_of generation slots lists))) (leaf_met image form owner bare generation a)
-    ∙ ap (λ ps. pointer_to generation 0 a ∷ ps) (first_met image form owner generation bare slots lists (omega arith))
+first_met : (image : Image) (ranges : List MapRange) (form : Form) (owner generation : ℕ) (bare : Bool) (slots : List ℕ) (lists : List (List Item)) → length lists ≤ length slots
+    → flat_map (λ p. nodes_in (pointer_events image ranges form owner bare p)) (map (child_pointer 0) (children_of generation slots lists)) ≡ map (pointer_to generation 0) (take (length lists) slots)
+first_met image ranges form owner generation bare [] [] few = refl
+first_met image ranges form owner generation bare [] (l ∷ lists) few = absurd (omega arith)
+first_met image ranges form owner generation bare (a ∷ slots) [] few = refl
+first_met image ranges form owner generation bare (a ∷ slots) (l ∷ lists) few =
+    ap (λ ps. ps ++ flat_map (λ p. nodes_in (pointer_events image ranges form owner bare p)) (map (child_pointer 0) (children_of generation slots lists))) (leaf_met image ranges form owner bare generation a)
+    ∙ ap (λ ps. pointer_to generation 0 a ∷ ps) (first_met image ranges form owner generation bare slots lists (omega arith))
 
 -- once the last leaf is made
 module _ (law : LeavesGiveItems) (b : Building) (child : Child) (so_far : Standing b) (hand : IsInHand b child) (read : NodeReadsBack b.made.draft (node_bytes b.made.draft)) where
@@ -84,10 +83,10 @@ module _ (law : LeavesGiveItems) (b : Building) (child : Child) (so_far : Standi
           keys = children_keys m.generation m.slots (map items_in m.nodes) few_lists;
           full = full_more b child so_far hand read;
           one_generation = children_made m.generation m.slots (map items_in m.nodes);
-          subtrees = λ image bare stand.
-              leaves_subtrees law image m.form m.owner m.generation bare m.slots m.nodes so_far.nodesize so_far.slots.aligned so_far.slots.small few stand (leaves_more b child so_far hand read)
+          subtrees = λ image ranges bare stand.
+              leaves_subtrees law image ranges m.form m.owner m.generation bare m.slots m.nodes few stand.mapped stand.nodes_are (leaves_more b child so_far hand read)
               (full_more b child so_far hand read);
-          whole = λ image bare stand. leaves_whole image m bare m.slots m.nodes few stand (exact_more b child so_far hand read) (full_more b child so_far hand read);
+          whole = λ image ranges bare stand. leaves_whole image ranges m bare m.slots m.nodes few stand.nodes_are (exact_more b child so_far hand read) (full_more b child so_far hand read);
         };
         items_are = flat_same m.nodes ∙ pushed_same b child so_far hand read;
       })
@@ -98,12 +97,12 @@ module _ (law : LeavesGiveItems) (b : Building) (child : Child) (so_far : Standi
 
   -- they are met at the first slots
   pub leaves_first : AreFirst m (b.children ++ child ∷ [])
-  leaves_first = λ image bare stand.
+  leaves_first = λ image ranges bare stand.
       let k : ℕ = length (map items_in m.nodes) in
       let is : b.children ++ child ∷ [] ≡ children_of m.generation m.slots (map items_in m.nodes) = children_more b child so_far hand read in
       let many : length (b.children ++ child ∷ []) ≡ k = ap length is ∙ length-children_of m.generation m.slots (map items_in m.nodes) few_lists in
-      ap (nodes_below image m bare 0) is
-      ∙ (first_met image m.form m.owner m.generation bare m.slots (map items_in m.nodes) few_lists ∙ ap (λ (n : ℕ). pointers_to m.generation 0 0 n m.slots) (sym many))
+      ap (nodes_below image ranges m bare 0) is
+      ∙ (first_met image ranges m.form m.owner m.generation bare m.slots (map items_in m.nodes) few_lists ∙ ap (λ (n : ℕ). pointers_to m.generation 0 0 n m.slots) (sym many))
 
   -- the leaves are those that packing the items gives
   pub packed_count : length (packed item_size (capacity b.made.form.nodesize) (pushed b)) ≡ length m.nodes
@@ -140,42 +139,41 @@ pub extended_node : (m : Made) (bytes : List ℕ) → IsExtended m (with_node m 
 extended_node m bytes = record { more = bytes ∷ []; draft = m.draft; is = refl }
 
 -- an empty leaf is the tree without items
-pub empty_root : (give : LeavesGiveItems) (are : SubtreesAreTrees) (m : Made) (a : ℕ) → IsNodeSize m.form.nodesize → AreSlots m.form.nodesize m.slots → m.nodes ≡ [] → IsNextSlot m a
+pub empty_root : (give : LeavesGiveItems) (are : SubtreesAreTrees) (m : Made) (a : ℕ) → IsNextSlot m a
     → NodeReadsBack (begun_at m 0 a).draft (node_bytes (begun_at m 0 a).draft) → IsRoot (with_node (begun_at m 0 a) (node_bytes (begun_at m 0 a).draft)) a 0 []
-empty_root give are m a size slots none at read = λ image stand.
+empty_root give are m a at read = λ image ranges stand.
     let bytes : List ℕ = node_bytes (begun_at m 0 a).draft in
     let p : NodePointer = pointer_to m.generation 0 a in
     let next = next_is m a at in
-    let aligned : a % m.form.nodesize ≡ 0 = subst (λ (x : ℕ). x % m.form.nodesize ≡ 0) next.0 (slots.aligned (length m.nodes) 0 next.1) in
-    let small : a < 2 ^ 64 = subst (λ (x : ℕ). x < 2 ^ 64) next.0 (slots.small (length m.nodes) 0 next.1) in
-    let node : node_at image identity m.form.nodesize a ≡ bytes = sym (ap (node_at image identity m.form.nodesize) next.0) ∙ stand_last image m.form.nodesize m.slots m.nodes bytes stand in
-    let leaf : IsBtrfsLeaf (want m.form m.owner p) (node_at image identity m.form.nodesize a) = subst (IsBtrfsLeaf (want m.form m.owner p)) (sym node) (read.leaf refl) in
-    let below = give image identity m.form m.owner true p (slot_mapped m.form.nodesize a size aligned small) leaf refl in
-    are image identity m.form m.owner p [] (subst (λ is. IsSubtree image identity m.form m.owner true p is) (ap items_in node ∙ read.items refl) below) refl
+    let mapped : is_mapped ranges m.form.nodesize a ≡ true = subst (λ (x : ℕ). is_mapped ranges m.form.nodesize x ≡ true) next.0 (stand_mapped image ranges m.form.nodesize m.slots m.nodes bytes stand) in
+    let node : node_at image ranges m.form.nodesize a ≡ bytes = sym (ap (node_at image ranges m.form.nodesize) next.0) ∙ stand_last image ranges m.form.nodesize m.slots m.nodes bytes stand in
+    let leaf : IsBtrfsLeaf (want m.form m.owner p) (node_at image ranges m.form.nodesize a) = subst (IsBtrfsLeaf (want m.form m.owner p)) (sym node) (read.leaf refl) in
+    let below = give image ranges m.form m.owner true p mapped leaf refl in
+    are image ranges m.form m.owner p [] (subst (λ is. IsSubtree image ranges m.form m.owner true p is) (ap items_in node ∙ read.items refl) below) refl
 
 -- which is whole
 pub empty_whole : (m : Made) (a : ℕ) → IsNextSlot m a → NodeReadsBack (begun_at m 0 a).draft (node_bytes (begun_at m 0 a).draft)
     → HasWholeNodes (with_node (begun_at m 0 a) (node_bytes (begun_at m 0 a).draft)) a 0
-empty_whole m a at read = λ image stand.
+empty_whole m a at read = λ image ranges stand.
     let bytes : List ℕ = node_bytes (begun_at m 0 a).draft in
     let p : NodePointer = pointer_to m.generation 0 a in
-    let Node : NodePointer → Type 0 = IsWhole image identity m.form m.owner m.chunk_tree in
-    let node : node_at image identity m.form.nodesize a ≡ bytes =
-    sym (ap (node_at image identity m.form.nodesize) (next_is m a at).0) ∙ stand_last image m.form.nodesize m.slots m.nodes bytes stand in
+    let Node : NodePointer → Type 0 = IsWhole image ranges m.form m.owner m.chunk_tree in
+    let node : node_at image ranges m.form.nodesize a ≡ bytes =
+    sym (ap (node_at image ranges m.form.nodesize) (next_is m a at).0) ∙ stand_last image ranges m.form.nodesize m.slots m.nodes bytes stand in
     let here : Node p = record {
       exact = record { draft = (begun_at m 0 a).draft; right = read.right; nodesize_is = refl; want_is = refl; chunk_tree_is = refl; bytes_are = node };
       firsts = λ h. absurd (omega (arith, h));
     } in
-    subst (All Node) (sym (leaf_met image m.form m.owner true m.generation a)) (All-cons Node p [] here (All-nil Node))
+    subst (All Node) (sym (leaf_met image ranges m.form m.owner true m.generation a)) (All-cons Node p [] here (All-nil Node))
 
 -- an empty tree has one node
 pub empty_met : (m : Made) (a : ℕ) → m.nodes ≡ [] → IsNextSlot m a → HasNodes (with_node (begun_at m 0 a) (node_bytes (begun_at m 0 a).draft)) a 0 (tree_levels m.form.nodesize (length (packed_leaves m.form.nodesize [])))
 unfolding packed_from level_sizes
-empty_met m a none at = λ image stand.
+empty_met m a none at = λ image ranges stand.
     let next = next_is m a at in
     let first : get_or m.slots 0 0 ≡ a = ap (λ ns. slot m.slots (length {A = List ℕ} ns)) (sym none) ∙ next.0 in
     let some : 0 < length m.slots = omega (arith, next.1) in
     let one : take 1 m.slots ≡ a ∷ [] = take_more m.slots 0 0 some ∙ ap (λ (x : ℕ). x ∷ []) first in
-    let own : nodes_in (pointer_events image identity m.form m.owner (may_be_bare (pointer_to m.generation 0 a)) (pointer_to m.generation 0 a)) ≡ level_pointers m.generation 0 0 m.slots (1 ∷ []) =
-    leaf_met image m.form m.owner (may_be_bare (pointer_to m.generation 0 a)) m.generation a ∙ sym (append-nil (pointers_to m.generation 0 0 1 m.slots) ∙ ap (map (pointer_to m.generation 0)) one) in
-    subst (IsPermutation (nodes_in (pointer_events image identity m.form m.owner (may_be_bare (pointer_to m.generation 0 a)) (pointer_to m.generation 0 a)))) own (IsPermutation-refl _)
+    let own : nodes_in (pointer_events image ranges m.form m.owner (may_be_bare (pointer_to m.generation 0 a)) (pointer_to m.generation 0 a)) ≡ level_pointers m.generation 0 0 m.slots (1 ∷ []) =
+    leaf_met image ranges m.form m.owner (may_be_bare (pointer_to m.generation 0 a)) m.generation a ∙ sym (append-nil (pointers_to m.generation 0 0 1 m.slots) ∙ ap (map (pointer_to m.generation 0)) one) in
+    subst (IsPermutation (nodes_in (pointer_events image ranges m.form m.owner (may_be_bare (pointer_to m.generation 0 a)) (pointer_to m.generation 0 a)))) own (IsPermutation-refl _)

@@ -23,6 +23,7 @@ pub mod Meeting
 pub mod Numbered
 pub mod OnDisk
 pub mod PiecesOf
+pub mod Placing
 pub mod Raising
 pub mod RaisingFronts
 pub mod RaisingLoop

@@ -4,7 +4,7 @@ use Rattle.btr_tree.proofs.Alike.{events_alike, items_alike}
 use Rattle.btr_tree.proofs.WholesAlike.{whole_alike}
 
 -- an address by the map that gives each address itself
-identity_gives : (a : ℕ) → a < 2 ^ 64 → place identity a ≡ Some a
+pub identity_gives : (a : ℕ) → a < 2 ^ 64 → place identity a ≡ Some a
 identity_gives a small =
     let inside : holds (record { logical = 0; length = 2 ^ 64; physical = 0; mirror = None }) a ≡ true = and_from (leb 0 a) (ltb a (0 + 2 ^ 64)) (le-leb 0 a (omega arith)) (lt-ltb a (0 + 2 ^ 64) (omega arith)) in
     let at : 0 + (a - 0) ≡ a = omega arith in rw inside (ap Some at)

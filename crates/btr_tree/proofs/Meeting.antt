@@ -1,44 +1,44 @@
 -- The nodes that a walk meets.
-use Rattle.btr_tree.proofs.Imports.{◌≡◌, ℕ, suc, ◌+◌, Bool, List, [], ◌∷◌, ◌++◌, length, map, refl, sym, ◌∙◌, ap, subst, arith, append_assoc, flat_map, sum, IsPermutation, append-nil, map-append, flat_map-append, IsPermutation-append_left, IsPermutation-append_right, IsPermutation-append_comm, sum_by-cons, Image, BtrRefusal, BtrRule, children_in, Item, items_in, Child, Form, NodePointer, identity, node_at, child_pointer, node_damages, TreeEvent, leaf_events, unless_damaged, node_events, nodes_in, pointer_events, at_address, IsSubtree, nodes_in-append, leaf_nodes, Made, pointer_to, nodes_below, pointers_to, level_pointers}
+use Rattle.btr_tree.proofs.Imports.{◌≡◌, ℕ, suc, ◌+◌, Bool, List, [], ◌∷◌, ◌++◌, length, map, refl, sym, ◌∙◌, ap, subst, arith, append_assoc, flat_map, sum, IsPermutation, append-nil, map-append, flat_map-append, IsPermutation-append_left, IsPermutation-append_right, IsPermutation-append_comm, sum_by-cons, Image, MapRange, BtrRefusal, BtrRule, children_in, Item, items_in, Child, Form, NodePointer, node_at, child_pointer, node_damages, TreeEvent, leaf_events, unless_damaged, node_events, nodes_in, pointer_events, at_address, IsSubtree, nodes_in-append, leaf_nodes, Made, pointer_to, nodes_below, pointers_to, level_pointers}
 
-module _ (image : Image) (form : Form) (owner : ℕ) (bare : Bool) where
+module _ (image : Image) (ranges : List MapRange) (form : Form) (owner : ℕ) (bare : Bool) where
   abbrev met : NodePointer → List NodePointer
-  met p = nodes_in (pointer_events image identity form owner bare p)
+  met p = nodes_in (pointer_events image ranges form owner bare p)
 
   -- a leaf meets itself alone
   pub leaf_met : (g a : ℕ) → met (pointer_to g 0 a) ≡ pointer_to g 0 a ∷ []
   unfolding node_events
-  leaf_met g a = ap (λ ps. pointer_to g 0 a ∷ ps) (none (node_damages image identity form owner bare (pointer_to g 0 a)))
+  leaf_met g a = ap (λ ps. pointer_to g 0 a ∷ ps) (none (node_damages image ranges form owner bare (pointer_to g 0 a)))
     where
-      none : (d : List BtrRule) → nodes_in (unless_damaged d (leaf_events a (items_in (node_at image identity form.nodesize a)))) ≡ []
-      none [] = leaf_nodes a (items_in (node_at image identity form.nodesize a))
+      none : (d : List BtrRule) → nodes_in (unless_damaged d (leaf_events a (items_in (node_at image ranges form.nodesize a)))) ≡ []
+      none [] = leaf_nodes a (items_in (node_at image ranges form.nodesize a))
       none (rule ∷ rules) = refl
 
   flat_nodes : (f : Child → List TreeEvent) (children : List Child) → nodes_in (flat_map f children) ≡ flat_map (λ c. nodes_in (f c)) children
   flat_nodes f [] = refl
   flat_nodes f (c ∷ cs) = nodes_in-append (f c) (flat_map f cs) ∙ ap (λ ps. nodes_in (f c) ++ ps) (flat_nodes f cs)
 
-  over_pointers : (level : ℕ) (children : List Child) → flat_map (λ c. nodes_in (node_events image identity form owner bare level c.address c.generation)) children ≡ flat_map met (map (child_pointer level) children)
+  over_pointers : (level : ℕ) (children : List Child) → flat_map (λ c. nodes_in (node_events image ranges form owner bare level c.address c.generation)) children ≡ flat_map met (map (child_pointer level) children)
   over_pointers level [] = refl
-  over_pointers level (c ∷ cs) = ap (λ ps. nodes_in (node_events image identity form owner bare level c.address c.generation) ++ ps) (over_pointers level cs)
+  over_pointers level (c ∷ cs) = ap (λ ps. nodes_in (node_events image ranges form owner bare level c.address c.generation) ++ ps) (over_pointers level cs)
 
   -- a node with nothing wrong below it breaks no rule
-  no_damage : (level g a : ℕ) (items : List Item) → IsSubtree image identity form owner bare (pointer_to g (suc level) a) items → node_damages image identity form owner bare (pointer_to g (suc level) a) ≡ []
+  no_damage : (level g a : ℕ) (items : List Item) → IsSubtree image ranges form owner bare (pointer_to g (suc level) a) items → node_damages image ranges form owner bare (pointer_to g (suc level) a) ≡ []
   unfolding node_events
-  no_damage level g a items is = first_none a (node_damages image identity form owner bare (pointer_to g (suc level) a)) _ is.sound
+  no_damage level g a items is = first_none a (node_damages image ranges form owner bare (pointer_to g (suc level) a)) _ is.sound
     where
       first_none : (a : ℕ) (d : List BtrRule) (rest : List BtrRefusal) → at_address a d ++ rest ≡ [] → d ≡ []
       first_none a [] rest none = refl
       first_none a (rule ∷ rules) rest none = absurd (omega (arith, ap length none))
 
   -- an inner node meets itself, and then what its children meet
-  pub inner_met : (level g a : ℕ) (items : List Item) (part : List Child) → IsSubtree image identity form owner bare (pointer_to g (suc level) a) items → children_in (node_at image identity form.nodesize a) ≡ part
+  pub inner_met : (level g a : ℕ) (items : List Item) (part : List Child) → IsSubtree image ranges form owner bare (pointer_to g (suc level) a) items → children_in (node_at image ranges form.nodesize a) ≡ part
       → met (pointer_to g (suc level) a) ≡ pointer_to g (suc level) a ∷ flat_map met (map (child_pointer level) part)
   unfolding node_events
   inner_met level g a items part is links =
       let p : NodePointer = pointer_to g (suc level) a in
-      let below : Child → List TreeEvent = λ c. node_events image identity form owner bare level c.address c.generation in
-      ap (λ (d : List BtrRule). p ∷ nodes_in (unless_damaged d (flat_map below (children_in (node_at image identity form.nodesize a))))) (no_damage level g a items is)
+      let below : Child → List TreeEvent = λ c. node_events image ranges form owner bare level c.address c.generation in
+      ap (λ (d : List BtrRule). p ∷ nodes_in (unless_damaged d (flat_map below (children_in (node_at image ranges form.nodesize a))))) (no_damage level g a items is)
       ∙ ap (λ ps. p ∷ ps) (ap (λ cs. nodes_in (flat_map below cs)) links ∙ (flat_nodes below part ∙ over_pointers level part))
 
 -- one more node behind those of its level
@@ -51,13 +51,13 @@ perm_more ps bs cs p =
     subst (λ zs. IsPermutation zs ((ps ++ p ∷ []) ++ (bs ++ cs))) (sym (append_assoc ps bs (p ∷ cs)))
     (subst (IsPermutation (ps ++ (bs ++ p ∷ cs))) (sym (append_assoc ps (p ∷ []) (bs ++ cs))) (IsPermutation-append_right ps (bs ++ p ∷ cs) ((p ∷ []) ++ (bs ++ cs)) moved))
 
-pub below_append : (image : Image) (m : Made) (bare : Bool) (level : ℕ) (xs ys : List Child) → nodes_below image m bare level (xs ++ ys) ≡ nodes_below image m bare level xs ++ nodes_below image m bare level ys
-below_append image m bare level xs ys =
-    let met : NodePointer → List NodePointer = λ p. nodes_in (pointer_events image identity m.form m.owner bare p) in
+pub below_append : (image : Image) (ranges : List MapRange) (m : Made) (bare : Bool) (level : ℕ) (xs ys : List Child) → nodes_below image ranges m bare level (xs ++ ys) ≡ nodes_below image ranges m bare level xs ++ nodes_below image ranges m bare level ys
+below_append image ranges m bare level xs ys =
+    let met : NodePointer → List NodePointer = λ p. nodes_in (pointer_events image ranges m.form m.owner bare p) in
     ap (flat_map met) (map-append (child_pointer level) xs ys) ∙ flat_map-append met (map (child_pointer level) xs) (map (child_pointer level) ys)
 
-pub below_one : (image : Image) (m : Made) (bare : Bool) (level : ℕ) (c : Child) → nodes_below image m bare level (c ∷ []) ≡ nodes_in (pointer_events image identity m.form m.owner bare (child_pointer level c))
-below_one image m bare level c = append-nil (nodes_in (pointer_events image identity m.form m.owner bare (child_pointer level c)))
+pub below_one : (image : Image) (ranges : List MapRange) (m : Made) (bare : Bool) (level : ℕ) (c : Child) → nodes_below image ranges m bare level (c ∷ []) ≡ nodes_in (pointer_events image ranges m.form m.owner bare (child_pointer level c))
+below_one image ranges m bare level c = append-nil (nodes_in (pointer_events image ranges m.form m.owner bare (child_pointer level c)))
 
 -- one level more
 pub levels_more : (generation level skip : ℕ) (slots sizes : List ℕ) (n : ℕ)

@@ -63,5 +63,6 @@ same_twice a b c first second = record {
   owner = second.owner ∙ first.owner;
   generation = second.generation ∙ first.generation;
   slots = second.slots ∙ first.slots;
+  offsets = second.offsets ∙ first.offsets;
   chunk_tree = second.chunk_tree ∙ first.chunk_tree;
 }

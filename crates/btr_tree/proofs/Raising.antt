@@ -1,5 +1,5 @@
 -- A level of a tree from the one below it.
-use Rattle.btr_tree.proofs.Imports.{◌≡◌, ℕ, zero, suc, ◌+◌, ◌*◌, ◌/◌, ◌%◌, ◌^◌, ◌<◌, ◌≤◌, leb, ltb, eqb, Bool, true, List, [], ◌∷◌, ◌++◌, length, map, take, drop, get_or, None, refl, sym, ◌∙◌, ap, subst, arith, ⊎_elim, All, flat_map, and_from, le-leb, lt-ltb, eq-eqb, take-append-drop, take_more, map-append, take-map, drop-map, length_push, get_or_append_left, get_or_push, get_or-take, get_or-drop, length-take, length-drop, Image, IsBtrfsInner, children_in, first_keys, Item, IsNodeSize, Ascends, ascends, Child, first_ascends, second_ascends, IsSubtree, AreSubtrees, ChildrenGiveItems, Key, get_or_from_slice_get, slice_get_within, holds, identity, are_mapped, is_mapped, node_at, want, child_pointer, Form, NodePointer, Made, AreSlots, slot, StandAt, pointer_to, IsParent, first_key, AreRoots, nodes_below, AreWhole, nodes_in, pointer_events, IsExact, IsWhole, HasFirstKey, first_key_in, All-nil, All-cons}
+use Rattle.btr_tree.proofs.Imports.{◌≡◌, ℕ, zero, suc, ◌+◌, ◌*◌, ◌/◌, ◌%◌, ◌^◌, ◌<◌, ◌≤◌, leb, ltb, eqb, Bool, true, List, [], ◌∷◌, ◌++◌, length, map, take, drop, get_or, None, refl, sym, ◌∙◌, ap, subst, arith, ⊎_elim, All, flat_map, and_from, le-leb, lt-ltb, eq-eqb, take-append-drop, take_more, map-append, take-map, drop-map, length_push, get_or_append_left, get_or_push, get_or-take, get_or-drop, length-take, length-drop, Image, MapRange, IsBtrfsInner, children_in, first_keys, Item, IsNodeSize, Ascends, ascends, Child, first_ascends, second_ascends, IsSubtree, AreSubtrees, ChildrenGiveItems, Key, get_or_from_slice_get, slice_get_within, holds, identity, are_mapped, is_mapped, node_at, want, child_pointer, Form, NodePointer, Made, AreSlots, slot, StandBy, pointer_to, IsParent, first_key, AreRoots, nodes_below, AreWhole, nodes_in, pointer_events, IsExact, IsWhole, HasFirstKey, first_key_in, All-nil, All-cons}
 use Rattle.btr_tree.proofs.Standing.{all_push}
 use Rattle.btr_tree.proofs.Meeting.{inner_met, below_one}
 use Rattle.btr_tree.proofs.Wholes.{Node, First, first_child, whole_part, whole_append}
@@ -20,48 +20,26 @@ part_ascends children s n h =
     let cut' : first_keys rest ≡ first_keys (take n rest) ++ first_keys (drop n rest) = sym (ap first_keys (take-append-drop n rest)) ∙ map-append (λ (c : Child). c.key) (take n rest) (drop n rest) in
     first_ascends (first_keys (take n rest)) (first_keys (drop n rest)) (sym (ap ascends cut') ∙ second_ascends (first_keys (take s children)) (first_keys rest) (sym (ap ascends cut) ∙ h))
 
--- a node lies in the map that gives each address itself
-are_mapped_all : (n a : ℕ) → a + 4096 * n ≤ 2 ^ 64 → are_mapped identity n a ≡ true
-are_mapped_all zero a fits = refl
-are_mapped_all (suc n) a fits =
-    let inside : holds (record { logical = 0; length = 2 ^ 64; physical = 0; mirror = None }) a ≡ true = and_from (leb 0 a) (ltb a (0 + 2 ^ 64)) (le-leb 0 a (omega arith)) (lt-ltb a (0 + 2 ^ 64) (omega arith)) in
-    rw inside (are_mapped_all n (a + 4096) (omega arith))
-
-record Fits (n a : ℕ) : Type 0 where
-  whole : a % 4096 ≡ 0
-  within : a + 4096 * (n / 4096) ≤ 2 ^ 64
-
-node_fits : (n a : ℕ) → IsNodeSize n → a % n ≡ 0 → a < 2 ^ 64 → Fits n a
-node_fits n a size aligned small =
-    ⊎_elim (λ (e : n ≡ 4096). by 4096 e (λ h. record { whole = h; within = omega arith }))
-    (λ rest. ⊎_elim (λ (e : n ≡ 8192). by 8192 e (λ h. record { whole = omega arith; within = omega arith }))
-    (λ rest'. ⊎_elim (λ (e : n ≡ 16384). by 16384 e (λ h. record { whole = omega arith; within = omega arith }))
-    (λ rest''. ⊎_elim (λ (e : n ≡ 32768). by 32768 e (λ h. record { whole = omega arith; within = omega arith }))
-    (λ (e : n ≡ 65536). by 65536 e (λ h. record { whole = omega arith; within = omega arith })) rest'') rest') rest) size
-  where
-    by : (k : ℕ) → n ≡ k → (a % k ≡ 0 → Fits k a) → Fits n a
-    by k e turn = subst (λ (j : ℕ). Fits j a) (sym e) (turn (subst (λ (j : ℕ). a % j ≡ 0) e aligned))
-
-pub slot_mapped : (n a : ℕ) → IsNodeSize n → a % n ≡ 0 → a < 2 ^ 64 → is_mapped identity n a ≡ true
-unfolding is_mapped
-slot_mapped n a size aligned small =
-    let fits = node_fits n a size aligned small in
-    and_from (eqb (a % 4096) 0) (are_mapped identity (n / 4096) a) (eq-eqb (a % 4096) 0 fits.whole) (are_mapped_all (n / 4096) a fits.within)
-
 -- where more nodes stand, the fewer do
-pub stand_fewer : (image : Image) (n : ℕ) (slots : List ℕ) (nodes : List (List ℕ)) (bytes : List ℕ) → StandAt image n slots (nodes ++ bytes ∷ []) → StandAt image n slots nodes
-stand_fewer image n slots nodes bytes stand = λ i h.
-    stand i (omega (arith, length_push nodes bytes, h)) ∙ get_or_append_left nodes (bytes ∷ []) [] i h
+pub stand_fewer : (image : Image) (ranges : List MapRange) (n : ℕ) (slots : List ℕ) (nodes : List (List ℕ)) (bytes : List ℕ) → StandBy image ranges n slots (nodes ++ bytes ∷ []) → StandBy image ranges n slots nodes
+stand_fewer image ranges n slots nodes bytes stand = record {
+  mapped = λ i h. stand.mapped i (omega (arith, length_push nodes bytes, h));
+  nodes_are = λ i h. stand.nodes_are i (omega (arith, length_push nodes bytes, h)) ∙ get_or_append_left nodes (bytes ∷ []) [] i h;
+}
 
-pub stand_last : (image : Image) (n : ℕ) (slots : List ℕ) (nodes : List (List ℕ)) (bytes : List ℕ) → StandAt image n slots (nodes ++ bytes ∷ [])
-    → node_at image identity n (slot slots (length nodes)) ≡ bytes
-stand_last image n slots nodes bytes stand = stand (length nodes) (omega (arith, length_push nodes bytes)) ∙ get_or_push nodes bytes [] (length nodes) refl
+pub stand_last : (image : Image) (ranges : List MapRange) (n : ℕ) (slots : List ℕ) (nodes : List (List ℕ)) (bytes : List ℕ) → StandBy image ranges n slots (nodes ++ bytes ∷ [])
+    → node_at image ranges n (slot slots (length nodes)) ≡ bytes
+stand_last image ranges n slots nodes bytes stand = stand.nodes_are (length nodes) (omega (arith, length_push nodes bytes)) ∙ get_or_push nodes bytes [] (length nodes) refl
 
-module _ (image : Image) (form : Form) (owner : ℕ) (bare : Bool) where
+pub stand_mapped : (image : Image) (ranges : List MapRange) (n : ℕ) (slots : List ℕ) (nodes : List (List ℕ)) (bytes : List ℕ) → StandBy image ranges n slots (nodes ++ bytes ∷ [])
+    → is_mapped ranges n (slot slots (length nodes)) ≡ true
+stand_mapped image ranges n slots nodes bytes stand = stand.mapped (length nodes) (omega (arith, length_push nodes bytes))
+
+module _ (image : Image) (ranges : List MapRange) (form : Form) (owner : ℕ) (bare : Bool) where
   abbrev Are : List NodePointer → List (List Item) → Type 0
-  Are = AreSubtrees image identity form owner bare
+  Are = AreSubtrees image ranges form owner bare
 
-  subtrees_push : (ps : List NodePointer) (lists : List (List Item)) (p : NodePointer) (items : List Item) → Are ps lists → IsSubtree image identity form owner bare p items → Are (ps ++ p ∷ []) (lists ++ items ∷ [])
+  subtrees_push : (ps : List NodePointer) (lists : List (List Item)) (p : NodePointer) (items : List Item) → Are ps lists → IsSubtree image ranges form owner bare p items → Are (ps ++ p ∷ []) (lists ++ items ∷ [])
   subtrees_push [] [] p items are is = (is, tt)
   subtrees_push [] (l ∷ lists) p items are is = absurd are
   subtrees_push (q ∷ ps) [] p items are is = absurd are
@@ -96,19 +74,19 @@ part_roots m level s n children lists roots = record {
       let inside : s + k < length children = omega (arith, h, length-take n (drop s children), length-drop s children) in
       let at : get_or (take n (drop s children)) k d ≡ get_or children (s + k) d = get_or-take n (drop s children) k d few ∙ get_or-drop s children k d in
       subst (λ (c : Child). c.generation ≡ m.generation) (sym at) (roots.one_generation (s + k) d inside);
-  subtrees = λ image bare stand.
+  subtrees = λ image ranges bare stand.
       let ps : List NodePointer = map (child_pointer level) children in
       let same : take n (drop s ps) ≡ map (child_pointer level) (take n (drop s children)) = ap (take n) (drop-map (child_pointer level) s children) ∙ take-map (child_pointer level) n (drop s children) in
-      subst (λ qs. AreSubtrees image identity m.form m.owner bare qs (take n (drop s lists))) same
-      (subtrees_take image m.form m.owner bare n (drop s ps) (drop s lists) (subtrees_drop image m.form m.owner bare s ps lists (roots.subtrees image bare stand)));
-  whole = λ image bare stand. whole_part image m bare level s n children (roots.whole image bare stand);
+      subst (λ qs. AreSubtrees image ranges m.form m.owner bare qs (take n (drop s lists))) same
+      (subtrees_take image ranges m.form m.owner bare n (drop s ps) (drop s lists) (subtrees_drop image ranges m.form m.owner bare s ps lists (roots.subtrees image ranges bare stand)));
+  whole = λ image ranges bare stand. whole_part image ranges m bare level s n children (roots.whole image ranges bare stand);
 }
 
 -- one more root
 record IsOneRoot (m : Made) (level : ℕ) (child : Child) (items : List Item) : Type 0 where
   key : child.key ≡ first_key items
   some : 1 ≤ length items
-  subtree : (image : Image) (bare : Bool) → StandAt image m.form.nodesize m.slots m.nodes → IsSubtree image identity m.form m.owner bare (child_pointer level child) items
+  subtree : (image : Image) (ranges : List MapRange) (bare : Bool) → StandBy image ranges m.form.nodesize m.slots m.nodes → IsSubtree image ranges m.form m.owner bare (child_pointer level child) items
 
 unfoldable pub flat : List (List Item) → List Item
 flat lists = flat_map (λ items. items) lists
@@ -125,8 +103,7 @@ head_key (c ∷ part) [] d keys full some = absurd (omega (arith, ap length keys
 head_key (c ∷ part) ([] ∷ lists) d keys full some = absurd (let none : 1 ≤ length {A = Item} [] = full 0 [] (omega arith) in omega arith)
 head_key (c ∷ part) ((i ∷ items) ∷ lists) d keys full some = (cc, omega arith)
 
-module _ (law : ChildrenGiveItems) (m : Made) (level : ℕ) (part : List Child) (lists : List (List Item)) (child : Child) (new : Made) (size : IsNodeSize m.form.nodesize)
-    (slots : AreSlots m.form.nodesize m.slots) (some : 1 ≤ length part) (roots : AreRoots m level part lists) (parent : IsParent m (suc level) part child new) where
+module _ (law : ChildrenGiveItems) (m : Made) (level : ℕ) (part : List Child) (lists : List (List Item)) (child : Child) (new : Made) (some : 1 ≤ length part) (roots : AreRoots m level part lists) (parent : IsParent m (suc level) part child new) where
   abbrev p : NodePointer
   p = pointer_to m.generation (suc level) parent.address
 
@@ -136,57 +113,53 @@ module _ (law : ChildrenGiveItems) (m : Made) (level : ℕ) (part : List Child) 
   slot_is : slot m.slots (length m.nodes) ≡ parent.address
   slot_is = get_or_from_slice_get m.slots (length m.nodes) parent.address 0 parent.next
 
-  mapped : is_mapped identity m.form.nodesize parent.address ≡ true
-  mapped =
-      let inside = slice_get_within m.slots (length m.nodes) parent.address parent.next in
-      let aligned : parent.address % m.form.nodesize ≡ 0 = subst (λ (a : ℕ). a % m.form.nodesize ≡ 0) slot_is (slots.aligned (length m.nodes) 0 inside) in
-      let small : parent.address < 2 ^ 64 = subst (λ (a : ℕ). a < 2 ^ 64) slot_is (slots.small (length m.nodes) 0 inside) in
-      slot_mapped m.form.nodesize parent.address size aligned small
+  mapped : (image : Image) (ranges : List MapRange) → StandBy image ranges m.form.nodesize m.slots (m.nodes ++ parent.bytes ∷ []) → is_mapped ranges m.form.nodesize parent.address ≡ true
+  mapped image ranges stand = subst (λ (a : ℕ). is_mapped ranges m.form.nodesize a ≡ true) slot_is (stand_mapped image ranges m.form.nodesize m.slots m.nodes parent.bytes stand)
 
-  below_parent : (image : Image) (bare : Bool) → StandAt image m.form.nodesize m.slots (m.nodes ++ parent.bytes ∷ []) → IsSubtree image identity m.form m.owner bare p (flat lists)
+  below_parent : (image : Image) (ranges : List MapRange) (bare : Bool) → StandBy image ranges m.form.nodesize m.slots (m.nodes ++ parent.bytes ∷ []) → IsSubtree image ranges m.form m.owner bare p (flat lists)
   unfolding flat
-  below_parent image bare stand =
-      let node : node_at image identity m.form.nodesize parent.address ≡ parent.bytes =
-      sym (ap (node_at image identity m.form.nodesize) slot_is) ∙ stand_last image m.form.nodesize m.slots m.nodes parent.bytes stand in
-      let inner : IsBtrfsInner (want m.form m.owner p) (node_at image identity m.form.nodesize parent.address) = subst (IsBtrfsInner (want m.form m.owner p)) (sym node) parent.inner in
-      let links : children_in (node_at image identity m.form.nodesize parent.address) ≡ part = ap children_in node ∙ parent.links in
-      let are : AreSubtrees image identity m.form m.owner bare (map (child_pointer level) (children_in (node_at image identity m.form.nodesize parent.address))) lists =
-      subst (λ cs. AreSubtrees image identity m.form m.owner bare (map (child_pointer level) cs) lists) (sym links)
-      (roots.subtrees image bare (stand_fewer image m.form.nodesize m.slots m.nodes parent.bytes stand)) in
-      law image identity m.form m.owner bare p level lists refl mapped inner are
+  below_parent image ranges bare stand =
+      let node : node_at image ranges m.form.nodesize parent.address ≡ parent.bytes =
+      sym (ap (node_at image ranges m.form.nodesize) slot_is) ∙ stand_last image ranges m.form.nodesize m.slots m.nodes parent.bytes stand in
+      let inner : IsBtrfsInner (want m.form m.owner p) (node_at image ranges m.form.nodesize parent.address) = subst (IsBtrfsInner (want m.form m.owner p)) (sym node) parent.inner in
+      let links : children_in (node_at image ranges m.form.nodesize parent.address) ≡ part = ap children_in node ∙ parent.links in
+      let are : AreSubtrees image ranges m.form m.owner bare (map (child_pointer level) (children_in (node_at image ranges m.form.nodesize parent.address))) lists =
+      subst (λ cs. AreSubtrees image ranges m.form m.owner bare (map (child_pointer level) cs) lists) (sym links)
+      (roots.subtrees image ranges bare (stand_fewer image ranges m.form.nodesize m.slots m.nodes parent.bytes stand)) in
+      law image ranges m.form m.owner bare p level lists refl (mapped image ranges stand) inner are
 
   -- the walk of a parent meets the parent, and then what its children meet
-  pub parent_met : (image : Image) (bare : Bool) → StandAt image m.form.nodesize m.slots (m.nodes ++ parent.bytes ∷ [])
-      → nodes_below image m bare (suc level) (child ∷ []) ≡ child_pointer (suc level) child ∷ nodes_below image m bare level part
-  parent_met image bare stand =
-      let node : node_at image identity m.form.nodesize parent.address ≡ parent.bytes =
-      sym (ap (node_at image identity m.form.nodesize) slot_is) ∙ stand_last image m.form.nodesize m.slots m.nodes parent.bytes stand in
-      let met = inner_met image m.form m.owner bare level m.generation parent.address (flat lists) part (below_parent image bare stand) (ap children_in node ∙ parent.links) in
+  pub parent_met : (image : Image) (ranges : List MapRange) (bare : Bool) → StandBy image ranges m.form.nodesize m.slots (m.nodes ++ parent.bytes ∷ [])
+      → nodes_below image ranges m bare (suc level) (child ∷ []) ≡ child_pointer (suc level) child ∷ nodes_below image ranges m bare level part
+  parent_met image ranges bare stand =
+      let node : node_at image ranges m.form.nodesize parent.address ≡ parent.bytes =
+      sym (ap (node_at image ranges m.form.nodesize) slot_is) ∙ stand_last image ranges m.form.nodesize m.slots m.nodes parent.bytes stand in
+      let met = inner_met image ranges m.form m.owner bare level m.generation parent.address (flat lists) part (below_parent image ranges bare stand) (ap children_in node ∙ parent.links) in
       let is : child_pointer (suc level) child ≡ p = ap (child_pointer (suc level)) parent.child_is in
-      below_one image m bare (suc level) child
-      ∙ (ap (λ (q : NodePointer). nodes_in (pointer_events image identity m.form m.owner bare q)) is ∙ (met ∙ ap (λ (q : NodePointer). q ∷ nodes_below image m bare level part) (sym is)))
+      below_one image ranges m bare (suc level) child
+      ∙ (ap (λ (q : NodePointer). nodes_in (pointer_events image ranges m.form m.owner bare q)) is ∙ (met ∙ ap (λ (q : NodePointer). q ∷ nodes_below image ranges m bare level part) (sym is)))
 
   -- the parent is whole, as those below it
-  parent_whole : (image : Image) (bare : Bool) → StandAt image m.form.nodesize m.slots (m.nodes ++ parent.bytes ∷ []) → AreWhole image m bare (suc level) (child ∷ [])
-  parent_whole image bare stand =
-      let below : AreWhole image m bare level part = roots.whole image bare (stand_fewer image m.form.nodesize m.slots m.nodes parent.bytes stand) in
-      let node : node_at image identity m.form.nodesize parent.address ≡ parent.bytes =
-      sym (ap (node_at image identity m.form.nodesize) slot_is) ∙ stand_last image m.form.nodesize m.slots m.nodes parent.bytes stand in
-      let links : children_in (node_at image identity m.form.nodesize parent.address) ≡ part = ap children_in node ∙ parent.links in
+  parent_whole : (image : Image) (ranges : List MapRange) (bare : Bool) → StandBy image ranges m.form.nodesize m.slots (m.nodes ++ parent.bytes ∷ []) → AreWhole image ranges m bare (suc level) (child ∷ [])
+  parent_whole image ranges bare stand =
+      let below : AreWhole image ranges m bare level part = roots.whole image ranges bare (stand_fewer image ranges m.form.nodesize m.slots m.nodes parent.bytes stand) in
+      let node : node_at image ranges m.form.nodesize parent.address ≡ parent.bytes =
+      sym (ap (node_at image ranges m.form.nodesize) slot_is) ∙ stand_last image ranges m.form.nodesize m.slots m.nodes parent.bytes stand in
+      let links : children_in (node_at image ranges m.form.nodesize parent.address) ≡ part = ap children_in node ∙ parent.links in
       let is : child_pointer (suc level) child ≡ p = ap (child_pointer (suc level)) parent.child_is in
-      let here : IsWhole image identity m.form m.owner m.chunk_tree p = record {
+      let here : IsWhole image ranges m.form m.owner m.chunk_tree p = record {
         exact = subst (IsExact m.form.nodesize (want m.form m.owner p) m.chunk_tree) (sym node) parent.exact;
-        firsts = λ inner. subst (All (HasFirstKey image identity m.form.nodesize)) (sym links) below.firsts;
+        firsts = λ inner. subst (All (HasFirstKey image ranges m.form.nodesize)) (sym links) below.firsts;
       } in
-      let key : child.key ≡ first_key_in (node_at image identity m.form.nodesize child.address) =
+      let key : child.key ≡ first_key_in (node_at image ranges m.form.nodesize child.address) =
       ap (λ (c : Child). c.key) parent.child_is
       ∙ (ap (λ cs. (get_or cs 0 child).key) (sym parent.links)
       ∙ (sym (first_child parent.bytes child (omega (arith, some, ap length parent.links)))
-      ∙ sym (ap (λ (c : Child). first_key_in (node_at image identity m.form.nodesize c.address)) parent.child_is ∙ ap first_key_in node))) in
+      ∙ sym (ap (λ (c : Child). first_key_in (node_at image ranges m.form.nodesize c.address)) parent.child_is ∙ ap first_key_in node))) in
       record {
-        nodes = subst (All (Node image m bare level)) (sym (parent_met image bare stand))
-            (All-cons (Node image m bare level) (child_pointer (suc level) child) (nodes_below image m bare level part) (subst (Node image m bare level) (sym is) here) below.nodes);
-        firsts = All-cons (First image m bare level) child [] key (All-nil (First image m bare level));
+        nodes = subst (All (Node image ranges m bare level)) (sym (parent_met image ranges bare stand))
+            (All-cons (Node image ranges m bare level) (child_pointer (suc level) child) (nodes_below image ranges m bare level part) (subst (Node image ranges m bare level) (sym is) here) below.nodes);
+        firsts = All-cons (First image ranges m bare level) child [] key (All-nil (First image ranges m bare level));
       }
 
   one_root : IsOneRoot grown (suc level) child (flat lists)
@@ -195,8 +168,8 @@ module _ (law : ChildrenGiveItems) (m : Made) (level : ℕ) (part : List Child) 
       record {
         key = ap (λ (c : Child). c.key) parent.child_is ∙ head.0;
         some = head.1;
-        subtree = λ image bare stand.
-            subst (λ (q : NodePointer). IsSubtree image identity m.form m.owner bare q (flat lists)) (sym (ap (child_pointer (suc level)) parent.child_is)) (below_parent image bare stand);
+        subtree = λ image ranges bare stand.
+            subst (λ (q : NodePointer). IsSubtree image ranges m.form m.owner bare q (flat lists)) (sym (ap (child_pointer (suc level)) parent.child_is)) (below_parent image ranges bare stand);
       }
 
   pub roots_more : (parents : List Child) (plists : List (List Item)) → AreRoots m (suc level) parents plists → AreRoots new (suc level) (parents ++ child ∷ []) (plists ++ flat lists ∷ [])
@@ -208,12 +181,12 @@ module _ (law : ChildrenGiveItems) (m : Made) (level : ℕ) (part : List Child) 
             ∙ (ap (λ ks. ks ++ child.key ∷ []) so_far.keys ∙ (ap (λ (k : Key). map first_key plists ++ k ∷ []) one_root.key ∙ sym (map-append first_key plists (flat lists ∷ []))));
         full = all_push (λ items. 1 ≤ length items) plists (flat lists) so_far.full one_root.some;
         one_generation = all_push (λ c. c.generation ≡ m.generation) parents child so_far.one_generation (ap (λ (c : Child). c.generation) parent.child_is);
-        subtrees = λ image bare stand.
-            subst (λ qs. AreSubtrees image identity m.form m.owner bare qs (plists ++ flat lists ∷ [])) (sym (map-append (child_pointer (suc level)) parents (child ∷ [])))
-            (subtrees_push image m.form m.owner bare (map (child_pointer (suc level)) parents) plists (child_pointer (suc level) child) (flat lists)
-            (so_far.subtrees image bare (stand_fewer image m.form.nodesize m.slots m.nodes parent.bytes stand)) (one_root.subtree image bare stand));
-        whole = λ image bare stand.
-            let before : AreWhole image m bare (suc level) parents = so_far.whole image bare (stand_fewer image m.form.nodesize m.slots m.nodes parent.bytes stand) in
-            let all : AreWhole image m bare (suc level) (parents ++ child ∷ []) = whole_append image m bare (suc level) parents (child ∷ []) before (parent_whole image bare stand) in
+        subtrees = λ image ranges bare stand.
+            subst (λ qs. AreSubtrees image ranges m.form m.owner bare qs (plists ++ flat lists ∷ [])) (sym (map-append (child_pointer (suc level)) parents (child ∷ [])))
+            (subtrees_push image ranges m.form m.owner bare (map (child_pointer (suc level)) parents) plists (child_pointer (suc level) child) (flat lists)
+            (so_far.subtrees image ranges bare (stand_fewer image ranges m.form.nodesize m.slots m.nodes parent.bytes stand)) (one_root.subtree image ranges bare stand));
+        whole = λ image ranges bare stand.
+            let before : AreWhole image ranges m bare (suc level) parents = so_far.whole image ranges bare (stand_fewer image ranges m.form.nodesize m.slots m.nodes parent.bytes stand) in
+            let all : AreWhole image ranges m bare (suc level) (parents ++ child ∷ []) = whole_append image ranges m bare (suc level) parents (child ∷ []) before (parent_whole image ranges bare stand) in
             record { nodes = all.nodes; firsts = all.firsts };
       })

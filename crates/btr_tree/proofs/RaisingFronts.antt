@@ -41,12 +41,11 @@ raise_begins tells image old children parents level wide few none = λ front cou
 }
 
 pub raise_goes_on : (law : ChildrenGiveItems) (tells : Bool) (first second third : Image) (old now mid new : Made) (children parents more part : List Child) (level start end : ℕ) (child : Child)
-    → IsNodeSize old.form.nodesize → AreSlots old.form.nodesize old.slots
     → Goes tells first second old now (λ m n. IsRaising m children level n parents start) → Goes tells second third now mid (λ m n. n ≡ m) → start < length children
     → end ≡ min (length children) (start + fan_out old.form.nodesize) → 1 ≤ end - start → part ≡ take (end - start) (drop start children) → length part ≡ end - start
     → IsParentAt (taken mid) mid level part child new → more ≡ parents ++ child ∷ []
     → Goes tells first third old new (λ m n. IsRaising m children level n more end)
-raise_goes_on law tells first second third old now mid new children parents more part level start end child size slots so_far room lt end_is some part_is long parent is = λ front count.
+raise_goes_on law tells first second third old now mid new children parents more part level start end child so_far room lt end_is some part_is long parent is = λ front count.
     let h : HasBack tells first second old now (λ m n. IsRaising m children level n parents start) front = so_far front count in
     let r : HasBack tells second third now mid (λ m n. n ≡ m) h.back = room h.back h.count in
     let here : IsRaising (with_written old front) children level (with_written mid r.back) parents start = subst (λ (m : Made). IsRaising (with_written old front) children level m parents start) (sym r.now) h.now in
@@ -54,9 +53,9 @@ raise_goes_on law tells first second third old now mid new children parents more
       back = r.back;
       count = r.count ∙ sym (ap (λ (m : Made). m.written) parent.is);
       stands = λ t stand.
-          subst (λ (m : Made). StandAt third m.form.nodesize m.slots r.back) (sym parent.is) (r.stands t (h.stands t stand));
+          subst (λ (m : Made). StandAt third m.form.nodesize m.offsets r.back) (sym parent.is) (r.stands t (h.stands t stand));
       now = subst (λ ps. IsRaising (with_written old front) children level (with_written new r.back) ps end) (sym is)
-          (raising_goes_on law (with_written old front) (with_written mid r.back) (with_written new r.back) children parents part level start end child size slots here lt end_is some part_is long
+          (raising_goes_on law (with_written old front) (with_written mid r.back) (with_written new r.back) children parents part level start end child here lt end_is some part_is long
           (parent_whole mid new level part child r.back r.count parent));
     }
 

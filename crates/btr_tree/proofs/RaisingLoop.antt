@@ -1,5 +1,5 @@
 -- A level of a tree, one node after the other.
-use Rattle.btr_tree.proofs.Imports.{◌≡◌, ℕ, zero, suc, ◌+◌, ◌-◌, ◌*◌, ◌<◌, ◌≤◌, min, Bool, List, [], ◌∷◌, ◌++◌, length, map, take, drop, get_or, Some, None, refl, sym, ◌∙◌, ap, subst, arith, append_assoc, length-append, ⊎_elim, flat_map, slice_get, div_ceil, mul-suc, mul_comm, cases_lt, div_ceil_times, append-nil, map-append, take_all, take_more, length-map, length-drop, length_push, get_or_append_left, get_or-drop, flat_map-append, All-nil, mul-le, slice_get_within, slice_get-get_or, get_or_from_slice_get, Image, Item, IsNodeSize, Child, ChildrenGiveItems, Made, AreSlots, StandAt, IsParent, pointer_to, first_key, fan_out, AreRoots, AreWhole, IsExtended, HasSubtreeRoots, IsRaised, nodes_below, pointers_to, child_pointer, NodePointer, IsPermutation, IsPermutation-refl, IsPermutation-trans, IsPermutation-append_left}
+use Rattle.btr_tree.proofs.Imports.{◌≡◌, ℕ, zero, suc, ◌+◌, ◌-◌, ◌*◌, ◌<◌, ◌≤◌, min, Bool, List, [], ◌∷◌, ◌++◌, length, map, take, drop, get_or, Some, None, refl, sym, ◌∙◌, ap, subst, arith, append_assoc, length-append, ⊎_elim, flat_map, slice_get, div_ceil, mul-suc, mul_comm, cases_lt, div_ceil_times, append-nil, map-append, take_all, take_more, length-map, length-drop, length_push, get_or_append_left, get_or-drop, flat_map-append, All-nil, mul-le, slice_get_within, slice_get-get_or, get_or_from_slice_get, Image, MapRange, Item, IsNodeSize, Child, ChildrenGiveItems, Made, AreSlots, StandBy, IsParent, pointer_to, first_key, fan_out, AreRoots, AreWhole, IsExtended, HasSubtreeRoots, IsRaised, nodes_below, pointers_to, child_pointer, NodePointer, IsPermutation, IsPermutation-refl, IsPermutation-trans, IsPermutation-append_left}
 use Rattle.btr_tree.proofs.Meeting.{perm_more, below_append}
 use Rattle.btr_tree.proofs.Wholes.{whole_none}
 use Rattle.btr_tree.proofs.Raising.{flat, flat-is, part_roots, roots_more, parent_met, stand_fewer}
@@ -20,13 +20,16 @@ filled_count n fan k some enough tight =
         omega (arith, step, mul_comm (suc a) fan, mul-suc fan a, mul_comm a fan)
 
 -- more nodes leave roots as they are
-pub stand_front : (image : Image) (n : ℕ) (slots : List ℕ) (nodes more : List (List ℕ)) → StandAt image n slots (nodes ++ more) → StandAt image n slots nodes
-stand_front image n slots nodes more stand = λ i h. stand i (omega (arith, length-append nodes more, h)) ∙ get_or_append_left nodes more [] i h
+pub stand_front : (image : Image) (ranges : List MapRange) (n : ℕ) (slots : List ℕ) (nodes more : List (List ℕ)) → StandBy image ranges n slots (nodes ++ more) → StandBy image ranges n slots nodes
+stand_front image ranges n slots nodes more stand = record {
+  mapped = λ i h. stand.mapped i (omega (arith, length-append nodes more, h));
+  nodes_are = λ i h. stand.nodes_are i (omega (arith, length-append nodes more, h)) ∙ get_or_append_left nodes more [] i h;
+}
 
 pub roots_extended : (old new : Made) (level : ℕ) (children : List Child) (lists : List (List Item)) → IsExtended old new → AreRoots old level children lists → AreRoots new level children lists
 roots_extended old new level children lists ext roots =
     subst (λ (x : Made). AreRoots x level children lists) (sym ext.is)
-    (record { keys = roots.keys; full = roots.full; one_generation = roots.one_generation; subtrees = λ image bare stand. roots.subtrees image bare (stand_front image old.form.nodesize old.slots old.nodes ext.more stand); whole = λ image bare stand. let all : AreWhole image old bare level children = roots.whole image bare (stand_front image old.form.nodesize old.slots old.nodes ext.more stand) in record { nodes = all.nodes; firsts = all.firsts } })
+    (record { keys = roots.keys; full = roots.full; one_generation = roots.one_generation; subtrees = λ image ranges bare stand. roots.subtrees image ranges bare (stand_front image ranges old.form.nodesize old.slots old.nodes ext.more stand); whole = λ image ranges bare stand. let all : AreWhole image ranges old bare level children = roots.whole image ranges bare (stand_front image ranges old.form.nodesize old.slots old.nodes ext.more stand) in record { nodes = all.nodes; firsts = all.firsts } })
 
 pub extended_none : (old : Made) → IsExtended old old
 extended_none old = record { more = []; draft = old.draft; is = ap (λ ns. let x : Made = record old { nodes = ns } in x) (sym (append-nil old.nodes)) }
@@ -51,8 +54,8 @@ pub record IsRaising (old : Made) (children : List Child) (level : ℕ) (now : M
   pub few : length now.nodes ≤ length now.slots
   pub roots : (below : ℕ) (lists : List (List Item)) → level ≡ suc below → AreRoots old below children lists → HasSubtreeRoots now level parents (flat (take start lists))
   pub pointers : map (child_pointer level) parents ≡ pointers_to old.generation level (length old.nodes) (length parents) old.slots
-  pub nodes : (below : ℕ) (lists : List (List Item)) → level ≡ suc below → AreRoots old below children lists → (image : Image) (bare : Bool) → StandAt image now.form.nodesize now.slots now.nodes
-      → IsPermutation (nodes_below image now bare level parents) (map (child_pointer level) parents ++ nodes_below image now bare below (take start children))
+  pub nodes : (below : ℕ) (lists : List (List Item)) → level ≡ suc below → AreRoots old below children lists → (image : Image) (ranges : List MapRange) (bare : Bool) → StandBy image ranges now.form.nodesize now.slots now.nodes
+      → IsPermutation (nodes_below image ranges now bare level parents) (map (child_pointer level) parents ++ nodes_below image ranges now bare below (take start children))
 
 flat_nothing : flat [] ≡ []
 unfolding flat
@@ -85,11 +88,11 @@ raising_begins old children level wide few = record {
   few = few;
   roots = λ below lists is roots. record {
     lists = [];
-    roots = record { keys = refl; full = All-nil (λ (items : List Item). 1 ≤ length items); one_generation = All-nil (λ (c : Child). c.generation ≡ old.generation); subtrees = λ image bare stand. tt; whole = λ image bare stand. whole_none image old bare level };
+    roots = record { keys = refl; full = All-nil (λ (items : List Item). 1 ≤ length items); one_generation = All-nil (λ (c : Child). c.generation ≡ old.generation); subtrees = λ image ranges bare stand. tt; whole = λ image ranges bare stand. whole_none image ranges old bare level };
     items_are = sym flat_nothing;
   };
   pointers = refl;
-  nodes = λ below lists is roots image bare stand. IsPermutation-refl [];
+  nodes = λ below lists is roots image ranges bare stand. IsPermutation-refl [];
 }
   where
     zeroth : (fan : ℕ) → fan * 0 ≡ 0
@@ -128,10 +131,10 @@ pointers_more old now new level parents part child ext made so_far parent =
     ∙ sym (ap (map (pointer_to old.generation level)) taken ∙ map-append (pointer_to old.generation level) (take n (drop (length old.nodes) old.slots)) (parent.address ∷ []))))
 
 pub raising_goes_on : (law : ChildrenGiveItems) (old now new : Made) (children parents part : List Child) (level start end : ℕ) (child : Child)
-    → IsNodeSize old.form.nodesize → AreSlots old.form.nodesize old.slots → IsRaising old children level now parents start → start < length children
+    → IsRaising old children level now parents start → start < length children
     → end ≡ min (length children) (start + fan_out old.form.nodesize) → 1 ≤ end - start → part ≡ take (end - start) (drop start children) → length part ≡ end - start → IsParent now level part child new
     → IsRaising old children level new (parents ++ child ∷ []) end
-raising_goes_on law old now new children parents part level start end child size slots so_far more end_is some part_is long parent =
+raising_goes_on law old now new children parents part level start end child so_far more end_is some part_is long parent =
     let fan : ℕ = fan_out old.form.nodesize in
     let k : ℕ = length parents in
     let next : fan * (k + 1) ≡ fan * k + fan = one_more fan k in
@@ -151,14 +154,12 @@ raising_goes_on law old now new children parents part level start end child size
           let part_lists : List (List Item) = take (end - start) (drop start lists) in
           let part_now : AreRoots now below part part_lists =
           subst (λ cs. AreRoots now below cs part_lists) (sym part_is) (part_roots now below start (end - start) children lists (roots_extended old now below children lists so_far.extended roots)) in
-          let size_now : IsNodeSize now.form.nodesize = subst (λ (x : Made). IsNodeSize x.form.nodesize) (sym so_far.extended.is) size in
-          let slots_now : AreSlots now.form.nodesize now.slots = subst (λ (x : Made). AreSlots x.form.nodesize x.slots) (sym so_far.extended.is) slots in
           let parent' : IsParent now (suc below) part child new = subst (λ (l : ℕ). IsParent now l part child new) is parent in
           let roots' : AreRoots now (suc below) parents before.lists = subst (λ (l : ℕ). AreRoots now l parents before.lists) is before.roots in
           record {
             lists = before.lists ++ flat part_lists ∷ [];
             roots = subst (λ (l : ℕ). AreRoots new l (parents ++ child ∷ []) (before.lists ++ flat part_lists ∷ [])) (sym is)
-                (roots_more law now below part part_lists child new size_now slots_now (omega arith) part_now parent' parents before.lists roots');
+                (roots_more law now below part part_lists child new (omega arith) part_now parent' parents before.lists roots');
             items_are =
                 flat-is (before.lists ++ flat part_lists ∷ [])
                 ∙ (flat-push before.lists (flat part_lists)
@@ -166,27 +167,25 @@ raising_goes_on law old now new children parents part level start end child size
                 ∙ sym (ap flat (take_on start (end - start) end lists (omega arith)) ∙ flat-append (take start lists) part_lists)));
           };
       pointers = pointers_more old now new level parents part child so_far.extended so_far.made so_far.pointers parent;
-      nodes = λ below lists is roots image bare stand.
+      nodes = λ below lists is roots image ranges bare stand.
           let before : List Child = take start children in
           let parent' : IsParent now (suc below) part child new = subst (λ (l : ℕ). IsParent now l part child new) is parent in
-          let stand_new : StandAt image now.form.nodesize now.slots (now.nodes ++ parent'.bytes ∷ []) = subst (λ (x : Made). StandAt image x.form.nodesize x.slots x.nodes) parent'.is stand in
-          let stand_now : StandAt image now.form.nodesize now.slots now.nodes = stand_fewer image now.form.nodesize now.slots now.nodes parent'.bytes stand_new in
+          let stand_new : StandBy image ranges now.form.nodesize now.slots (now.nodes ++ parent'.bytes ∷ []) = subst (λ (x : Made). StandBy image ranges x.form.nodesize x.slots x.nodes) parent'.is stand in
+          let stand_now : StandBy image ranges now.form.nodesize now.slots now.nodes = stand_fewer image ranges now.form.nodesize now.slots now.nodes parent'.bytes stand_new in
           let part_lists : List (List Item) = take (end - start) (drop start lists) in
           let part_now : AreRoots now below part part_lists =
           subst (λ cs. AreRoots now below cs part_lists) (sym part_is) (part_roots now below start (end - start) children lists (roots_extended old now below children lists so_far.extended roots)) in
-          let size_now : IsNodeSize now.form.nodesize = subst (λ (x : Made). IsNodeSize x.form.nodesize) (sym so_far.extended.is) size in
-          let slots_now : AreSlots now.form.nodesize now.slots = subst (λ (x : Made). AreSlots x.form.nodesize x.slots) (sym so_far.extended.is) slots in
-          let so_far' : IsPermutation (nodes_below image now bare level parents) (map (child_pointer level) parents ++ nodes_below image now bare below before) = so_far.nodes below lists is roots image bare stand_now in
-          let one : nodes_below image now bare level (child ∷ []) ≡ child_pointer level child ∷ nodes_below image now bare below part =
-          subst (λ (l : ℕ). nodes_below image now bare l (child ∷ []) ≡ child_pointer l child ∷ nodes_below image now bare below part) (sym is)
-          (parent_met law now below part part_lists child new size_now slots_now (omega arith) part_now parent' image bare stand_new) in
-          let all : nodes_below image now bare below (take end children) ≡ nodes_below image now bare below before ++ nodes_below image now bare below part =
-          ap (nodes_below image now bare below) (take_on start (end - start) end children (omega arith) ∙ ap (λ cs. before ++ cs) (sym part_is)) ∙ below_append image now bare below before part in
-          let step : IsPermutation (nodes_below image now bare level (parents ++ child ∷ [])) (map (child_pointer level) (parents ++ child ∷ []) ++ nodes_below image now bare below (take end children)) =
-          more_met (nodes_below image now bare level parents) (nodes_below image now bare level (parents ++ child ∷ [])) (map (child_pointer level) parents) (map (child_pointer level) (parents ++ child ∷ []))
-          (nodes_below image now bare below before) (nodes_below image now bare below part) (nodes_below image now bare below (take end children)) (child_pointer level child) so_far'
-          (below_append image now bare level parents (child ∷ []) ∙ ap (λ ps. nodes_below image now bare level parents ++ ps) one) (map-append (child_pointer level) parents (child ∷ [])) all in
-          subst (λ (x : Made). IsPermutation (nodes_below image x bare level (parents ++ child ∷ [])) (map (child_pointer level) (parents ++ child ∷ []) ++ nodes_below image x bare below (take end children))) (sym parent.is) step;
+          let so_far' : IsPermutation (nodes_below image ranges now bare level parents) (map (child_pointer level) parents ++ nodes_below image ranges now bare below before) = so_far.nodes below lists is roots image ranges bare stand_now in
+          let one : nodes_below image ranges now bare level (child ∷ []) ≡ child_pointer level child ∷ nodes_below image ranges now bare below part =
+          subst (λ (l : ℕ). nodes_below image ranges now bare l (child ∷ []) ≡ child_pointer l child ∷ nodes_below image ranges now bare below part) (sym is)
+          (parent_met law now below part part_lists child new (omega arith) part_now parent' image ranges bare stand_new) in
+          let all : nodes_below image ranges now bare below (take end children) ≡ nodes_below image ranges now bare below before ++ nodes_below image ranges now bare below part =
+          ap (nodes_below image ranges now bare below) (take_on start (end - start) end children (omega arith) ∙ ap (λ cs. before ++ cs) (sym part_is)) ∙ below_append image ranges now bare below before part in
+          let step : IsPermutation (nodes_below image ranges now bare level (parents ++ child ∷ [])) (map (child_pointer level) (parents ++ child ∷ []) ++ nodes_below image ranges now bare below (take end children)) =
+          more_met (nodes_below image ranges now bare level parents) (nodes_below image ranges now bare level (parents ++ child ∷ [])) (map (child_pointer level) parents) (map (child_pointer level) (parents ++ child ∷ []))
+          (nodes_below image ranges now bare below before) (nodes_below image ranges now bare below part) (nodes_below image ranges now bare below (take end children)) (child_pointer level child) so_far'
+          (below_append image ranges now bare level parents (child ∷ []) ∙ ap (λ ps. nodes_below image ranges now bare level parents ++ ps) one) (map-append (child_pointer level) parents (child ∷ [])) all in
+          subst (λ (x : Made). IsPermutation (nodes_below image ranges x bare level (parents ++ child ∷ [])) (map (child_pointer level) (parents ++ child ∷ []) ++ nodes_below image ranges x bare below (take end children))) (sym parent.is) step;
     }
   where
     one_more : (fan k : ℕ) → fan * (k + 1) ≡ fan * k + fan
@@ -208,9 +207,9 @@ raising_ends old now children parents level start wide so_far end = record {
         items_are = before.items_are ∙ (ap flat (take_all start has.lists (omega arith)) ∙ (sym (flat-is has.lists) ∙ has.items_are));
       };
   pointers = so_far.pointers;
-  nodes = λ below items is has image bare stand.
-      subst (λ cs. IsPermutation (nodes_below image now bare level parents) (map (child_pointer level) parents ++ nodes_below image now bare below cs)) (take_all start children end)
-      (so_far.nodes below has.lists is has.roots image bare stand);
+  nodes = λ below items is has image ranges bare stand.
+      subst (λ cs. IsPermutation (nodes_below image ranges now bare level parents) (map (child_pointer level) parents ++ nodes_below image ranges now bare below cs)) (take_all start children end)
+      (so_far.nodes below has.lists is has.roots image ranges bare stand);
 }
 
 -- while children are left, a node is missing

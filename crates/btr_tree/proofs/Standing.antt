@@ -43,6 +43,7 @@ stands_first b a key body so_far idle at order small =
     record {
       nodesize = so_far.nodesize;
       slots = so_far.slots;
+      as_many = so_far.as_many;
       few = so_far.few;
       hand = record {
         started = refl;
@@ -132,6 +133,7 @@ module _ (b : Building) (child : Child) (so_far : Standing b) (hand : IsInHand b
       record {
         nodesize = so_far.nodesize;
         slots = so_far.slots;
+        as_many = so_far.as_many;
         few = omega (arith, next.1);
         hand = record {
           started = refl;
@@ -178,6 +180,7 @@ stands_fits b child key body so_far hand is order fits =
     record {
       nodesize = so_far.nodesize;
       slots = so_far.slots;
+      as_many = so_far.as_many;
       few = so_far.few;
       hand =
           subst (λ h. MatchOption h (IsIdle new) (IsInHand new)) (sym is)
@@ -200,11 +203,12 @@ stands_fits b child key body so_far hand is order fits =
     }
 
 -- nothing was pushed
-pub stands_new : (m : Made) (form : Form) (owner generation : ℕ) (chunk_tree slots : List ℕ) → IsNodeSize form.nodesize → AreSlots form.nodesize slots
-    → IsFresh form owner generation chunk_tree slots m → Standing (record { made = m; children = []; hand = None; spent = false; done = false })
-stands_new m form owner generation chunk_tree slots size right fresh = record {
+pub stands_new : (m : Made) (form : Form) (owner generation : ℕ) (chunk_tree slots offsets : List ℕ) → IsNodeSize form.nodesize → AreSlots form.nodesize offsets
+    → IsFresh form owner generation chunk_tree slots offsets m → Standing (record { made = m; children = []; hand = None; spent = false; done = false })
+stands_new m form owner generation chunk_tree slots offsets size right fresh = record {
   nodesize = subst (λ (f : Form). IsNodeSize f.nodesize) (sym fresh.form_is) size;
-  slots = subst (λ (f : Form). AreSlots f.nodesize m.slots) (sym fresh.form_is) (subst (AreSlots form.nodesize) (sym fresh.slots_are) right);
+  slots = subst (λ (f : Form). AreSlots f.nodesize m.offsets) (sym fresh.form_is) (subst (AreSlots form.nodesize) (sym fresh.offsets_are) right);
+  as_many = fresh.as_many;
   few = omega (arith, ap (λ ns. length ns) fresh.no_nodes);
   hand = record { no_nodes = fresh.no_nodes; no_items = fresh.no_items };
   leaves = λ i h. absurd (omega (arith, ap (λ ns. length ns) fresh.no_nodes));
@@ -220,14 +224,16 @@ stands_new m form owner generation chunk_tree slots size right fresh = record {
     none (a ∷ slots) = refl
 
 -- the same with no node in place of those that were written
-pub fresh_whole : (m : Made) (form : Form) (owner generation : ℕ) (chunk_tree slots : List ℕ) (front : List (List ℕ)) → front ≡ [] → IsFresh form owner generation chunk_tree slots m
-    → IsFresh form owner generation chunk_tree slots (with_written m front)
-fresh_whole m form owner generation chunk_tree slots front none fresh = record {
+pub fresh_whole : (m : Made) (form : Form) (owner generation : ℕ) (chunk_tree slots offsets : List ℕ) (front : List (List ℕ)) → front ≡ [] → IsFresh form owner generation chunk_tree slots offsets m
+    → IsFresh form owner generation chunk_tree slots offsets (with_written m front)
+fresh_whole m form owner generation chunk_tree slots offsets front none fresh = record {
   form_is = fresh.form_is;
   owner_is = fresh.owner_is;
   generation_is = fresh.generation_is;
   chunk_tree_is = fresh.chunk_tree_is;
   slots_are = fresh.slots_are;
+  offsets_are = fresh.offsets_are;
+  as_many = fresh.as_many;
   none_written = refl;
   no_nodes = ap (λ ns. ns ++ m.nodes) none ∙ fresh.no_nodes;
   idle = fresh.idle;
@@ -239,6 +245,7 @@ pub standing_spent : (b : Building) (spent done : Bool) → Standing b → Stand
 standing_spent b spent done s = record {
   nodesize = s.nodesize;
   slots = s.slots;
+  as_many = s.as_many;
   few = s.few;
   hand = by_hand b.hand s.hand;
   leaves = s.leaves;

@@ -10,8 +10,8 @@ use Rattle.btr_node.specs.Leaf.{Item, IsBtrfsLeaf, items_in, keys_of}
 use Rattle.btr_node.specs.NodeSize.{IsNodeSize}
 use Rattle.btr_node.specs.Order.{Ascends}
 use Rattle.btr_node.specs.declared.child.Child.{Child}
-use Rattle.btr_reader_walk.specs.Map.{identity}
 use Rattle.btr_reader_walk.specs.Tree.{tree_items}
+use Rattle.btr_reader_walk.specs.declared.map.MapRange.{MapRange}
 use Rattle.btr_tree.specs.Building.{Made, AreSlots, slot, taken, with_written, nodes_on, pointer_to, expected_at, begun_at, with_node, with_item}
 use Rattle.btr_tree.specs.Packing.{capacity, packed}
 use Rattle.btr_tree.specs.Whole.{IsExact, IsWholeTree}
@@ -91,7 +91,8 @@ pub record IsIdle (b : Building) : Type 0 where
 -- gives, and keys ascend over all.
 pub record Standing (b : Building) : Type 0 where
   pub nodesize : IsNodeSize b.made.form.nodesize
-  pub slots : AreSlots b.made.form.nodesize b.made.slots
+  pub slots : AreSlots b.made.form.nodesize b.made.offsets
+  pub as_many : length b.made.offsets ≡ length b.made.slots
   pub few : length b.made.nodes ≤ length b.made.slots
   pub hand : MatchOption b.hand (IsIdle b) (IsInHand b)
   pub leaves : (i : ℕ) → i < length b.made.nodes → IsBtrfsLeaf (expected_at b.made 0 (slot b.made.slots i)) (slice_index_or b.made.nodes i [])
@@ -118,10 +119,10 @@ IsReady b = (items : List Item) × Holds b items
 
 -- the nodes that were written, as a disk has them
 abbrev pub told_nodes : Building → Image → List (List ℕ)
-told_nodes b image = nodes_on image b.made.form.nodesize b.made.slots b.made.written
+told_nodes b image = nodes_on image b.made.form.nodesize b.made.offsets b.made.written
 
 -- The items that were pushed: those in the nodes that were written, as the disk has them, and those that the builder holds.
--- No block is read but those of the slots of these nodes.
+-- No block is read but those of these nodes.
 abbrev pub pushed_on : Building → Image → List Item
 pushed_on b image = pushed (all_made b (told_nodes b image))
 
@@ -145,16 +146,17 @@ pub record IsSameBuilding (old new : Building) : Type 0 where
   pub owner : new.made.owner ≡ old.made.owner
   pub generation : new.made.generation ≡ old.made.generation
   pub slots : new.made.slots ≡ old.made.slots
+  pub offsets : new.made.offsets ≡ old.made.offsets
   pub chunk_tree : new.made.chunk_tree ≡ old.made.chunk_tree
 
 -- how many leaves items take
 abbrev pub leaves_of : ℕ → List Item → ℕ
 leaves_of nodesize items = length (packed item_size (capacity nodesize) items)
 
--- The tree of these items stands on a disk, under a root with this address and level.
-abbrev pub HasTree : Image → Made → ℕ → ℕ → List Item → Type 0
-HasTree image m address level items = tree_items image identity m.form (pointer_to m.generation level address) m.owner ≡ Some items
+-- The tree of these items stands on a disk, by a map of addresses, under a root with this address and level.
+abbrev pub HasTree : Image → List MapRange → Made → ℕ → ℕ → List Item → Type 0
+HasTree image ranges m address level items = tree_items image ranges m.form (pointer_to m.generation level address) m.owner ≡ Some items
 
 -- Each node of the tree under this root is exactly the bytes of its draft, and each child's key is the child's first key.
-abbrev pub HasWhole : Image → Made → ℕ → ℕ → Type 0
-HasWhole image m address level = IsWholeTree image identity m.form m.owner m.chunk_tree (pointer_to m.generation level address)
+abbrev pub HasWhole : Image → List MapRange → Made → ℕ → ℕ → Type 0
+HasWhole image ranges m address level = IsWholeTree image ranges m.form m.owner m.chunk_tree (pointer_to m.generation level address)

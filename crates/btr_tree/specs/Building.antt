@@ -1,5 +1,5 @@
 -- A tree that is being written: the nodes that were made, and the one in hand.
-use Rattle.std.specs.Prelude.{◌≡◌, ◌≢◌, ℕ, zero, suc, ◌+◌, ◌*◌, ◌%◌, ◌^◌, ◌≤◌, ◌<◌, false, List, [], ◌∷◌, ◌++◌, length, map, take, drop, slice_index_or, Some, Bool, IsTrue}
+use Rattle.std.specs.Prelude.{◌≡◌, ◌≢◌, ℕ, zero, suc, ◌+◌, ◌*◌, ◌/◌, ◌%◌, ◌^◌, ◌≤◌, ◌<◌, true, false, List, [], ◌∷◌, ◌++◌, length, map, take, drop, slice_index_or, Some, Bool, IsTrue}
 use Rattle.std.specs.List.{slice_get}
 use Rattle.std.specs.List.{All, AllPairs}
 use Rattle.btr_node.specs.outside.History.{Image}
@@ -10,8 +10,9 @@ use Rattle.btr_node.specs.Leaf.{IsBtrfsLeaf, items_in}
 use Rattle.btr_node.specs.NodeSize.{IsNodeSize}
 use Rattle.btr_node.specs.declared.child.Child.{Child}
 use Rattle.btr_node.specs.declared.expect.Expect.{Expect}
-use Rattle.btr_reader_walk.specs.Map.{identity, node_at}
+use Rattle.btr_reader_walk.specs.Map.{identity, is_mapped, node_at, place}
 use Rattle.btr_reader_walk.specs.Node.{want}
+use Rattle.btr_reader_walk.specs.declared.map.MapRange.{MapRange}
 use Rattle.btr_reader_walk.specs.declared.tree.Form.{Form}
 use Rattle.btr_reader_walk.specs.declared.tree.NodePointer.{NodePointer}
 use Rattle.btr_tree.specs.Whole.{IsExact}
@@ -21,8 +22,9 @@ abbrev pub pieces_of : ℕ → ℕ → List ℕ → List (List ℕ)
 pieces_of size zero bytes = []
 pieces_of size (suc n) bytes = take size bytes ∷ pieces_of size n (drop size bytes)
 
--- What is made of a tree: its nodes in the order of their slots, and the node in hand. A slot is the address of a node. The
--- first nodes may have been written; then those behind them are held.
+-- What is made of a tree: its nodes in the order of their slots, and the node in hand. A slot is the logical address of a node,
+-- and has an offset, which is where it lies on the device. The first nodes may have been written; then those behind them are
+-- held.
 pub record Made : Type 0 where
   pub form : Form
   pub owner : ℕ
@@ -30,6 +32,7 @@ pub record Made : Type 0 where
   -- the identifier of the chunk tree
   pub chunk_tree : List ℕ
   pub slots : List ℕ
+  pub offsets : List ℕ
   -- how many nodes were written
   pub written : ℕ
   pub nodes : List (List ℕ)
@@ -47,6 +50,7 @@ with_written m front = record m { written = 0; nodes = front ++ m.nodes }
 pub record IsLater (old new : Made) : Type 0 where
   pub form : new.form ≡ old.form
   pub slots : new.slots ≡ old.slots
+  pub offsets : new.offsets ≡ old.offsets
   pub grown : taken old ≤ taken new
 
 -- the pointer to a node that a tree of this generation has
@@ -70,26 +74,38 @@ with_node m bytes = record m { nodes = m.nodes ++ bytes ∷ [] }
 abbrev pub slot : List ℕ → ℕ → ℕ
 slot slots i = slice_index_or slots i 0
 
--- slots are distinct multiples of the node size
+-- nodes can lie at these offsets of a device, or addresses of a volume that gives each itself: they are distinct multiples of
+-- the node size
 pub record AreSlots (nodesize : ℕ) (slots : List ℕ) : Type 0 where
   pub aligned : All (λ a. a % nodesize ≡ 0) slots
   pub apart : AllPairs (λ a b. a ≢ b) slots
   pub small : All (λ a. a < 2 ^ 64) slots
 
--- the nodes stand on the disk, each at its slot
+-- the nodes stand on the disk, each at its offset
 abbrev pub StandAt : Image → ℕ → List ℕ → List (List ℕ) → Type 0
-StandAt image nodesize slots nodes = (i : ℕ) → i < length nodes → node_at image identity nodesize (slot slots i) ≡ slice_index_or nodes i []
+StandAt image nodesize offsets nodes = (i : ℕ) → i < length nodes → node_at image identity nodesize (slot offsets i) ≡ slice_index_or nodes i []
 
--- the nodes at the first n slots, as a disk has them
+-- A map of addresses gives the nodes, each at its slot.
+pub record StandBy (image : Image) (ranges : List MapRange) (nodesize : ℕ) (slots : List ℕ) (nodes : List (List ℕ)) : Type 0 where
+  pub mapped : (i : ℕ) → i < length nodes → is_mapped ranges nodesize (slot slots i) ≡ true
+  pub nodes_are : (i : ℕ) → i < length nodes → node_at image ranges nodesize (slot slots i) ≡ slice_index_or nodes i []
+
+-- A map of addresses gives each block of a node at a slot that many bytes behind the slot's offset.
+pub record MapsSlots (ranges : List MapRange) (nodesize : ℕ) (slots offsets : List ℕ) : Type 0 where
+  pub as_many : length offsets ≡ length slots
+  pub whole : All (λ a. a % 4096 ≡ 0) slots
+  pub places : (i : ℕ) → i < length slots → (k : ℕ) → k < nodesize / 4096 → place ranges (slot slots i + 4096 * k) ≡ Some (slot offsets i + 4096 * k)
+
+-- the nodes at the first n offsets, as a disk has them
 abbrev pub nodes_on : Image → ℕ → List ℕ → ℕ → List (List ℕ)
-nodes_on image nodesize slots n = map (λ a. node_at image identity nodesize a) (take n slots)
+nodes_on image nodesize offsets n = map (λ a. node_at image identity nodesize a) (take n offsets)
 
 -- Nodes may be written from one moment to the next. Where the nodes that were written before stand on a disk that tells, as
 -- it was, those that are written now stand on it as it is.
 pub record HasBack (tells : Bool) (before after : Image) (old new : Made) (R : Made → Made → Type 0) (front : List (List ℕ)) : Type 0 where
   pub back : List (List ℕ)
   pub count : length back ≡ new.written
-  pub stands : IsTrue tells → StandAt before old.form.nodesize old.slots front → StandAt after new.form.nodesize new.slots back
+  pub stands : IsTrue tells → StandAt before old.form.nodesize old.offsets front → StandAt after new.form.nodesize new.offsets back
   pub now : R (with_written old front) (with_written new back)
 
 -- this holds between all that was made before and all that is made now, whatever the nodes are that were written before
@@ -97,23 +113,26 @@ abbrev pub Goes : Bool → Image → Image → Made → Made → (Made → Made 
 Goes tells before after old new R = (front : List (List ℕ)) → length front ≡ old.written → HasBack tells before after old new R front
 
 -- What the fields keep: at most 16 nodes are held, each has a slot, there is room for 16, and the node in hand can be written.
-pub record IsStock (nodesize written held room : ℕ) (draft : Draft) (bytes slots : List ℕ) : Type 0 where
+pub record IsStock (nodesize written held room : ℕ) (draft : Draft) (bytes slots offsets : List ℕ) : Type 0 where
   pub size : IsNodeSize nodesize
   pub same : draft.nodesize ≡ nodesize
   pub whole : length bytes ≡ nodesize * held
   pub few : written + held ≤ length slots
+  pub as_many : length offsets ≡ length slots
   pub small : length slots < 2 ^ 64
   pub batch : held ≤ 16
   pub room_is : 16 * nodesize ≤ room
   pub right : IsTrue draft.started → IsDraft draft
 
 -- nothing is made yet
-pub record IsFresh (form : Form) (owner generation : ℕ) (chunk_tree slots : List ℕ) (m : Made) : Type 0 where
+pub record IsFresh (form : Form) (owner generation : ℕ) (chunk_tree slots offsets : List ℕ) (m : Made) : Type 0 where
   pub form_is : m.form ≡ form
   pub owner_is : m.owner ≡ owner
   pub generation_is : m.generation ≡ generation
   pub chunk_tree_is : m.chunk_tree ≡ chunk_tree
   pub slots_are : m.slots ≡ slots
+  pub offsets_are : m.offsets ≡ offsets
+  pub as_many : length m.offsets ≡ length m.slots
   pub none_written : m.written ≡ 0
   pub no_nodes : m.nodes ≡ []
   pub idle : m.draft.started ≡ false

@@ -62,10 +62,10 @@ NodesHaveLinuxForm =
     → IsWholeTree image ranges form owner chunk_tree root
     → All (HasLinuxForm image ranges form.nodesize) (nodes_in (walk_events image ranges form root owner))
 
--- Whether a builder stands on a disk, and which items were pushed, depends on no block but those of the slots that were
--- taken.
+-- Whether a builder stands on a disk, and which items were pushed, depends on no block but those of the nodes that were
+-- written.
 abbrev pub StandsBySlots : Type 0
 StandsBySlots =
     (b : Building) (image other : Image)
-    → ((n : ℕ) → IsInSlots b.made.form.nodesize (take b.made.written b.made.slots) n → block_at other n ≡ block_at image n)
+    → ((n : ℕ) → IsInSlots b.made.form.nodesize (take b.made.written b.made.offsets) n → block_at other n ≡ block_at image n)
     → Stands b image → Stands b other × (pushed_on b other ≡ pushed_on b image)

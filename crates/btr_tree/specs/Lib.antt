@@ -13,5 +13,6 @@ pub mod Counting
 pub mod Laws
 pub mod Packing
 pub mod Roots
+pub mod Slots
 pub mod Whole
 pub mod Writing

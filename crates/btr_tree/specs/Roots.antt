@@ -10,12 +10,12 @@ use Rattle.btr_node.specs.Leaf.{Item, keys_of}
 use Rattle.btr_node.specs.Order.{Ascends}
 use Rattle.btr_node.specs.declared.child.Child.{Child}
 use Rattle.btr_reader_walk.specs.Laws.{AreSubtrees}
-use Rattle.btr_reader_walk.specs.Map.{identity}
 use Rattle.btr_reader_walk.specs.Node.{child_pointer}
 use Rattle.btr_reader_walk.specs.Tree.{tree_items}
 use Rattle.btr_reader_walk.specs.Events.{nodes_in, pointer_events, walk_events}
+use Rattle.btr_reader_walk.specs.declared.map.MapRange.{MapRange}
 use Rattle.btr_reader_walk.specs.declared.tree.NodePointer.{NodePointer}
-use Rattle.btr_tree.specs.Building.{Made, StandAt, taken, with_written, pointer_to}
+use Rattle.btr_tree.specs.Building.{Made, StandBy, taken, with_written, pointer_to}
 use Rattle.btr_tree.specs.Builder.{Building, pushed, first_key, IsSameBuilding, HasWhole}
 use Rattle.btr_tree.specs.Counting.{tree_nodes}
 use Rattle.btr_tree.specs.Packing.{fan_out, packed_leaves as leaves_by, tree_levels}
@@ -23,22 +23,23 @@ use Rattle.btr_tree.specs.Whole.{IsWhole, HasFirstKey}
 use Rattle.btr_tree.specs.declared.climb.Root.{Root}
 
 -- the nodes that a walk meets below these children, each child before those below it
-abbrev pub nodes_below : Image → Made → Bool → ℕ → List Child → List NodePointer
-nodes_below image m bare level children = flat_map (λ p. nodes_in (pointer_events image identity m.form m.owner bare p)) (map (child_pointer level) children)
+abbrev pub nodes_below : Image → List MapRange → Made → Bool → ℕ → List Child → List NodePointer
+nodes_below image ranges m bare level children = flat_map (λ p. nodes_in (pointer_events image ranges m.form m.owner bare p)) (map (child_pointer level) children)
 
 -- the nodes below these children are whole, and their keys are the first ones of their nodes
-pub record AreWhole (image : Image) (m : Made) (bare : Bool) (level : ℕ) (children : List Child) : Type 0 where
-  pub nodes : All (IsWhole image identity m.form m.owner m.chunk_tree) (nodes_below image m bare level children)
-  pub firsts : All (HasFirstKey image identity m.form.nodesize) children
+pub record AreWhole (image : Image) (ranges : List MapRange) (m : Made) (bare : Bool) (level : ℕ) (children : List Child) : Type 0 where
+  pub nodes : All (IsWhole image ranges m.form m.owner m.chunk_tree) (nodes_below image ranges m bare level children)
+  pub firsts : All (HasFirstKey image ranges m.form.nodesize) children
 
--- Each child is the root of a subtree that has these items and some at all, on every disk on which the nodes stand.
+-- Each child is the root of a subtree that has these items and some at all, on every disk and by every map by which the nodes
+-- stand.
 pub record AreRoots (m : Made) (level : ℕ) (children : List Child) (lists : List (List Item)) : Type 0 where
   pub keys : first_keys children ≡ map first_key lists
   pub full : All (λ items. 1 ≤ length items) lists
   pub one_generation : All (λ child. child.generation ≡ m.generation) children
-  pub subtrees : (image : Image) (bare : Bool) → StandAt image m.form.nodesize m.slots m.nodes
-      → AreSubtrees image identity m.form m.owner bare (map (child_pointer level) children) lists
-  pub whole : (image : Image) (bare : Bool) → StandAt image m.form.nodesize m.slots m.nodes → AreWhole image m bare level children
+  pub subtrees : (image : Image) (ranges : List MapRange) (bare : Bool) → StandBy image ranges m.form.nodesize m.slots m.nodes
+      → AreSubtrees image ranges m.form m.owner bare (map (child_pointer level) children) lists
+  pub whole : (image : Image) (ranges : List MapRange) (bare : Bool) → StandBy image ranges m.form.nodesize m.slots m.nodes → AreWhole image ranges m bare level children
 
 -- nodes of one level at so many slots behind the first ones
 abbrev pub pointers_to : ℕ → ℕ → ℕ → ℕ → List ℕ → List NodePointer
@@ -70,8 +71,8 @@ pub record IsRaised (old : Made) (children : List Child) (level : ℕ) (new : Ma
   pub few : length new.nodes ≤ length new.slots
   pub roots : (below : ℕ) (items : List Item) → level ≡ suc below → HasSubtreeRoots old below children items → HasSubtreeRoots new level parents items
   pub pointers : map (child_pointer level) parents ≡ pointers_to old.generation level (length old.nodes) (length parents) old.slots
-  pub nodes : (below : ℕ) (items : List Item) → level ≡ suc below → HasSubtreeRoots old below children items → (image : Image) (bare : Bool) → StandAt image new.form.nodesize new.slots new.nodes
-      → IsPermutation (nodes_below image new bare level parents) (map (child_pointer level) parents ++ nodes_below image new bare below children)
+  pub nodes : (below : ℕ) (items : List Item) → level ≡ suc below → HasSubtreeRoots old below children items → (image : Image) (ranges : List MapRange) (bare : Bool) → StandBy image ranges new.form.nodesize new.slots new.nodes
+      → IsPermutation (nodes_below image ranges new bare level parents) (map (child_pointer level) parents ++ nodes_below image ranges new bare below children)
 
 -- roots of subtrees whose keys ascend
 pub record IsForest (m : Made) (level : ℕ) (children : List Child) : Type 0 where
@@ -79,27 +80,27 @@ pub record IsForest (m : Made) (level : ℕ) (children : List Child) : Type 0 wh
   pub roots : HasSubtreeRoots m level children items
   pub order : Ascends (keys_of items)
 
--- the tree of a root has these items, on every disk on which the nodes stand
+-- the tree of a root has these items, wherever the nodes stand
 abbrev pub IsRoot : Made → ℕ → ℕ → List Item → Type 0
 IsRoot m address level items =
-    (image : Image) → StandAt image m.form.nodesize m.slots m.nodes
-    → tree_items image identity m.form (pointer_to m.generation level address) m.owner ≡ Some items
+    (image : Image) (ranges : List MapRange) → StandBy image ranges m.form.nodesize m.slots m.nodes
+    → tree_items image ranges m.form (pointer_to m.generation level address) m.owner ≡ Some items
 
 -- A walk of the tree meets the nodes of its levels, each once and at its slot, and no other.
 abbrev pub HasNodes : Made → ℕ → ℕ → List ℕ → Type 0
 HasNodes m address level sizes =
-    (image : Image) → StandAt image m.form.nodesize m.slots m.nodes
-    → IsPermutation (nodes_in (walk_events image identity m.form (pointer_to m.generation level address) m.owner)) (level_pointers m.generation 0 0 m.slots sizes)
+    (image : Image) (ranges : List MapRange) → StandBy image ranges m.form.nodesize m.slots m.nodes
+    → IsPermutation (nodes_in (walk_events image ranges m.form (pointer_to m.generation level address) m.owner)) (level_pointers m.generation 0 0 m.slots sizes)
 
--- the nodes of the tree of a root are whole, on every disk on which the nodes stand
+-- the nodes of the tree of a root are whole, wherever they stand
 abbrev pub HasWholeNodes : Made → ℕ → ℕ → Type 0
-HasWholeNodes m address level = (image : Image) → StandAt image m.form.nodesize m.slots m.nodes → HasWhole image m address level
+HasWholeNodes m address level = (image : Image) (ranges : List MapRange) → StandBy image ranges m.form.nodesize m.slots m.nodes → HasWhole image ranges m address level
 
 -- the leaves are met at the first slots
 abbrev pub AreFirst : Made → List Child → Type 0
 AreFirst m leaves =
-    (image : Image) (bare : Bool) → StandAt image m.form.nodesize m.slots m.nodes
-    → nodes_below image m bare 0 leaves ≡ pointers_to m.generation 0 0 (length leaves) m.slots
+    (image : Image) (ranges : List MapRange) (bare : Bool) → StandBy image ranges m.form.nodesize m.slots m.nodes
+    → nodes_below image ranges m bare 0 leaves ≡ pointers_to m.generation 0 0 (length leaves) m.slots
 
 -- The root was made above these leaves: it has their items, and the nodes are as many as the levels of such a tree have.
 pub record IsClimbed (old : Made) (leaves : List Child) (new : Made) (root : Root) : Type 0 where
@@ -125,11 +126,11 @@ pub record IsCompleted (old new : Building) (root : Root) : Type 0 where
   pub nodes : HasNodes new.made root.address root.level (tree_levels old.made.form.nodesize (length (leaves_by old.made.form.nodesize (lengths_of (pushed old)))))
   pub whole : HasWholeNodes new.made root.address root.level
 
--- On a disk, a walk of the tree under this root meets the nodes that packing the items gives: each once and at its slot,
+-- On a disk, by a map of addresses, a walk of the tree under this root meets the nodes that packing the items gives: each once and at its slot,
 -- the leaves at the first ones and each level behind those below it, and no other.
-abbrev pub MeetsNodes : Image → Made → ℕ → ℕ → List Item → Type 0
-MeetsNodes image m address level items =
-    IsPermutation (nodes_in (walk_events image identity m.form (pointer_to m.generation level address) m.owner))
+abbrev pub MeetsNodes : Image → List MapRange → Made → ℕ → ℕ → List Item → Type 0
+MeetsNodes image ranges m address level items =
+    IsPermutation (nodes_in (walk_events image ranges m.form (pointer_to m.generation level address) m.owner))
     (level_pointers m.generation 0 0 m.slots (tree_levels m.form.nodesize (length (leaves_by m.form.nodesize (lengths_of items)))))
 
 -- The leaves were made, which are these children, with some nodes in place of those that were written.

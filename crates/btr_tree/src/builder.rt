@@ -6,7 +6,8 @@ ghost use Rattle.btr_node.specs.Draft.{node_bytes};
 ghost use Rattle.btr_node.specs.Leaf.{Item, keys_of};
 ghost use Rattle.btr_node.specs.NodeSize.{IsNodeSize};
 ghost use Rattle.btr_node.specs.Order.{Ascends};
-ghost use Rattle.btr_tree.specs.Building.{AreSlots, IsFresh, IsLater, Goes, taken, with_written, NodeReadsBack};
+ghost use Rattle.btr_reader_walk.specs.declared.map.MapRange.{MapRange};
+ghost use Rattle.btr_tree.specs.Building.{AreSlots, IsFresh, IsLater, Goes, MapsSlots, taken, with_written, NodeReadsBack};
 ghost use Rattle.btr_tree.specs.Counting.{nodes_above, tree_nodes};
 ghost use Rattle.btr_tree.specs.Roots.{HasForest, IsClimbed, IsCompleted, IsFinished, MeetsNodes, lengths_of};
 ghost use Rattle.btr_tree.specs.Builder.{pushed, pushed_on, Standing, Stands, Holds, IsReady, HasPut, IsPushed, all_made, leaf_closed, leaf_begun, IsNextTaken, IsSameBuilding, HasTree, HasWhole, leaves_of};
@@ -14,7 +15,7 @@ ghost use Rattle.btr_tree.specs.Builder.{pushed, pushed_on, Standing, Stands, Ho
 use crate::answer::NodeAnswer;
 use crate::climb::{Root, climb};
 use crate::nodes::Nodes;
-use crate::{Slots, TreeAnswer};
+use crate::{NodeSlots, TreeAnswer};
 use btr_node::{Access, Child, Disk, Ids, Key, Memory, SumKind};
 use btr_reader_walk::{Form, leaves_give_items, subtrees_are_trees};
 use btrfs_format::size::ITEM_SIZE;
@@ -46,20 +47,20 @@ impl Model for TreeBuilder {
 
 impl TreeBuilder {
     /// A builder of the tree with this number. Its nodes have the file system's identifier and that of the chunk tree from
-    /// `ids`, and this generation, size and kind of checksum. The slots are addresses of nodes in bytes, distinct multiples
+    /// `ids`, and this generation, size and kind of checksum. The offsets of the slots are distinct multiples
     /// of the size.
     pub fn new(
         alloc: Global,
         owner: u64,
         generation: u64,
-        slots: Slots,
+        slots: NodeSlots,
         ids: Ids,
         nodesize: u32,
         sums: SumKind,
     ) -> Result<TreeBuilder, Memory>
         requires size { IsNodeSize nodesize }
-        requires slots { AreSlots nodesize slots }
-        ensures fresh { IfOk result (λ b. IsFresh (record { fsid = ids.fsid; nodesize = nodesize; sums = sums }) owner generation ids.chunk_tree slots b.made) }
+        requires slots { AreSlots nodesize slots.offsets }
+        ensures fresh { IfOk result (λ b. IsFresh (record { fsid = ids.fsid; nodesize = nodesize; sums = sums }) owner generation ids.chunk_tree slots.addresses slots.offsets b.made) }
         ensures ready { IfOk result (λ b. Holds b []) }
         ensures stands { IfOk result (λ b. (image : Image) → Stands b image) }
         ensures pushed { IfOk result (λ b. (image : Image) → pushed_on b image ≡ []) }
@@ -100,7 +101,7 @@ impl TreeBuilder {
         requires order { Ascends (keys_of self.old.made.draft.items ++ key ∷ []) }
         requires small { length body.now + 126 ≤ self.old.made.form.nodesize }
         requires open { D.opened disk.old ≡ Some Access.Write }
-        requires in_range { All (λ a. a + self.old.made.form.nodesize ≤ 4096 * D.size disk.old) self.old.made.slots }
+        requires in_range { All (λ a. a + self.old.made.form.nodesize ≤ 4096 * D.size disk.old) self.old.made.offsets }
         ensures stands { IsTrue D.tells → OnOk result (Stands self.new (reads (D.history disk.new))) }
         ensures pushed { IsTrue D.tells → OnOk result (pushed_on self.new (reads (D.history disk.new)) ≡ pushed_on self.old (reads (D.history disk.old)) ++ (key, body.now) ∷ []) }
         ensures holds { (items : List Item) → Holds self.old items → OnOk result (Holds self.new (items ++ (key, body.now) ∷ [])) }
@@ -115,7 +116,7 @@ impl TreeBuilder {
         ensures open { D.opened disk.new ≡ D.opened disk.old }
         ensures size { D.size disk.new ≡ D.size disk.old }
         ensures borrow { D.borrow disk.new ≡ D.borrow disk.old }
-        ensures only { IsTrue D.tells → WritesOnly (λ b _. IsInSlots self.old.made.form.nodesize (take (taken self.new.made) self.old.made.slots) b) (D.history disk.old) (D.history disk.new) }
+        ensures only { IsTrue D.tells → WritesOnly (λ b _. IsInSlots self.old.made.form.nodesize (take (taken self.new.made) self.old.made.offsets) b) (D.history disk.old) (D.history disk.new) }
         ensures cause { HasCauseOf TreeAnswer.Fault (D.faults disk.old) (D.faults disk.new) result }
     {
         let result = self.push_item(disk, key, body);
@@ -123,8 +124,8 @@ impl TreeBuilder {
         result
     }
 
-    /// Makes the last leaf and the levels above, and writes all nodes that were not written to their slots. The root reads as
-    /// the tree of the items that were pushed.
+    /// Makes the last leaf and the levels above, and writes all nodes that were not written to their slots. By each map of
+    /// addresses that gives the slots at their offsets, the root reads as the tree of the items that were pushed.
     ///
     /// OutOfSlots comes only where the tree has more nodes than there are slots, and Ok only where it has not. At any answer
     /// only slots that were taken may have been written.
@@ -134,10 +135,10 @@ impl TreeBuilder {
         requires stands { IsTrue D.tells → Stands self.old (reads (D.history disk.old)) }
         requires ready { IsReady self.old }
         requires open { D.opened disk.old ≡ Some Access.Write }
-        requires in_range { All (λ a. a + self.old.made.form.nodesize ≤ 4096 * D.size disk.old) self.old.made.slots }
-        ensures tree { IsTrue D.tells → IfOk result (λ root. HasTree (reads (D.history disk.new)) self.old.made root.address root.level (pushed_on self.old (reads (D.history disk.old)))) }
-        ensures nodes { IsTrue D.tells → IfOk result (λ root. MeetsNodes (reads (D.history disk.new)) self.old.made root.address root.level (pushed_on self.old (reads (D.history disk.old)))) }
-        ensures whole { IsTrue D.tells → IfOk result (λ root. HasWhole (reads (D.history disk.new)) self.old.made root.address root.level) }
+        requires in_range { All (λ a. a + self.old.made.form.nodesize ≤ 4096 * D.size disk.old) self.old.made.offsets }
+        ensures tree { (ranges : List MapRange) → MapsSlots ranges self.old.made.form.nodesize self.old.made.slots self.old.made.offsets → IsTrue D.tells → IfOk result (λ root. HasTree (reads (D.history disk.new)) ranges self.old.made root.address root.level (pushed_on self.old (reads (D.history disk.old)))) }
+        ensures nodes { (ranges : List MapRange) → MapsSlots ranges self.old.made.form.nodesize self.old.made.slots self.old.made.offsets → IsTrue D.tells → IfOk result (λ root. MeetsNodes (reads (D.history disk.new)) ranges self.old.made root.address root.level (pushed_on self.old (reads (D.history disk.old)))) }
+        ensures whole { (ranges : List MapRange) → MapsSlots ranges self.old.made.form.nodesize self.old.made.slots self.old.made.offsets → IsTrue D.tells → IfOk result (λ root. HasWhole (reads (D.history disk.new)) ranges self.old.made root.address root.level) }
         ensures finished { (items : List Item) → Holds self.old items → IfOk result (λ root. IsFinished self.old self.new root items) }
         ensures spent { IsTrue self.new.spent ↔ IsErr result }
         ensures done { IsTrue self.new.done ↔ IsOk result }
@@ -146,7 +147,7 @@ impl TreeBuilder {
         ensures open { D.opened disk.new ≡ D.opened disk.old }
         ensures size { D.size disk.new ≡ D.size disk.old }
         ensures borrow { D.borrow disk.new ≡ D.borrow disk.old }
-        ensures only { IsTrue D.tells → WritesOnly (λ b _. IsInSlots self.old.made.form.nodesize (take (taken self.new.made) self.old.made.slots) b) (D.history disk.old) (D.history disk.new) }
+        ensures only { IsTrue D.tells → WritesOnly (λ b _. IsInSlots self.old.made.form.nodesize (take (taken self.new.made) self.old.made.offsets) b) (D.history disk.old) (D.history disk.new) }
         ensures cause { HasCauseOf TreeAnswer.Fault (D.faults disk.old) (D.faults disk.new) result }
     {
         let result = self.write_tree(disk);
@@ -156,9 +157,9 @@ impl TreeBuilder {
     }
 
     /// The slots that no node took, in order.
-    pub fn rest(self) -> Slots
+    pub fn rest(self) -> NodeSlots
         requires { self.done ≡ true }
-        ensures { result ≡ drop (taken self.made) self.made.slots }
+        ensures { result ≡ record { addresses = drop (taken self.made) self.made.slots; offsets = drop (taken self.made) self.made.offsets } }
     {
         self.nodes.rest()
     }
@@ -170,7 +171,7 @@ impl TreeBuilder {
         requires order { Ascends (keys_of self.old.made.draft.items ++ key ∷ []) }
         requires small { length body.now + 126 ≤ self.old.made.form.nodesize }
         requires open { D.opened disk.old ≡ Some Access.Write }
-        requires in_range { All (λ a. a + self.old.made.form.nodesize ≤ 4096 * D.size disk.old) self.old.made.slots }
+        requires in_range { All (λ a. a + self.old.made.form.nodesize ≤ 4096 * D.size disk.old) self.old.made.offsets }
         ensures stands { IsTrue D.tells → OnOk result (Stands self.new (reads (D.history disk.new))) }
         ensures pushed { IsTrue D.tells → OnOk result (pushed_on self.new (reads (D.history disk.new)) ≡ pushed_on self.old (reads (D.history disk.old)) ++ (key, body.now) ∷ []) }
         ensures holds { (items : List Item) → Holds self.old items → OnOk result (Holds self.new (items ++ (key, body.now) ∷ [])) }
@@ -183,7 +184,7 @@ impl TreeBuilder {
         ensures open { D.opened disk.new ≡ D.opened disk.old }
         ensures size { D.size disk.new ≡ D.size disk.old }
         ensures borrow { D.borrow disk.new ≡ D.borrow disk.old }
-        ensures only { IsTrue D.tells → WritesOnly (λ b _. IsInSlots self.old.made.form.nodesize (take (taken self.new.made) self.old.made.slots) b) (D.history disk.old) (D.history disk.new) }
+        ensures only { IsTrue D.tells → WritesOnly (λ b _. IsInSlots self.old.made.form.nodesize (take (taken self.new.made) self.old.made.offsets) b) (D.history disk.old) (D.history disk.new) }
         ensures cause { HasCauseOf TreeAnswer.Fault (D.faults disk.old) (D.faults disk.new) result }
     {
         self.nodes.make_room(disk)?;
@@ -196,17 +197,17 @@ impl TreeBuilder {
         requires stands { IsTrue D.tells → Stands self.old (reads (D.history disk.old)) }
         requires ready { IsReady self.old }
         requires open { D.opened disk.old ≡ Some Access.Write }
-        requires in_range { All (λ a. a + self.old.made.form.nodesize ≤ 4096 * D.size disk.old) self.old.made.slots }
-        ensures tree { IsTrue D.tells → IfOk result (λ root. HasTree (reads (D.history disk.new)) self.old.made root.address root.level (pushed_on self.old (reads (D.history disk.old)))) }
-        ensures nodes { IsTrue D.tells → IfOk result (λ root. MeetsNodes (reads (D.history disk.new)) self.old.made root.address root.level (pushed_on self.old (reads (D.history disk.old)))) }
-        ensures whole { IsTrue D.tells → IfOk result (λ root. HasWhole (reads (D.history disk.new)) self.old.made root.address root.level) }
+        requires in_range { All (λ a. a + self.old.made.form.nodesize ≤ 4096 * D.size disk.old) self.old.made.offsets }
+        ensures tree { (ranges : List MapRange) → MapsSlots ranges self.old.made.form.nodesize self.old.made.slots self.old.made.offsets → IsTrue D.tells → IfOk result (λ root. HasTree (reads (D.history disk.new)) ranges self.old.made root.address root.level (pushed_on self.old (reads (D.history disk.old)))) }
+        ensures nodes { (ranges : List MapRange) → MapsSlots ranges self.old.made.form.nodesize self.old.made.slots self.old.made.offsets → IsTrue D.tells → IfOk result (λ root. MeetsNodes (reads (D.history disk.new)) ranges self.old.made root.address root.level (pushed_on self.old (reads (D.history disk.old)))) }
+        ensures whole { (ranges : List MapRange) → MapsSlots ranges self.old.made.form.nodesize self.old.made.slots self.old.made.offsets → IsTrue D.tells → IfOk result (λ root. HasWhole (reads (D.history disk.new)) ranges self.old.made root.address root.level) }
         ensures finished { (items : List Item) → Holds self.old items → IfOk result (λ root. IsFinished self.old self.new root items) }
         ensures out { (items : List Item) → Holds self.old items → result ≡ Err TreeAnswer.OutOfSlots
             → length self.old.made.slots < tree_nodes self.old.made.form.nodesize (lengths_of items) }
         ensures open { D.opened disk.new ≡ D.opened disk.old }
         ensures size { D.size disk.new ≡ D.size disk.old }
         ensures borrow { D.borrow disk.new ≡ D.borrow disk.old }
-        ensures only { IsTrue D.tells → WritesOnly (λ b _. IsInSlots self.old.made.form.nodesize (take (taken self.new.made) self.old.made.slots) b) (D.history disk.old) (D.history disk.new) }
+        ensures only { IsTrue D.tells → WritesOnly (λ b _. IsInSlots self.old.made.form.nodesize (take (taken self.new.made) self.old.made.offsets) b) (D.history disk.old) (D.history disk.new) }
         ensures cause { HasCauseOf TreeAnswer.Fault (D.faults disk.old) (D.faults disk.new) result }
     {
         self.nodes.make_room(disk)?;
@@ -244,7 +245,7 @@ impl TreeBuilder {
         requires ready { IsReady self.old }
         requires batch { length self.old.made.nodes < 16 }
         requires open { D.opened disk.old ≡ Some Access.Write }
-        requires in_range { All (λ a. a + self.old.made.form.nodesize ≤ 4096 * D.size disk.old) self.old.made.slots }
+        requires in_range { All (λ a. a + self.old.made.form.nodesize ≤ 4096 * D.size disk.old) self.old.made.offsets }
         ensures completed { IfOk result (λ root. Goes D.tells (reads (D.history disk.old)) (reads (D.history disk.new)) self.old.made self.new.made
             (λ m n. Standing (record self.old { made = m }) → IsCompleted (record self.old { made = m }) (record self.new { made = n }) root)) }
         ensures later { IsLater self.old.made self.new.made }
@@ -253,7 +254,7 @@ impl TreeBuilder {
         ensures open { D.opened disk.new ≡ D.opened disk.old }
         ensures size { D.size disk.new ≡ D.size disk.old }
         ensures borrow { D.borrow disk.new ≡ D.borrow disk.old }
-        ensures only { IsTrue D.tells → WritesOnly (λ b _. IsInSlots self.old.made.form.nodesize (take (taken self.new.made) self.old.made.slots) b) (D.history disk.old) (D.history disk.new) }
+        ensures only { IsTrue D.tells → WritesOnly (λ b _. IsInSlots self.old.made.form.nodesize (take (taken self.new.made) self.old.made.offsets) b) (D.history disk.old) (D.history disk.new) }
         ensures cause { HasCauseOf TreeAnswer.Fault (D.faults disk.old) (D.faults disk.new) result }
     {
         leaves_give_items();
@@ -270,20 +271,20 @@ impl TreeBuilder {
     /// Makes the levels above the leaves that were made.
     fn complete_levels<D: Disk>(&mut self, disk: &mut D) -> Result<Root, TreeAnswer>
         requires size { IsNodeSize self.old.made.form.nodesize }
-        requires slots { AreSlots self.old.made.form.nodesize self.old.made.slots }
+        requires slots { AreSlots self.old.made.form.nodesize self.old.made.offsets }
         requires few { taken self.old.made ≤ length self.old.made.slots }
         requires some { 1 ≤ length self.old.children }
         requires made { taken self.old.made ≡ length self.old.children }
         requires forest { HasForest self.old.made self.old.children }
         requires open { D.opened disk.old ≡ Some Access.Write }
-        requires in_range { All (λ a. a + self.old.made.form.nodesize ≤ 4096 * D.size disk.old) self.old.made.slots }
+        requires in_range { All (λ a. a + self.old.made.form.nodesize ≤ 4096 * D.size disk.old) self.old.made.offsets }
         ensures climbed { IfOk result (λ root. Goes D.tells (reads (D.history disk.old)) (reads (D.history disk.new)) self.old.made self.new.made (λ m n. IsClimbed m self.old.children n root)) }
         ensures later { IsLater self.old.made self.new.made }
         ensures out { result ≡ Err TreeAnswer.OutOfSlots → length self.old.made.slots < nodes_above self.old.made.form.nodesize (length self.old.children) }
         ensures open { D.opened disk.new ≡ D.opened disk.old }
         ensures size { D.size disk.new ≡ D.size disk.old }
         ensures borrow { D.borrow disk.new ≡ D.borrow disk.old }
-        ensures only { IsTrue D.tells → WritesOnly (λ b _. IsInSlots self.old.made.form.nodesize (take (taken self.new.made) self.old.made.slots) b) (D.history disk.old) (D.history disk.new) }
+        ensures only { IsTrue D.tells → WritesOnly (λ b _. IsInSlots self.old.made.form.nodesize (take (taken self.new.made) self.old.made.offsets) b) (D.history disk.old) (D.history disk.new) }
         ensures cause { HasCauseOf TreeAnswer.Fault (D.faults disk.old) (D.faults disk.new) result }
     {
         let alloc = *self.children.allocator();
@@ -294,7 +295,7 @@ impl TreeBuilder {
     /// Makes the one leaf of a tree without items. None exactly where no slot is left.
     fn complete_empty(&mut self) -> Option<Root>
         requires size { IsNodeSize self.old.made.form.nodesize }
-        requires slots { AreSlots self.old.made.form.nodesize self.old.made.slots }
+        requires slots { AreSlots self.old.made.form.nodesize self.old.made.offsets }
         requires batch { length self.old.made.nodes < 16 }
         requires none { (self.old.made.nodes ≡ []) × (self.old.made.written ≡ 0) }
         requires no_items { self.old.made.draft.items ≡ [] }

@@ -34,20 +34,20 @@ pub fn climb<D: Disk>(
     leaves: Vec<Child>,
 ) -> Result<Root, TreeAnswer>
     requires size { IsNodeSize nodes.old.form.nodesize }
-    requires slots { AreSlots nodes.old.form.nodesize nodes.old.slots }
+    requires slots { AreSlots nodes.old.form.nodesize nodes.old.offsets }
     requires few { taken nodes.old ≤ length nodes.old.slots }
     requires some { 1 ≤ length leaves.items }
     requires made { taken nodes.old ≡ length leaves.items }
     requires forest { HasForest nodes.old leaves.items }
     requires open { D.opened disk.old ≡ Some Access.Write }
-    requires in_range { All (λ a. a + nodes.old.form.nodesize ≤ 4096 * D.size disk.old) nodes.old.slots }
+    requires in_range { All (λ a. a + nodes.old.form.nodesize ≤ 4096 * D.size disk.old) nodes.old.offsets }
     ensures open { D.opened disk.new ≡ D.opened disk.old }
     ensures size { D.size disk.new ≡ D.size disk.old }
     ensures borrow { D.borrow disk.new ≡ D.borrow disk.old }
     ensures climbed { IfOk result (λ root. Goes D.tells (reads (D.history disk.old)) (reads (D.history disk.new)) nodes.old nodes.new (λ m n. IsClimbed m leaves.items n root)) }
     ensures later { IsLater nodes.old nodes.new }
     ensures out { result ≡ Err TreeAnswer.OutOfSlots → length nodes.old.slots < sum (tree_levels nodes.old.form.nodesize (length leaves.items)) }
-    ensures only { IsTrue D.tells → WritesOnly (λ b _. IsInSlots nodes.old.form.nodesize (take (taken nodes.new) nodes.old.slots) b) (D.history disk.old) (D.history disk.new) }
+    ensures only { IsTrue D.tells → WritesOnly (λ b _. IsInSlots nodes.old.form.nodesize (take (taken nodes.new) nodes.old.offsets) b) (D.history disk.old) (D.history disk.new) }
     ensures cause { HasCauseOf TreeAnswer.Fault (D.faults disk.old) (D.faults disk.new) result }
 {
     let mut children = leaves;

@@ -1,6 +1,6 @@
 //! The trees that are written, and how many nodes they take.
 //!
-//! A [`TreeBuilder`] is given [`Slots`] for nodes, takes the items of a tree in the order of their keys by
+//! A [`TreeBuilder`] is given [`NodeSlots`] for nodes, takes the items of a tree in the order of their keys by
 //! [`TreeBuilder::push`], which writes nodes on the way, and writes the rest by [`TreeBuilder::finish`], whose answer is the
 //! [`Root`]. Between two calls others may write blocks that are in no slot that was taken ([`stands_by_slots`]). A
 //! [`Counter`] takes the lengths of a tree's items and says how many nodes the tree has. [`node_bound`] bounds that number
@@ -31,4 +31,4 @@ pub use counter::Counter;
 pub use laws::{
     maps_agree, nodes_have_linux_form, nodes_never_fall, packing_is_full, stands_by_slots,
 };
-pub use slots::Slots;
+pub use slots::{NodeSlots, Slots};

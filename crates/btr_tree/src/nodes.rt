@@ -10,7 +10,7 @@ ghost use Rattle.btr_node.specs.Order.{Ascends};
 ghost use Rattle.btr_tree.specs.Building.{IsFresh, begun_at, with_node, with_item, with_child, flushed, taken, Goes, IsLater, NodeReadsBack, AreSlots, StandAt};
 ghost use Rattle.btr_tree.specs.Packing.{fan_out};
 
-use crate::Slots;
+use crate::NodeSlots;
 use crate::bound::HEAD_SIZE;
 use crate::counter::CHILD_SIZE;
 use crate::write::write_node;
@@ -31,7 +31,7 @@ pub struct Nodes {
     owner: u64,
     generation: u64,
     chunk_tree: [u8; 16],
-    slots: Slots,
+    slots: NodeSlots,
     writer: NodeWriter,
     bytes: Vec<u8>,
     written: usize,
@@ -49,13 +49,14 @@ impl Model for Nodes {
       owner = n.owner;
       generation = n.generation;
       chunk_tree = n.chunk_tree;
-      slots = n.slots;
+      slots = n.slots.addresses;
+      offsets = n.slots.offsets;
       written = n.written;
       nodes = pieces_of n.form.nodesize n.held n.bytes.items;
       draft = n.writer;
     } };
 
-    ghost invariant = { λ n. IsStock n.form.nodesize n.written n.held (vec_capacity n.bytes) n.writer n.bytes.items n.slots };
+    ghost invariant = { λ n. IsStock n.form.nodesize n.written n.held (vec_capacity n.bytes) n.writer n.bytes.items n.slots.addresses n.slots.offsets };
 }
 
 impl Nodes {
@@ -66,10 +67,10 @@ impl Nodes {
         owner: u64,
         generation: u64,
         chunk_tree: [u8; 16],
-        slots: Slots,
+        slots: NodeSlots,
     ) -> Result<Nodes, Memory>
         requires { IsNodeSize form.nodesize }
-        ensures { IfOk result (IsFresh form owner generation chunk_tree slots) }
+        ensures { IfOk result (IsFresh form owner generation chunk_tree slots.addresses slots.offsets) }
     {
         let _slots = slots.len();
         Ok(Nodes {
@@ -92,13 +93,13 @@ impl Nodes {
         self.written + self.held
     }
 
-    /// The slot of the next node, if one is left.
+    /// The address of the next node, if a slot is left.
     pub fn next_slot(&self) -> Option<u64>
         ensures { result ≡ slice_get self.now.slots (taken self.now) }
     {
         let next = self.len();
         if next < self.slots.len() {
-            Some(self.slots.get(next))
+            Some(self.slots.address(next))
         } else {
             None
         }
@@ -178,8 +179,8 @@ impl Nodes {
     }
 
     /// The slots that no node took, in order.
-    pub fn rest(self) -> Slots
-        ensures { result ≡ drop (taken self) self.slots }
+    pub fn rest(self) -> NodeSlots
+        ensures { result ≡ record { addresses = drop (taken self) self.slots; offsets = drop (taken self) self.offsets } }
     {
         self.slots.without_first(self.written + self.held)
     }
@@ -187,15 +188,15 @@ impl Nodes {
     /// Writes the nodes that are held, where no more may be held.
     pub fn make_room<D: Disk>(&mut self, disk: &mut D) -> Result<(), Fault>
         requires open { D.opened disk.old ≡ Some Access.Write }
-        requires slots { AreSlots self.old.form.nodesize self.old.slots }
-        requires in_range { All (λ a. a + self.old.form.nodesize ≤ 4096 * D.size disk.old) self.old.slots }
+        requires slots { AreSlots self.old.form.nodesize self.old.offsets }
+        requires in_range { All (λ a. a + self.old.form.nodesize ≤ 4096 * D.size disk.old) self.old.offsets }
         ensures open { D.opened disk.new ≡ D.opened disk.old }
         ensures size { D.size disk.new ≡ D.size disk.old }
         ensures borrow { D.borrow disk.new ≡ D.borrow disk.old }
         ensures room { OnOk result (length self.new.nodes < 16) }
         ensures later { IsLater self.old self.new }
         ensures goes { OnOk result (Goes D.tells (reads (D.history disk.old)) (reads (D.history disk.new)) self.old self.new (λ m n. n ≡ m)) }
-        ensures only { IsTrue D.tells → WritesOnly (λ b _. IsInSlots self.old.form.nodesize (take (taken self.new) self.old.slots) b) (D.history disk.old) (D.history disk.new) }
+        ensures only { IsTrue D.tells → WritesOnly (λ b _. IsInSlots self.old.form.nodesize (take (taken self.new) self.old.offsets) b) (D.history disk.old) (D.history disk.new) }
         ensures cause { HasCause (D.faults disk.old) (D.faults disk.new) result }
     {
         if self.held < BATCH {
@@ -207,15 +208,15 @@ impl Nodes {
     /// Writes the nodes that are held to their slots.
     pub fn flush<D: Disk>(&mut self, disk: &mut D) -> Result<(), Fault>
         requires open { D.opened disk.old ≡ Some Access.Write }
-        requires slots { AreSlots self.old.form.nodesize self.old.slots }
-        requires in_range { All (λ a. a + self.old.form.nodesize ≤ 4096 * D.size disk.old) self.old.slots }
+        requires slots { AreSlots self.old.form.nodesize self.old.offsets }
+        requires in_range { All (λ a. a + self.old.form.nodesize ≤ 4096 * D.size disk.old) self.old.offsets }
         ensures open { D.opened disk.new ≡ D.opened disk.old }
         ensures size { D.size disk.new ≡ D.size disk.old }
         ensures borrow { D.borrow disk.new ≡ D.borrow disk.old }
         ensures flushed { OnOk result (self.new ≡ flushed self.old) }
         ensures later { IsLater self.old self.new }
         ensures goes { OnOk result (Goes D.tells (reads (D.history disk.old)) (reads (D.history disk.new)) self.old self.new (λ m n. n ≡ m)) }
-        ensures only { IsTrue D.tells → WritesOnly (λ b _. IsInSlots self.old.form.nodesize (take (taken self.new) self.old.slots) b) (D.history disk.old) (D.history disk.new) }
+        ensures only { IsTrue D.tells → WritesOnly (λ b _. IsInSlots self.old.form.nodesize (take (taken self.new) self.old.offsets) b) (D.history disk.old) (D.history disk.new) }
         ensures cause { HasCause (D.faults disk.old) (D.faults disk.new) result }
     {
         self.write(disk)?;
@@ -235,15 +236,15 @@ impl Nodes {
     /// Writes the nodes that are held to their slots, and keeps them.
     fn write<D: Disk>(&self, disk: &mut D) -> Result<(), Fault>
         requires open { D.opened disk.old ≡ Some Access.Write }
-        requires slots { AreSlots self.now.form.nodesize self.now.slots }
-        requires in_range { All (λ a. a + self.now.form.nodesize ≤ 4096 * D.size disk.old) self.now.slots }
+        requires slots { AreSlots self.now.form.nodesize self.now.offsets }
+        requires in_range { All (λ a. a + self.now.form.nodesize ≤ 4096 * D.size disk.old) self.now.offsets }
         ensures open { D.opened disk.new ≡ D.opened disk.old }
         ensures size { D.size disk.new ≡ D.size disk.old }
         ensures borrow { D.borrow disk.new ≡ D.borrow disk.old }
-        ensures only { IsTrue D.tells → WritesOnly (λ b _. IsInSlots self.now.form.nodesize (take (taken self.now) self.now.slots) b) (D.history disk.old) (D.history disk.new) }
+        ensures only { IsTrue D.tells → WritesOnly (λ b _. IsInSlots self.now.form.nodesize (take (taken self.now) self.now.offsets) b) (D.history disk.old) (D.history disk.new) }
         ensures written { IsTrue D.tells → OnOk result ((front : List (List ℕ)) → length front ≡ self.now.written
-            → StandAt (reads (D.history disk.old)) self.now.form.nodesize self.now.slots front
-            → StandAt (reads (D.history disk.new)) self.now.form.nodesize self.now.slots (front ++ self.now.nodes)) }
+            → StandAt (reads (D.history disk.old)) self.now.form.nodesize self.now.offsets front
+            → StandAt (reads (D.history disk.new)) self.now.form.nodesize self.now.offsets (front ++ self.now.nodes)) }
         ensures cause { HasCause (D.faults disk.old) (D.faults disk.new) result }
     {
         let size = self.form.nodesize as usize;
@@ -251,7 +252,7 @@ impl Nodes {
             let at = size * k;
             write_node(
                 disk,
-                self.slots.get(self.written + k),
+                self.slots.offset(self.written + k),
                 &self.bytes[at..at + size],
             )?;
         }

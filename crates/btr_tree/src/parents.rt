@@ -86,12 +86,12 @@ pub fn raise<D: Disk>(
     level: u8,
 ) -> Result<Vec<Child>, TreeAnswer>
     requires size { IsNodeSize nodes.old.form.nodesize }
-    requires slots { AreSlots nodes.old.form.nodesize nodes.old.slots }
+    requires slots { AreSlots nodes.old.form.nodesize nodes.old.offsets }
     requires few { taken nodes.old ≤ length nodes.old.slots }
     requires inner { 1 ≤ level }
     requires order { Ascends (first_keys children.now) }
     requires open { D.opened disk.old ≡ Some Access.Write }
-    requires in_range { All (λ a. a + nodes.old.form.nodesize ≤ 4096 * D.size disk.old) nodes.old.slots }
+    requires in_range { All (λ a. a + nodes.old.form.nodesize ≤ 4096 * D.size disk.old) nodes.old.offsets }
     ensures open { D.opened disk.new ≡ D.opened disk.old }
     ensures size { D.size disk.new ≡ D.size disk.old }
     ensures borrow { D.borrow disk.new ≡ D.borrow disk.old }
@@ -99,7 +99,7 @@ pub fn raise<D: Disk>(
     ensures later { IsLater nodes.old nodes.new }
     ensures out { result ≡ Err TreeAnswer.OutOfSlots
         → length nodes.old.slots < taken nodes.old + div_ceil (length children.now) (fan_out nodes.old.form.nodesize) }
-    ensures only { IsTrue D.tells → WritesOnly (λ b _. IsInSlots nodes.old.form.nodesize (take (taken nodes.new) nodes.old.slots) b) (D.history disk.old) (D.history disk.new) }
+    ensures only { IsTrue D.tells → WritesOnly (λ b _. IsInSlots nodes.old.form.nodesize (take (taken nodes.new) nodes.old.offsets) b) (D.history disk.old) (D.history disk.new) }
     ensures cause { HasCauseOf TreeAnswer.Fault (D.faults disk.old) (D.faults disk.new) result }
 {
     children_give_items();

@@ -8,9 +8,10 @@ pub use Rattle.std.specs.List.{All, AllPairs, concat, flat_map, sum}
 pub use Rattle.std.specs.List.Sorted.{IsPermutation}
 pub use Rattle.std.specs.Prelude.{IsTrue}
 pub use Rattle.std.specs.Result.{IsErrAnd, MatchResult}
+pub use Rattle.btr_tree.proofs.Placing.{Lie, first_lies, maps_itself, rest_lies}
 pub use Rattle.btr_tree.proofs.outside.Crash.{writes_length, writes_none, writes_then, writes_weaker}
 pub use Rattle.btr_tree.specs.Builder.{HasTree, HasWhole, leaves_of, no_key}
-pub use Rattle.btr_tree.specs.Building.{AreSlots, Made, pointer_to, taken}
+pub use Rattle.btr_tree.specs.Building.{AreSlots, Made, MapsSlots, pointer_to, taken}
 pub use Rattle.btr_tree.specs.Counting.{Counted, Tally, bytes_of, tree_nodes}
 pub use Rattle.btr_tree.specs.Packing.{capacity, fan_out, level_sizes, packed_leaves, tree_levels, weight}
 pub use Rattle.btr_tree.specs.Roots.{MeetsNodes, lengths_of, level_pointers, pointers_to}
@@ -23,13 +24,15 @@ pub use Rattle.btr_tree.specs.btr_reader_walk.Events.{TreeEvent, nodes_in, walk_
 pub use Rattle.btr_tree.specs.btr_reader_walk.Map.{block_of_place, blocks_at, holds, identity, place}
 unfoldable pub use Rattle.btr_tree.specs.btr_reader_walk.Map.{node_at}
 pub use Rattle.btr_tree.specs.btr_reader_walk.Tree.{tree_items}
+pub use Rattle.btr_tree.specs.btr_reader_walk.declared.map.MapRange.{MapRange}
 pub use Rattle.btr_tree.specs.btr_reader_walk.declared.tree.Form.{Form}
 pub use Rattle.btr_tree.specs.declared.answer.TreeAnswer.{TreeAnswer}
+pub use Rattle.btr_tree.specs.declared.climb.Root.{Root}
 pub use Rattle.btr_tree.specs.outside.Fault.{HasCauseOf, Rose}
 pub use Rattle.btr_tree.specs.outside.History.{History, Image, WritesOnly, block_at, reads}
 pub use Rattle.btr_tree_writer.specs.Answers.{IsFailure, IsSourceFailure, IsWriteAnswer, of_builder, of_source}
 pub use Rattle.btr_tree_writer.specs.Source.{LieApart, SameWhere}
-pub use Rattle.btr_tree_writer.specs.Trees.{AreWritable, TreeStands, TreesStandByNodes, pointer_to_root, read_form}
+pub use Rattle.btr_tree_writer.specs.Trees.{AreWritable, TreeStands, TreeStandsBy, TreesStandByNodes, TreesStandByOffsets, pointer_of_root, read_form}
 pub use Rattle.btr_tree_writer.specs.Writer.{IsAbove, StandsOn, WritesTree, last_key}
 pub use Rattle.btr_tree_writer.specs.declared.answer.WriteAnswer.{WriteAnswer}
 pub use Rattle.space_items.proofs.Ascending.{nodes_at_slots, upper_at}

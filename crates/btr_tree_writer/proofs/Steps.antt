@@ -1,8 +1,8 @@
 -- A step of writing a tree: the next item comes, and is pushed.
-use Rattle.btr_tree_writer.proofs.Imports.{◌≡◌, inl, inr, ⊎_elim, ℕ, ◌+◌, ◌-◌, ◌*◌, ◌<◌, ◌≤◌, List, [], ◌∷◌, ◌++◌, length, Some, Result, Ok, Err, refl, sym, ap, subst, ◌∙◌, arith, append_assoc, All, IsErrAnd, MatchResult, append-nil, IsPermutation, HasCauseOf, Rose, Image, History, reads, block_at, WritesOnly, writes_length, Key, Item, Made, pointer_to, HasTree, HasWhole, tree_nodes, packed_leaves, tree_levels, MeetsNodes, level_pointers, lengths_of, IsWholeTree, IsInSlots, nodes_in, walk_events, identity, tree_items, Form, of_source, IsFailure, IsSourceFailure, IsWriteAnswer, LieApart, SameWhere, TreeStands, pointer_to_root, WriteAnswer}
+use Rattle.btr_tree_writer.proofs.Imports.{◌≡◌, inl, inr, ⊎_elim, ℕ, ◌+◌, ◌-◌, ◌*◌, ◌<◌, ◌≤◌, List, [], ◌∷◌, ◌++◌, length, Some, Result, Ok, Err, refl, sym, ap, subst, ◌∙◌, arith, append_assoc, All, IsErrAnd, MatchResult, append-nil, IsPermutation, HasCauseOf, Rose, Image, History, reads, block_at, WritesOnly, writes_length, Key, Item, Made, pointer_to, MapsSlots, HasTree, HasWhole, tree_nodes, packed_leaves, tree_levels, MeetsNodes, level_pointers, lengths_of, IsWholeTree, IsInSlots, nodes_in, walk_events, tree_items, Form, of_source, IsFailure, IsSourceFailure, IsWriteAnswer, LieApart, SameWhere, WriteAnswer, TreeStandsBy, pointer_of_root, MapRange, Root}
+use Rattle.btr_tree.specs.Slots.{SlotLists}
 use Rattle.btr_tree.proofs.outside.Phases.{reads_outside}
 use Rattle.btr_tree.specs.refusals.declared.answer.VolAnswer.{VolAnswer}
-use Rattle.btr_tree.specs.declared.climb.Root.{Root}
 use Rattle.btr_tree.specs.refusals.declared.answer.VolAnswer.TheVariants as source
 use Rattle.btr_tree_writer.specs.declared.answer.WriteAnswer.TheVariants as answer
 
@@ -71,35 +71,43 @@ pushed_of items rest all item is = append_assoc items (item ∷ []) rest ∙ is
 pub last_of : (items before all : List Item) → items ++ before ≡ all → before ≡ [] → items ≡ all
 last_of items before all is none = sym (append-nil items) ∙ (sym (ap (λ (is : List Item). items ++ is) none) ∙ is)
 
+-- the map gives the slots of what was made
+pub maps_of : (ranges : List MapRange) (m : Made) (form : Form) (slots : SlotLists) → m.form ≡ form → m.slots ≡ slots.addresses → m.offsets ≡ slots.offsets
+    → MapsSlots ranges form.nodesize slots.addresses slots.offsets → MapsSlots ranges m.form.nodesize m.slots m.offsets
+maps_of ranges m form slots form-is slots-are offsets-are maps =
+    subst (λ (f : Form). MapsSlots ranges f.nodesize m.slots m.offsets) (sym form-is)
+    (subst (λ (s : List ℕ). MapsSlots ranges form.nodesize s m.offsets) (sym slots-are)
+    (subst (λ (o : List ℕ). MapsSlots ranges form.nodesize slots.addresses o) (sym offsets-are) maps))
+
 -- each node is exactly the bytes of its draft
-pub whole_by : (image : Image) (m : Made) (form : Form) (owner : ℕ) (root : Root) → m.form ≡ form → m.owner ≡ owner → m.generation ≡ 1
-    → HasWhole image m root.address root.level → IsWholeTree image identity form owner m.chunk_tree (pointer_to_root root)
-whole_by image m form owner root form-is owner-is generation whole =
-    subst (λ (f : Form). IsWholeTree image identity f owner m.chunk_tree (pointer_to_root root)) form-is
-    (subst (λ (o : ℕ). IsWholeTree image identity m.form o m.chunk_tree (pointer_to_root root)) owner-is
-    (subst (λ (n : ℕ). IsWholeTree image identity m.form m.owner m.chunk_tree (pointer_to n root.level root.address)) generation whole))
+pub whole_by : (image : Image) (ranges : List MapRange) (m : Made) (form : Form) (generation owner : ℕ) (root : Root) → m.form ≡ form → m.owner ≡ owner → m.generation ≡ generation
+    → HasWhole image ranges m root.address root.level → IsWholeTree image ranges form owner m.chunk_tree (pointer_of_root generation root)
+whole_by image ranges m form generation owner root form-is owner-is generation-is whole =
+    subst (λ (f : Form). IsWholeTree image ranges f owner m.chunk_tree (pointer_of_root generation root)) form-is
+    (subst (λ (o : ℕ). IsWholeTree image ranges m.form o m.chunk_tree (pointer_of_root generation root)) owner-is
+    (subst (λ (n : ℕ). IsWholeTree image ranges m.form m.owner m.chunk_tree (pointer_to n root.level root.address)) generation-is whole))
 
 -- what the builder says of the tree that it finished
-pub stands_by : (image : Image) (m : Made) (form : Form) (owner : ℕ) (slots : List ℕ) (pushed items : List Item) (root : Root)
-    → m.form ≡ form → m.owner ≡ owner → m.generation ≡ 1 → m.slots ≡ slots → pushed ≡ items
-    → HasTree image m root.address root.level pushed → MeetsNodes image m root.address root.level pushed
-    → HasWhole image m root.address root.level
-    → root.nodes ≡ tree_nodes m.form.nodesize (lengths_of items) → root.nodes ≤ length m.slots → TreeStands image form owner slots items root
-stands_by image m form owner slots pushed items root form-is owner-is generation slots-are pushed-are tree meets whole count few = record {
+pub stands_by : (image : Image) (ranges : List MapRange) (m : Made) (form : Form) (generation owner : ℕ) (slots : List ℕ) (pushed items : List Item) (root : Root)
+    → m.form ≡ form → m.owner ≡ owner → m.generation ≡ generation → m.slots ≡ slots → pushed ≡ items
+    → HasTree image ranges m root.address root.level pushed → MeetsNodes image ranges m root.address root.level pushed
+    → HasWhole image ranges m root.address root.level
+    → root.nodes ≡ tree_nodes m.form.nodesize (lengths_of items) → root.nodes ≤ length m.slots → TreeStandsBy image ranges form generation owner slots items root
+stands_by image ranges m form generation owner slots pushed items root form-is owner-is generation-is slots-are pushed-are tree meets whole count few = record {
   items_are =
-      subst (λ (f : Form). tree_items image identity f (pointer_to 1 root.level root.address) owner ≡ Some items) form-is
-      (subst (λ (o : ℕ). tree_items image identity m.form (pointer_to 1 root.level root.address) o ≡ Some items) owner-is
-      (subst (λ (n : ℕ). tree_items image identity m.form (pointer_to n root.level root.address) m.owner ≡ Some items) generation
-      (subst (λ (is : List Item). tree_items image identity m.form (pointer_to m.generation root.level root.address) m.owner ≡ Some is) pushed-are tree)));
+      subst (λ (f : Form). tree_items image ranges f (pointer_to generation root.level root.address) owner ≡ Some items) form-is
+      (subst (λ (o : ℕ). tree_items image ranges m.form (pointer_to generation root.level root.address) o ≡ Some items) owner-is
+      (subst (λ (n : ℕ). tree_items image ranges m.form (pointer_to n root.level root.address) m.owner ≡ Some items) generation-is
+      (subst (λ (is : List Item). tree_items image ranges m.form (pointer_to m.generation root.level root.address) m.owner ≡ Some is) pushed-are tree)));
   nodes_are =
-      subst (λ (f : Form). IsPermutation (nodes_in (walk_events image identity f (pointer_to 1 root.level root.address) owner)) (level_pointers 1 0 0 slots (tree_levels f.nodesize (length (packed_leaves f.nodesize (lengths_of items)))))) form-is
-      (subst (λ (o : ℕ). IsPermutation (nodes_in (walk_events image identity m.form (pointer_to 1 root.level root.address) o)) (level_pointers 1 0 0 slots (tree_levels m.form.nodesize (length (packed_leaves m.form.nodesize (lengths_of items)))))) owner-is
-      (subst (λ (n : ℕ). IsPermutation (nodes_in (walk_events image identity m.form (pointer_to n root.level root.address) m.owner)) (level_pointers n 0 0 slots (tree_levels m.form.nodesize (length (packed_leaves m.form.nodesize (lengths_of items)))))) generation
-      (subst (λ (s : List ℕ). IsPermutation (nodes_in (walk_events image identity m.form (pointer_to m.generation root.level root.address) m.owner)) (level_pointers m.generation 0 0 s (tree_levels m.form.nodesize (length (packed_leaves m.form.nodesize (lengths_of items)))))) slots-are
-      (subst (λ (is : List Item). IsPermutation (nodes_in (walk_events image identity m.form (pointer_to m.generation root.level root.address) m.owner)) (level_pointers m.generation 0 0 m.slots (tree_levels m.form.nodesize (length (packed_leaves m.form.nodesize (lengths_of is)))))) pushed-are meets))));
+      subst (λ (f : Form). IsPermutation (nodes_in (walk_events image ranges f (pointer_to generation root.level root.address) owner)) (level_pointers generation 0 0 slots (tree_levels f.nodesize (length (packed_leaves f.nodesize (lengths_of items)))))) form-is
+      (subst (λ (o : ℕ). IsPermutation (nodes_in (walk_events image ranges m.form (pointer_to generation root.level root.address) o)) (level_pointers generation 0 0 slots (tree_levels m.form.nodesize (length (packed_leaves m.form.nodesize (lengths_of items)))))) owner-is
+      (subst (λ (n : ℕ). IsPermutation (nodes_in (walk_events image ranges m.form (pointer_to n root.level root.address) m.owner)) (level_pointers n 0 0 slots (tree_levels m.form.nodesize (length (packed_leaves m.form.nodesize (lengths_of items)))))) generation-is
+      (subst (λ (s : List ℕ). IsPermutation (nodes_in (walk_events image ranges m.form (pointer_to m.generation root.level root.address) m.owner)) (level_pointers m.generation 0 0 s (tree_levels m.form.nodesize (length (packed_leaves m.form.nodesize (lengths_of items)))))) slots-are
+      (subst (λ (is : List Item). IsPermutation (nodes_in (walk_events image ranges m.form (pointer_to m.generation root.level root.address) m.owner)) (level_pointers m.generation 0 0 m.slots (tree_levels m.form.nodesize (length (packed_leaves m.form.nodesize (lengths_of is)))))) pushed-are meets))));
   count = subst (λ (f : Form). root.nodes ≡ tree_nodes f.nodesize (lengths_of items)) form-is count;
   few = subst (λ (s : List ℕ). root.nodes ≤ length s) slots-are few;
-  whole = (m.chunk_tree, whole_by image m form owner root form-is owner-is generation whole);
+  whole = (m.chunk_tree, whole_by image ranges m form generation owner root form-is owner-is generation-is whole);
 }
 
 -- a part answered, after so many faults as at the start

@@ -15,8 +15,8 @@ mod writer;
 
 pub use answer::WriteAnswer;
 pub use form::NodeForm;
-pub use laws::trees_stand_by_nodes;
+pub use laws::{trees_stand_by_nodes, trees_stand_by_offsets};
 pub use list::ListItems;
 pub use source::ItemSource;
 pub use trees::Trees;
-pub use write::{WrittenTree, write_tree};
+pub use write::{WrittenTree, write_tree, write_tree_at};

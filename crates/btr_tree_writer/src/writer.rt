@@ -4,18 +4,18 @@ ghost use Rattle.btr_tree.specs.outside.History.{Image, reads, WritesOnly};
 ghost use Rattle.btr_tree.specs.btr_node.Leaf.{Item};
 ghost use Rattle.btr_tree.specs.btr_node.NodeSize.{IsNodeSize};
 ghost use Rattle.btr_tree.specs.Builder.{IsSameBuilding};
-ghost use Rattle.btr_tree.specs.Building.{AreSlots};
+ghost use Rattle.btr_tree.specs.Building.{AreSlots, MapsSlots};
 ghost use Rattle.btr_tree.specs.Counting.{Counted};
 ghost use Rattle.btr_tree.specs.Roots.{lengths_of};
 ghost use Rattle.btr_tree.specs.Writing.{IsInSlots};
 ghost use Rattle.btr_tree_writer.specs.Answers.{of_builder};
 ghost use Rattle.btr_tree.specs.Whole.{IsWholeTree};
-ghost use Rattle.btr_tree.specs.btr_reader_walk.Map.{identity};
-ghost use Rattle.btr_tree_writer.specs.Trees.{AreWritable, TreeStands, pointer_to_root, read_form};
+ghost use Rattle.btr_tree.specs.btr_reader_walk.declared.map.MapRange.{MapRange};
+ghost use Rattle.btr_tree_writer.specs.Trees.{AreWritable, TreeStandsBy, pointer_of_root, read_form};
 
 use crate::answer::WriteAnswer;
 use crate::form::NodeForm;
-use btr_tree::{Access, Counter, Disk, Key, Memory, Root, Slots, TreeBuilder};
+use btr_tree::{Access, Counter, Disk, Key, Memory, NodeSlots, Root, TreeBuilder};
 use std::alloc::Global;
 
 /// The bytes of a node's head and of an item's head together.
@@ -33,25 +33,35 @@ pub struct TreeWriter {
 impl TreeWriter {
     ghost use Rattle.std.specs.Prelude.{◌≡◌, ◌↔◌, ℕ, IfErr};
     ghost use Rattle.btr_tree.specs.btr_reader_walk.declared.tree.Form.{Form as FormOf};
+    ghost use Rattle.btr_tree.specs.Slots.{SlotLists};
     ghost use Rattle.btr_tree_writer.specs.Answers.{IsWriteAnswer};
     ghost use Rattle.btr_tree_writer.specs.Writer.{WritesTree, IsWriterReady, IsStanding, StandsOn, IsAbove, IsCountedTree};
 
-    /// A tree with this number, whose nodes go to these slots.
+    /// A tree with this number, whose nodes have this generation and go to these slots.
     pub fn new(
         alloc: Global,
         owner: u64,
         form: NodeForm,
-        slots: Slots,
+        generation: u64,
+        slots: NodeSlots,
     ) -> Result<TreeWriter, Memory>
         requires size { IsNodeSize form.nodesize }
-        requires slots { AreSlots form.nodesize slots }
-        requires few { length slots < 2 ^ 43 }
-        ensures writes { IfOk result (λ w. WritesTree w (read_form form) owner slots []) }
+        requires slots { AreSlots form.nodesize slots.offsets }
+        requires few { length slots.addresses < 2 ^ 43 }
+        ensures writes { IfOk result (λ w. WritesTree w (read_form form) generation owner slots []) }
         ensures stands { IfOk result (λ w. (image : Image) → StandsOn w image []) }
         ensures chunk_tree { IfOk result (λ w. w.builder.made.chunk_tree ≡ form.ids.chunk_tree) }
     {
         Ok(TreeWriter {
-            builder: TreeBuilder::new(alloc, owner, 1, slots, form.ids, form.nodesize, form.sums)?,
+            builder: TreeBuilder::new(
+                alloc,
+                owner,
+                generation,
+                slots,
+                form.ids,
+                form.nodesize,
+                form.sums,
+            )?,
             counter: Counter::new(form.nodesize),
             nodesize: form.nodesize,
             last: None,
@@ -63,18 +73,18 @@ impl TreeWriter {
         requires ready { IsWriterReady self.old }
         requires stands { IsTrue D.tells → IsStanding self.old (reads (D.history disk.old)) }
         requires open { D.opened disk.old ≡ Some Access.Write }
-        requires in_range { All (λ a. a + self.old.builder.made.form.nodesize ≤ 4096 * D.size disk.old) self.old.builder.made.slots }
-        ensures writes { (form : FormOf) (owner : ℕ) (slots : List ℕ) (items : List Item) → WritesTree self.old form owner slots items → OnOk result (WritesTree self.new form owner slots (items ++ (key, body.now) ∷ [])) }
+        requires in_range { All (λ a. a + self.old.builder.made.form.nodesize ≤ 4096 * D.size disk.old) self.old.builder.made.offsets }
+        ensures writes { (form : FormOf) (generation owner : ℕ) (slots : SlotLists) (items : List Item) → WritesTree self.old form generation owner slots items → OnOk result (WritesTree self.new form generation owner slots (items ++ (key, body.now) ∷ [])) }
         ensures stands { (items : List Item) → IsTrue D.tells → StandsOn self.old (reads (D.history disk.old)) items → OnOk result (StandsOn self.new (reads (D.history disk.new)) (items ++ (key, body.now) ∷ [])) }
         ensures answers { IfErr result IsWriteAnswer }
-        ensures misfit { (form : FormOf) (owner : ℕ) (slots : List ℕ) (items rest : List Item) → WritesTree self.old form owner slots items → result ≡ Err WriteAnswer.Misfit
-            → ¬ AreWritable form.nodesize slots (items ++ (key, body.now) ∷ rest) }
+        ensures misfit { (form : FormOf) (generation owner : ℕ) (slots : SlotLists) (items rest : List Item) → WritesTree self.old form generation owner slots items → result ≡ Err WriteAnswer.Misfit
+            → ¬ AreWritable form.nodesize slots.addresses (items ++ (key, body.now) ∷ rest) }
         ensures more { OnOk result (self.old.counter.bytes < self.new.counter.bytes) }
         ensures chunk_tree { OnOk result (self.new.builder.made.chunk_tree ≡ self.old.builder.made.chunk_tree) }
         ensures open { D.opened disk.new ≡ D.opened disk.old }
         ensures size { D.size disk.new ≡ D.size disk.old }
         ensures borrow { D.borrow disk.new ≡ D.borrow disk.old }
-        ensures only { IsTrue D.tells → WritesOnly (λ b _. IsInSlots self.old.builder.made.form.nodesize self.old.builder.made.slots b) (D.history disk.old) (D.history disk.new) }
+        ensures only { IsTrue D.tells → WritesOnly (λ b _. IsInSlots self.old.builder.made.form.nodesize self.old.builder.made.offsets b) (D.history disk.old) (D.history disk.new) }
         ensures cause { HasCauseOf WriteAnswer.Fault (D.faults disk.old) (D.faults disk.new) result }
     {
         if !self.fits(key, body) {
@@ -102,18 +112,18 @@ impl TreeWriter {
         requires ready { IsWriterReady self }
         requires stands { IsTrue D.tells → IsStanding self (reads (D.history disk.old)) }
         requires open { D.opened disk.old ≡ Some Access.Write }
-        requires in_range { All (λ a. a + self.builder.made.form.nodesize ≤ 4096 * D.size disk.old) self.builder.made.slots }
-        ensures tree { (form : FormOf) (owner : ℕ) (slots : List ℕ) (items : List Item) → IsTrue D.tells → WritesTree self form owner slots items → StandsOn self (reads (D.history disk.old)) items
-            → IfOk result (λ t. TreeStands (reads (D.history disk.new)) form owner slots items t.0) }
-        ensures whole { (form : FormOf) (owner : ℕ) (slots : List ℕ) (items : List Item) → IsTrue D.tells → WritesTree self form owner slots items
-            → IfOk result (λ t. IsWholeTree (reads (D.history disk.new)) identity form owner self.builder.made.chunk_tree (pointer_to_root t.0)) }
-        ensures counted { (form : FormOf) (owner : ℕ) (slots : List ℕ) (items : List Item) → WritesTree self form owner slots items → IfOk result (λ t. IsCountedTree form.nodesize slots items t.0 t.1) }
+        requires in_range { All (λ a. a + self.builder.made.form.nodesize ≤ 4096 * D.size disk.old) self.builder.made.offsets }
+        ensures tree { (form : FormOf) (generation owner : ℕ) (slots : SlotLists) (items : List Item) (ranges : List MapRange) → MapsSlots ranges form.nodesize slots.addresses slots.offsets → IsTrue D.tells → WritesTree self form generation owner slots items → StandsOn self (reads (D.history disk.old)) items
+            → IfOk result (λ t. TreeStandsBy (reads (D.history disk.new)) ranges form generation owner slots.addresses items t.0) }
+        ensures whole { (form : FormOf) (generation owner : ℕ) (slots : SlotLists) (items : List Item) (ranges : List MapRange) → MapsSlots ranges form.nodesize slots.addresses slots.offsets → IsTrue D.tells → WritesTree self form generation owner slots items
+            → IfOk result (λ t. IsWholeTree (reads (D.history disk.new)) ranges form owner self.builder.made.chunk_tree (pointer_of_root generation t.0)) }
+        ensures counted { (form : FormOf) (generation owner : ℕ) (slots : SlotLists) (items : List Item) → WritesTree self form generation owner slots items → IfOk result (λ t. IsCountedTree form.nodesize slots.addresses items t.0 t.1) }
         ensures answers { IfErr result IsWriteAnswer }
-        ensures misfit { (form : FormOf) (owner : ℕ) (slots : List ℕ) (items : List Item) → WritesTree self form owner slots items → result ≡ Err WriteAnswer.Misfit → ¬ AreWritable form.nodesize slots items }
+        ensures misfit { (form : FormOf) (generation owner : ℕ) (slots : SlotLists) (items : List Item) → WritesTree self form generation owner slots items → result ≡ Err WriteAnswer.Misfit → ¬ AreWritable form.nodesize slots.addresses items }
         ensures open { D.opened disk.new ≡ D.opened disk.old }
         ensures size { D.size disk.new ≡ D.size disk.old }
         ensures borrow { D.borrow disk.new ≡ D.borrow disk.old }
-        ensures only { IsTrue D.tells → WritesOnly (λ b _. IsInSlots self.builder.made.form.nodesize self.builder.made.slots b) (D.history disk.old) (D.history disk.new) }
+        ensures only { IsTrue D.tells → WritesOnly (λ b _. IsInSlots self.builder.made.form.nodesize self.builder.made.offsets b) (D.history disk.old) (D.history disk.new) }
         ensures cause { HasCauseOf WriteAnswer.Fault (D.faults disk.old) (D.faults disk.new) result }
     {
         let root = self.builder.finish(disk)?;

@@ -6,7 +6,7 @@ ghost use Rattle.btr_tree.specs.Builder.{Holds, IsSameBuilding, Stands};
 ghost use Rattle.btr_tree.specs.Building.{AreSlots};
 
 use btr_keys::Key;
-use btr_tree::{Counter, Root, Slots, TreeAnswer, TreeBuilder, node_bound};
+use btr_tree::{Counter, NodeSlots, Root, Slots, TreeAnswer, TreeBuilder, node_bound};
 use btrfs_format::block::SUPER_INFO_OFFSET;
 use btrfs_format::key::INODE_ITEM;
 use csum_kinds::SumKind;
@@ -80,7 +80,7 @@ fn key(objectid: u64) -> Key
 fn no_slot_for_a_leaf(rt: HostRuntime) -> Result<(), Fail> {
     let mut disk = MemDisk::new(rt.alloc(), 32)?;
     disk.open("", Access::Write)?;
-    let slots = Slots::new(rt.alloc());
+    let slots = NodeSlots::in_place(Slots::new(rt.alloc()));
     let mut tree = TreeBuilder::new(rt.alloc(), 5, 1, slots, IDS, 4096, SumKind::Crc32c)?;
     let pushed = tree.push(&mut disk, key(256), b"body");
     assert_eq!(rt; pushed, Err(TreeAnswer::OutOfSlots));
@@ -95,6 +95,7 @@ fn one_leaf(rt: HostRuntime) -> Result<(), Fail> {
     disk.open("", Access::Write)?;
     let mut slots = Slots::new(rt.alloc());
     slots.add(65536)?;
+    let slots = NodeSlots::in_place(slots);
     let mut tree = TreeBuilder::new(rt.alloc(), 5, 1, slots, IDS, 4096, SumKind::Crc32c)?;
     if tree.push(&mut disk, key(256), b"body").is_ok() {
         let root = tree.finish(&mut disk);
@@ -137,7 +138,7 @@ fn push_numbered<D: Disk>(
     requires empty { Holds tree.old [] }
     requires small { length body.now + 126 ≤ tree.old.made.form.nodesize }
     requires open { D.opened disk.old ≡ Some Access.Write }
-    requires in_range { All (λ a. a + tree.old.made.form.nodesize ≤ 4096 * D.size disk.old) tree.old.made.slots }
+    requires in_range { All (λ a. a + tree.old.made.form.nodesize ≤ 4096 * D.size disk.old) tree.old.made.offsets }
     ensures unspent { OnOk result (tree.new.spent ≡ false) }
     ensures going { tree.new.done ≡ false }
     ensures stands { IsTrue D.tells → OnOk result (Stands tree.new (reads (D.history disk.new))) }
@@ -157,7 +158,7 @@ fn push_numbered<D: Disk>(
 fn three_levels(rt: HostRuntime) -> Result<(), Fail> {
     let mut disk = MemDisk::new(rt.alloc(), 141)?;
     disk.open("", Access::Write)?;
-    let slots = slots_in_a_row(rt.alloc(), 125)?;
+    let slots = NodeSlots::in_place(slots_in_a_row(rt.alloc(), 125)?);
     let mut tree = TreeBuilder::new(rt.alloc(), 5, 1, slots, IDS, 4096, SumKind::Crc32c)?;
     push_numbered(&mut tree, &mut disk, 122, &[7; 3970])?;
     let root = tree.finish(&mut disk);

@@ -1,12 +1,15 @@
 // Trees on a disk in memory, read back by a walk.
 ghost use Rattle.std.specs.Prelude.{◌≡◌, ◌≤◌, ◌<◌, ◌+◌, ◌*◌, All, AllPairs, IfOk, Some, length};
+ghost use Rattle.btr_reader_walk.specs.Walks.{LieOn};
 ghost use Rattle.btr_tree.specs.Building.{AreSlots};
 
 use btr_item_list::ItemList;
 use btr_keys::Key;
 use btr_reader_walk::{Form, MapRange, NodePointer, NodeWalker, Owners, Tree, TreeWalker};
-use btr_tree::{Root, Slots};
-use btr_tree_writer::{ListItems, NodeForm, Trees, WriteAnswer, WrittenTree, write_tree};
+use btr_tree::{NodeSlots, Root, Slots};
+use btr_tree_writer::{
+    ListItems, NodeForm, Trees, WriteAnswer, WrittenTree, write_tree, write_tree_at,
+};
 use btrfs_format::block::SUPER_INFO_OFFSET;
 use csum_kinds::SumKind;
 use outside::{Access, BlockSource, Disk, Memory};
@@ -35,6 +38,17 @@ const ALL: [MapRange; 1] = [MapRange {
     logical: 0,
     length: 131072,
     physical: 0,
+    mirror: None,
+}];
+
+/// How far the logical addresses of the slots elsewhere lie behind their offsets.
+const FURTHER: u64 = 1048576;
+
+/// Blocks 16 to 31 of a disk, at logical addresses of a volume.
+const ELSEWHERE: [MapRange; 1] = [MapRange {
+    logical: 1114112,
+    length: 65536,
+    physical: 65536,
     mirror: None,
 }];
 
@@ -147,19 +161,20 @@ fn one_leaf(rt: HostRuntime) -> Result<(), Fail> {
     Ok(())
 }
 
-/// The address of the next node of a walk, and the key that its parent has for it; it is opened.
+/// The address of the next node of a walk, and the key that its parent has for it; it is opened, by a map of addresses.
 fn next_node<S: BlockSource>(
     walker: &mut NodeWalker,
     src: &mut S,
+    ranges: &[MapRange],
 ) -> Result<Option<(u64, Option<Key>)>, BtrAnswer>
-    requires size { 32 ≤ S.size src.old }
+    requires inside { LieOn (S.size src.old) ranges.now }
     ensures size { S.size src.new ≡ S.size src.old }
 {
     let entry = match walker.take() {
         Some(entry) => entry,
         None => return Ok(None),
     };
-    walker.open(src, &ALL, &entry)?;
+    walker.open(src, ranges, &entry)?;
     Ok(Some((entry.pointer.address, entry.key)))
 }
 
@@ -188,11 +203,11 @@ fn nodes_one_by_one(rt: HostRuntime) -> Result<(), Fail> {
     }
     let tree = tree_of(&root);
     let mut walker = NodeWalker::new(alloc, tree, Owners::Own)?;
-    let top = next_node(&mut walker, &mut disk)?;
+    let top = next_node(&mut walker, &mut disk, &ALL)?;
     assert_eq!(rt; top, Some((73728, None)));
-    let first = next_node(&mut walker, &mut disk)?;
+    let first = next_node(&mut walker, &mut disk, &ALL)?;
     assert_eq!(rt; first, Some((65536, Some(key(256)))));
-    let second = next_node(&mut walker, &mut disk)?;
+    let second = next_node(&mut walker, &mut disk, &ALL)?;
     assert_eq!(rt; second, Some((69632, Some(key(257)))));
     assert!(rt; walker.take().is_none());
     let mut skipping = NodeWalker::new(alloc, tree, Owners::Own)?;
@@ -216,7 +231,7 @@ fn nodes_of_others(rt: HostRuntime) -> Result<(), Fail> {
         ..tree_of(&root)
     };
     let mut stray = NodeWalker::new(alloc, other, Owners::Own)?;
-    let refused = next_node(&mut stray, &mut disk).err();
+    let refused = next_node(&mut stray, &mut disk, &ALL).err();
     assert_eq!(rt;
         refused,
         Some(BtrAnswer::Refused(BtrRefusal::BadBtrfs {
@@ -226,8 +241,87 @@ fn nodes_of_others(rt: HostRuntime) -> Result<(), Fail> {
     );
     assert!(rt; stray.take().is_none());
     let mut shared = NodeWalker::new(alloc, other, Owners::Files)?;
-    let top = next_node(&mut shared, &mut disk)?;
+    let top = next_node(&mut shared, &mut disk, &ALL)?;
     assert_eq!(rt; top, Some((73728, None)));
+    Ok(())
+}
+
+/// Addresses of so many slots, each that far behind the offset of the slot.
+fn addresses_elsewhere(alloc: Global, count: u64) -> Result<Slots, Memory>
+    requires few { count ≤ 16 }
+    ensures count { IfOk result (λ slots. length slots ≡ count) }
+{
+    let mut slots = Slots::new(alloc);
+    for k in 0..count {
+        slots.add(FURTHER + 65536 + 4096 * k)?;
+    }
+    Ok(slots)
+}
+
+/// Writes the items of a list to so many slots whose addresses are not their offsets, by transaction 7.
+fn written_elsewhere<D: Disk>(
+    alloc: Global,
+    disk: &mut D,
+    count: u64,
+    list: &ItemList,
+) -> Result<WrittenTree, WriteAnswer>
+    requires few { count ≤ 16 }
+    requires open { D.opened disk.old ≡ Some Access.Write }
+    requires size { 32 ≤ D.size disk.old }
+    ensures size { D.size disk.new ≡ D.size disk.old }
+{
+    let offsets = slots_in_a_row(alloc, count)?;
+    let addresses = addresses_elsewhere(alloc, count)?;
+    let slots = NodeSlots::mapped(addresses, offsets);
+    write_tree_at(
+        alloc,
+        disk,
+        OWNER,
+        FORM,
+        7,
+        slots,
+        &mut ListItems::new(list),
+    )
+}
+
+// The tree is read back by the map that gives the slots at their offsets, and not as one of transaction 1.
+#[test]
+fn nodes_elsewhere(rt: HostRuntime) -> Result<(), Fail> {
+    let alloc = rt.alloc();
+    let mut list = ItemList::new(alloc);
+    list.add(key(256), &[7; 3970])?;
+    list.add(key(257), &[8; 3970])?;
+    let mut disk = MemDisk::new(alloc, 32)?;
+    disk.open("", Access::Write)?;
+    let root = written_elsewhere(alloc, &mut disk, 3, &list)?.root;
+    if root.level > 7 {
+        return Ok(());
+    }
+    let early = tree_of(&root);
+    let tree = Tree {
+        root: NodePointer {
+            generation: 7,
+            ..early.root
+        },
+        ..early
+    };
+    let mut walker = NodeWalker::new(alloc, tree, Owners::Own)?;
+    let top = next_node(&mut walker, &mut disk, &ELSEWHERE)?;
+    assert_eq!(rt; top, Some((FURTHER + 73728, None)));
+    let first = next_node(&mut walker, &mut disk, &ELSEWHERE)?;
+    assert_eq!(rt; first, Some((FURTHER + 65536, Some(key(256)))));
+    let second = next_node(&mut walker, &mut disk, &ELSEWHERE)?;
+    assert_eq!(rt; second, Some((FURTHER + 69632, Some(key(257)))));
+    assert!(rt; walker.take().is_none());
+    let mut refusing = NodeWalker::new(alloc, early, Owners::Own)?;
+    let refused = next_node(&mut refusing, &mut disk, &ELSEWHERE).err();
+    assert_eq!(rt;
+        refused,
+        Some(BtrAnswer::Refused(BtrRefusal::BadBtrfs {
+            address: FURTHER + 73728,
+            rule: BtrRule::NodeHead
+        }))
+    );
     Ok(())
 }
 

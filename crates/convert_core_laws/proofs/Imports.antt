@@ -19,24 +19,26 @@ pub use Rattle.std.specs.List.{AllByRecursion, flat_map, list_any, range_with_le
 pub use Rattle.std.specs.List.Sorted.{IsPermutation}
 pub use Rattle.std.specs.Option.{option_and_then, option_map, option_map_or}
 pub use Rattle.std.specs.Ordering.{is_lt, nat_cmp, ordering_reverse, ordering_then}
-pub use Rattle.std.specs.Prelude.{All, AllPairs, Contains, IsTrue, MatchOption, bit_and, codes, if◌then◌else◌, is_some, nat_eq, pos, unwrap_or, ◌↔◌}
+pub use Rattle.std.specs.Prelude.{All, AllPairs, Contains, MatchOption, bit_and, codes, if◌then◌else◌, is_some, nat_eq, pos, unwrap_or}
 pub use Rattle.std.specs.declared.cmp.Ordering.{Ordering}
 pub use Rattle.std.specs.declared.cmp.Ordering.TheVariants.{Equal, Greater, Less}
-pub use Rattle.btr_check_rules.specs.Files.{AreExtents, HaveExtents, KeepsExtent, covered, extents_in}
-pub use Rattle.btr_check_rules.specs.Groups.{AreBlockGroups, AreRanges, AreStripes, AreTotals, IsChunkOn, IsExtentOf, IsGroupOf, TellsDevice, bytes_used_in, chunk_span, data_bytes_in, dev_extents, group_used, groups, node_bytes_in}
-pub use Rattle.btr_check_rules.specs.Inodes.{AreInodes, HasInode, HasKind, HaveInodes, IsDirEntry, IsOwned, KeepsInode, SameName, entry_type, is_orphan}
-pub use Rattle.btr_check_rules.specs.Names.{AreOnForm, AreTreeNames, BackName, HaveNames, IndexEntry, IsInode, IsThere, IsTreeEntry, NamedEntry, back_name, directory_size, entry_of, has_no_sums, hashed_entries, index_entries, inode_nbytes, is_of_inode, names_inode_item, nbytes_of, or_none, own_name, ref_name_count, ref_names}
-pub use Rattle.btr_check_rules.specs.Places.{ArePlacesApart, AreUnreserved, EndsBefore, IsExtent, LiesIn, a_node, node_kind, some_data}
-pub use Rattle.btr_check_rules.specs.Recount.{DataUse, IsData, IsRooted, IsTreeOn, Recount, Span, TreeOn, added_chunk, all_trees, chunks_on, data_uses, has_feature, holds_files, is_within, of_kind, recounted_items, root_items_on, use_by, use_in, uses_in}
-pub use Rattle.btr_check_rules.specs.References.{AreReferences, CountsUses, FitFeatures, HasKey, HasRefs, IsDataItem, IsNodeItem, IsWhole, StandsBefore, is_group, is_of_range, is_use, same_ref}
-pub use Rattle.btr_check_rules.specs.Sums.{AreSums, AreSumsRight, HasBlockSum, IsSumItem, WantsSum, sum_count}
-pub use Rattle.btr_check_rules.specs.Trees.{AreTrees, IsRootItem, KeepTreeRules, needed_trees}
+pub use Rattle.btr_check_rules.proofs.At.{each_at, pairs_at}
+pub use Rattle.btr_check_rules.specs.Files.{EndsInFile, KeepsExtent, KeepsExtents, covered}
+pub use Rattle.btr_check_rules.specs.Groups.{AreRanges, AreTotals, IsChunkOn, IsChunkTreeItem, IsExtentOf, IsGroupOf, IsOfChunk, IsStripe, KeepsBlockGroups, KeepsChunks, KeepsTotals, TellsDevice, bytes_used_in, chunk_span, data_bytes_in, dev_extents, dev_items, group_used, groups, node_bytes_in, stripe_bytes, stripe_spans, stripes_of}
+pub use Rattle.btr_check_rules.specs.Inodes.{ComesToEnd, HasInode, HasKind, KeepsFields, below, directory_size, entry_type, extents_in, has_no_sums, inode_nbytes, is_of_inode, is_orphan, nbytes_of, other_flags, ref_name_count, unnamed}
+pub use Rattle.btr_check_rules.specs.Names.{BackName, DifferInName, IndexEntry, IsEntry, IsInodeNumber, IsOnForm, IsThere, IsToldBy, KeepsRootRefs, NamedEntry, back_name, dir_of, dir_told, entry_of, given_names, hashed_entries, index_entries, names_inode_item, or_none, own_name, ref_names, tells_tree, told_by_tree}
+pub use Rattle.btr_check_rules.specs.Places.{EndsBefore, IsExtent, IsUncrossed, KeepsPlacement, KeepsReserved, LiesIn, a_node, kind_alone, node_kind, some_data}
+pub use Rattle.btr_check_rules.specs.Recount.{DataUse, EachAt, HasItem, IsData, Recount, RootOn, Span, TreeOn, added_chunk, all_roots, all_trees, chunks_on, data_uses, has_feature, has_tree, holds_files, is_subvolume, is_within, map_of, object_of, of_kind, recount, recount_by, recount_of, recounted_items, root_by, roots_in, span_of, tree_on, use_by, use_in, uses_in}
+pub use Rattle.btr_check_rules.specs.References.{CountsUses, FitFeatures, HasRefs, IsDataItem, IsNodeItem, IsWhole, KeepsReferences, StandsBefore, is_group, is_of_range, is_use, same_ref}
+pub use Rattle.btr_check_rules.specs.Sound.{BlockGroups, Chunks, Keeps, Placement, References, Reserved, SoundPart, Totals, Trees}
+pub use Rattle.btr_check_rules.specs.Sums.{HasBlockSum, IsReadBy, IsSumItem, IsSumRight, KeepsCover, KeepsSums, most_sums, read_span, sum_count, sum_end, sums_of}
+pub use Rattle.btr_check_rules.specs.Trees.{IsArray, IsRootItem, KeepsSuper, KeepsTrees, chunk_by, is_root_ref, is_system, needed_trees, referring, refused_at, system_chunks}
 pub use Rattle.btr_reader.proofs.ArrayBack.{arrays_read_back, chunk_made}
 pub use Rattle.btr_reader.proofs.btr_keys.Records.{dir_items_read_back, extrefs_read_back, file_extents_read_back, inode_refs_read_back, inodes_read_back}
 pub use Rattle.btr_reader.proofs.btr_space_items.Records.{block_groups_read_back, dev_extents_read_back, devices_read_back, extent_heads_read_back, root_items_read_back, root_refs_read_back}
 pub use Rattle.btr_reader.proofs.btr_super.SumNumbers.{known-number, number-small}
-pub use Rattle.btr_reader.specs.Apart.{AreExtentsApart, AreNodesApart, IsApart, IsContentApart, IsSpareFree, IsVolumeApart, boot_map, is_spare, is_spare_in, root_of, saved_tree}
-pub use Rattle.btr_reader.specs.Chunks.{beside_refusals, chunk_in, chunk_item_refusals, chunk_refusals, chunks_refusals, data_kind, is_read_kind, items_refusals, lies_on, new_chunk, overlap, range_of, same_body, same_chunk, same_mirror, same_stripe, stripes_of, system_kind, with_chunk, with_items}
+pub use Rattle.btr_reader.specs.Apart.{AreExtentsApart, AreNodesApart, IsSpareFree, IsVolumeApart, boot_map, is_spare, is_spare_in}
+pub use Rattle.btr_reader.specs.Chunks.{beside_refusals, chunk_in, chunk_item_refusals, chunk_refusals, chunks_refusals, data_kind, is_chunk_key, is_read_kind, items_refusals, lies_on, new_chunk, overlap, placed_chunk, range_of, same_body, same_chunk, same_mirror, same_stripe, with_chunk, with_items}
 pub use Rattle.btr_reader.specs.Image.{ImageFile, after_pointer, after_root, block_by_extent, content_block, entry_named, entry_refusals, file_if_image, file_refusals, if_there, image_at, image_below, image_entry, image_from, image_in, image_place, image_refusals_in, index_refusals, index_refusals_at, inode_number, is_called, is_image, is_inline, is_root_directory, items_at, location_refusals, name_refusals, own_index_refusals, own_refusals, pointer_in, refusals_below, root_refusals, saved_image, saved_location, twice_refusals}
 pub use Rattle.btr_reader.specs.Laws.{BtrfsRowsAreOne, FitsArray, array_entry}
 pub use Rattle.btr_reader.specs.Opening.{IsBtrfsOpened, boot_chunks, boot_list, boot_refusals, chunk_map, chunk_tree, form_of, map_from, or_later, refusals_after, root_tree, super_on, tree_of, trees_refusals}
@@ -60,7 +62,7 @@ unfoldable pub use Rattle.btr_reader.specs.btr_keys.Stamp.{stamp_layout}
 pub use Rattle.btr_reader.specs.btr_keys.declared.file_extent.DiskRange.{DiskRange}
 pub use Rattle.btr_reader.specs.btr_keys.declared.inode.Inode.{Inode}
 pub use Rattle.btr_reader.specs.btr_keys.declared.key.Key.{Key}
-pub use Rattle.btr_reader.specs.btr_node.Leaf.{Item, keys_of}
+pub use Rattle.btr_reader.specs.btr_node.Leaf.{Item, heads_in, keys_of}
 pub use Rattle.btr_reader.specs.btr_node.NodeSize.{IsNodeSize}
 pub use Rattle.btr_reader.specs.btr_node.Order.{ascends, is_before}
 pub use Rattle.btr_reader.specs.btr_reader_contents.Extents.{at_unmapped, byte_from, byte_of_place, bytes_of_inode, content_byte, covered_after, covered_by, covers, end_after, extent_length, extent_refusals, extents_of, extents_refusals, has_form, is_aligned, is_extent_key, is_extent_of, is_hole, place_refusals, refusals_at, refused_unless, unmapped_in}
@@ -73,25 +75,29 @@ pub use Rattle.btr_reader.specs.btr_reader_walk.Events.{TreeEvent, TreeItem, may
 unfoldable pub use Rattle.btr_reader.specs.btr_reader_walk.Events.{node_events}
 pub use Rattle.btr_reader.specs.btr_reader_walk.Map.{holds, identity, place, second_place}
 pub use Rattle.btr_reader.specs.btr_reader_walk.Tree.{IsTree, bare_item, leaf_items, tree_refusals, when_sound}
-pub use Rattle.btr_reader.specs.btr_reader_walk.Walks.{found, met, wrong}
+pub use Rattle.btr_reader.specs.btr_reader_walk.Walks.{found, wrong}
 pub use Rattle.btr_reader.specs.btr_reader_walk.declared.map.MapRange.{MapRange}
 pub use Rattle.btr_reader.specs.btr_reader_walk.declared.tree.Form.{Form}
 pub use Rattle.btr_reader.specs.btr_reader_walk.declared.tree.NodePointer.{NodePointer}
 pub use Rattle.btr_reader.specs.btr_reader_walk.declared.tree.Tree.{Tree}
 pub use Rattle.btr_reader.specs.btr_space_items.Device.{device_bytes, device_of}
 unfoldable pub use Rattle.btr_reader.specs.btr_space_items.Device.{device_layout}
-pub use Rattle.btr_reader.specs.btr_space_items.InlineRef.{FitsInline, inline_ref_bytes, inline_refs_of}
+pub use Rattle.btr_reader.specs.btr_space_items.InlineRef.{FitsInline, inline_ref_bytes, inline_refs_of, ref_uses}
 unfoldable pub use Rattle.btr_reader.specs.btr_space_items.InlineRef.{data_ref_layout, tree_block_layout}
+pub use Rattle.btr_reader.specs.btr_space_items.RootRef.{RootRefValue, root_ref_of}
+unfoldable pub use Rattle.btr_reader.specs.btr_space_items.RootRef.{root_ref_head}
 pub use Rattle.btr_reader.specs.btr_space_items.declared.block_group.BlockGroup.{BlockGroup}
 pub use Rattle.btr_reader.specs.btr_space_items.declared.device.Device.{Device}
 pub use Rattle.btr_reader.specs.btr_space_items.declared.inline_ref.InlineRef.{InlineRef}
 pub use Rattle.btr_reader.specs.btr_space_items.declared.inline_ref.InlineRef.TheVariants.{DataRef, TreeBlock}
+pub use Rattle.btr_reader.specs.btr_space_items.declared.stripe.Stripe.{Stripe}
 pub use Rattle.btr_reader.specs.btr_super.Rules.{bad_field, failing, field_rules, has_fields, is_node_size, is_super, super_refusals, unless_refused, unread_bits}
 unfoldable pub use Rattle.btr_reader.specs.btr_super.Rules.{super_of}
 pub use Rattle.btr_reader.specs.btr_super.Sums.{csum_number, csum_type_of, has_sum, known_kind}
 pub use Rattle.btr_reader.specs.btr_super.Super.{node_fsid, super_bytes, super_in}
 unfoldable pub use Rattle.btr_reader.specs.btr_super.Super.{super_layout}
 pub use Rattle.btr_reader.specs.btr_super.declared.superblock.Super.{Super}
+pub use Rattle.btr_reader.specs.csum_kinds.Kind.{kind_sum, kind_width}
 pub use Rattle.btr_reader.specs.csum_kinds.declared.kind.SumKind.{SumKind}
 pub use Rattle.btr_reader.specs.csum_kinds.declared.kind.SumKind.TheVariants.{Crc32c, Sha256}
 pub use Rattle.btr_reader.specs.declared.chunk.ChunkAt.{ChunkAt}
@@ -106,6 +112,7 @@ pub use Rattle.convert_core.proofs.Slots.{slot_unit}
 pub use Rattle.convert_core.proofs.Wholeness.{are_pieces, blocks_few, blocks_inside, blocks_some}
 pub use Rattle.convert_core.proofs.btr_item_list.Sorting.{ascending_all, ascending_filter, ascending_sorted}
 pub use Rattle.convert_core.proofs.btr_tree.Maps.{agree}
+pub use Rattle.convert_core.proofs.convert_steps.Booting.{length_record}
 pub use Rattle.convert_core.proofs.convert_steps.Row.{StandsAt, all-with_all, behind_least, each_stands, every_tree, in-with_all, number_test, numbers_ascend, pairs_of, sum-with_all}
 pub use Rattle.convert_core.proofs.extent_pieces.Covering.{IsCopied, holds_copied, is_copied_piece, pieces_cover_used, used_inside}
 pub use Rattle.convert_core.proofs.extent_pieces.Lists.{all_at, all_map, any_from, pairs_append, pairs_head, pairs_map, pairs_tail}
@@ -132,6 +139,7 @@ pub use Rattle.convert_core.specs.btr_tree.Counting.{tree_nodes}
 pub use Rattle.convert_core.specs.btr_tree.Laws.{GivesItself, IsSameBy}
 pub use Rattle.convert_core.specs.btr_tree.Packing.{capacity, fan_out, level_sizes, packed_from, packed_leaves, tree_levels, weight}
 pub use Rattle.convert_core.specs.btr_tree.Roots.{lengths_of, level_pointers, pointers_to}
+pub use Rattle.convert_core.specs.btr_tree.Whole.{ArePacked, HasLinuxForm}
 pub use Rattle.convert_core.specs.btr_tree.Writing.{IsInNode, IsInSlots}
 pub use Rattle.convert_core.specs.btr_tree.declared.climb.Root.{Root}
 pub use Rattle.convert_core.specs.btr_tree_writer.Trees.{TreeStands, pointer_to_root}
@@ -156,11 +164,11 @@ unfoldable pub use Rattle.convert_core.specs.file_items.Small.{image_head, image
 pub use Rattle.convert_core.specs.file_items.Tree.{Source, content_items, inline_in, ino_of, kind_in, link_count, nbytes_by, size_by, size_in, stat_in}
 unfoldable pub use Rattle.convert_core.specs.file_items.Tree.{file_extent_items, fs_tree_items, inode_in, name_items, object_items}
 pub use Rattle.convert_core.specs.space_items.Chunks.{chunk_body, chunk_item, chunk_items, chunk_kind, dev_extent_body, dev_extent_item, device_body, device_items}
-pub use Rattle.convert_core.specs.space_items.Extents.{bytes_of_nodes, bytes_of_pieces, data_ref, extent_body, extent_items, group_item, hash_of_ref, image_refs, is_in_chunk, node_item, owner_refs, piece_item, put_refs, used_in}
+pub use Rattle.convert_core.specs.space_items.Extents.{bytes_of_nodes, bytes_of_pieces, data_ref, extent_body, extent_items, group_item, image_refs, is_in_chunk, node_item, owner_refs, piece_item, place_of_ref, put_refs, used_in}
 pub use Rattle.convert_core.specs.space_items.Laws.{AreIds}
 pub use Rattle.convert_core.specs.space_items.Merging.{item_cmp, merged}
 pub use Rattle.convert_core.specs.space_items.Nodes.{AreNodes, merged_nodes, nodes_of_tree}
-pub use Rattle.convert_core.specs.space_items.Roots.{default_item, is_file_tree, other_root_items, root_body, root_dirid, root_items, saved_ref, tree_root_item, tree_uuid}
+pub use Rattle.convert_core.specs.space_items.Roots.{default_item, default_name, is_file_tree, other_root_items, root_body, root_dirid, root_items, saved_ref, tree_root_item, tree_uuid}
 pub use Rattle.convert_core.specs.space_items.Sums.{block_sum, run_items, sum_items, sums_item}
 pub use Rattle.convert_core.specs.space_items.declared.node.TreeNode.{TreeNode}
 pub use Rattle.convert_core.specs.space_items.declared.node.TreeRoot.{TreeRoot}
@@ -171,6 +179,7 @@ pub use Rattle.convert_core.specs.unit_plan.Laws.{IsSoundPlan}
 pub use Rattle.convert_core.specs.unit_plan.Needed.{need, nodes_in_unit}
 pub use Rattle.convert_core.specs.unit_plan.Places.{places_in}
 unfoldable pub use Rattle.convert_core.specs.unit_plan.Places.{node_places}
+pub use Rattle.convert_core.specs.unit_plan.Sums.{sums_in_item}
 pub use Rattle.convert_core.specs.unit_plan.Trees.{new_trees, tree_number}
 pub use Rattle.convert_core.specs.unit_plan.declared.chunk.PlannedChunk.{PlannedChunk}
 pub use Rattle.convert_core.specs.unit_plan.declared.chunk.Role.{Role}
@@ -190,8 +199,9 @@ pub use Rattle.convert_core_laws.specs.reading.Identifiers.{HasFsid, NewIdsFit}
 pub use Rattle.convert_core_laws.specs.reading.Laws.{ChunksMap, ConvertedIsReadable, IsReadableWithTrees, MapsChunks, OpensWithTrees, ReadsSuperblock, SuperblockReads, TreesRead}
 pub use Rattle.convert_core_laws.specs.reading.Opened.{AreRangesFor, GivesItsOwn, IsNewVolume, ReadsTree, ReadsTrees, boot_part, chunk_at, map_for, other_part, range_for, super_for}
 pub use Rattle.convert_core_laws.specs.reading.Saved.{HasSavedImage, IsImageOf, KeepsFileNames, ReadsSavedImage, SavedImageIsReadable, SavedImageReads}
-pub use Rattle.convert_core_laws.specs.soundness.Laws.{ConvertedBlockGroupsAreSound, ConvertedChecksumsAreSound, ConvertedChunksAreSound, ConvertedFileExtentsAreSound, ConvertedInodesAreSound, ConvertedNamesAreSound, ConvertedPlacementIsSound, ConvertedReferencesAreSound, ConvertedReservedAreSound, ConvertedTotalsAreSound, ConvertedTreesAreSound}
+pub use Rattle.convert_core_laws.specs.soundness.Laws.{ConvertedBlockGroupsAreSound, ConvertedChecksumsAreSound, ConvertedChunksAreSound, ConvertedFileExtentsAreSound, ConvertedInodesAreSound, ConvertedNamesAreSound, ConvertedPlacementIsSound, ConvertedReferencesAreSound, ConvertedReservedAreSound, ConvertedTotalsAreSound, ConvertedTreesAreSound, ConvertedVolumesAreRecounted}
 pub use Rattle.convert_core_laws.specs.soundness.Recounted.{named_on, recount_for, tree_for, trees_for}
+pub use Rattle.convert_core_laws.specs.soundness.Wholes.{AreExtents, AreInodes, AreTreeNames, IsDirEntry, IsInode, IsOwned, IsTreeEntry, KeepsInode, SameName}
 pub use Rattle.convert_trees_laws.proofs.Booting.{blocks_are, boot_fits, chunks_of, used_few}
 pub use Rattle.convert_trees_laws.proofs.Keys.{file_keys_ascend, inodes_climb, root_first}
 pub use Rattle.convert_trees_laws.proofs.Known.{directories_apart, directory_there, is_directory_there, kind_is, links_short, names_apart, root_known, tree_kind_is}
@@ -255,4 +265,4 @@ pub use Rattle.reiser_volume.specs.vol_block.declared.ids.Ids.{Ids}
 pub use Rattle.vol_block.specs.declared.mode.TheConstants.{DIRECTORY_MODE, IMAGE_MODE}
 pub use Rattle.volume_state.specs.Saved.{block_or_hole, file_blocks, place_by_file, saved_file, saved_place}
 unfoldable pub use Rattle.volume_state.specs.Saved.{image_blocks}
-pub use Rattle.volume_state.specs.Using.{HasPlace, HoldsExtent, HoldsNodeOf, HoldsPartOf, IsInUse, IsReservedFree, LieIn, chunk_node, content_range, file_part, file_pointer, file_trees, item_range, named_by, root_node, tree_if}
+pub use Rattle.volume_state.specs.Using.{HasPlace, HoldsExtent, HoldsNodeOf, HoldsPartOf, IsInUse, IsReservedFree, chunk_node, content_range, file_part, file_pointer, file_trees, named_by, root_node, tree_if}

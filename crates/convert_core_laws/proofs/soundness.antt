@@ -16,6 +16,7 @@ pub mod Flags
 mod HavingNames
 pub mod InMerged
 mod Inodes
+mod KeptFiles
 mod Keyed
 mod Listed
 pub mod Lists
@@ -25,10 +26,13 @@ pub mod Nodes
 pub mod Numbers
 mod Objects
 pub mod Recounting
+mod Parts
 mod References
+mod RootTree
 pub mod Row
 mod Runs
 mod Saved
+mod SavedRefs
 mod Small
 pub mod Stripes
 mod SumItems

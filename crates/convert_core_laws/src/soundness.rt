@@ -11,13 +11,21 @@ ghost use Rattle.convert_core_laws.specs.soundness.Laws.{
   ConvertedReservedAreSound,
   ConvertedTotalsAreSound,
   ConvertedTreesAreSound,
+  ConvertedVolumesAreRecounted,
   ConvertedVolumesAreSound,
 };
 
 use crate::new_ids_fit;
 use convert_trees_laws::{files_are_held, image_keys_ascend, inodes_are_there};
 
-/// Each tree of a converted volume is there with its items, and the bootstrap array holds the system chunks.
+/// A converted volume can be opened, and its recount has the trees and the chunks that were written.
+pub fn converted_volumes_are_recounted()
+    ensures { ConvertedVolumesAreRecounted }
+{
+    new_ids_fit();
+}
+
+/// The root items, the nodes, the superblock and the bootstrap array of a converted volume keep the rules of Linux.
 pub fn converted_trees_are_sound()
     ensures { ConvertedTreesAreSound }
 {
@@ -115,6 +123,7 @@ pub fn converted_file_extents_are_sound()
 pub fn converted_volumes_are_sound()
     ensures { ConvertedVolumesAreSound }
 {
+    converted_volumes_are_recounted();
     converted_trees_are_sound();
     converted_names_are_sound();
     converted_inodes_are_sound();

@@ -5,8 +5,9 @@ use crate::sentences::{
     Sentence, of_btrfs_rule, of_command, of_fault, of_feature, of_line, of_refusal, of_rule,
     of_safety, of_start,
 };
-use crate::space::{Space, Wanted};
+use crate::space::Space;
 use crate::start::Missing;
+use crate::wanted::Wanted;
 use crate::wrong_words::find;
 use host_edge::{Cause, DiskCall, Trouble, Use};
 use std::alloc::{AllocError, Global};
@@ -30,10 +31,6 @@ pub struct Outcome<'a> {
     pub words: &'a [String],
     /// The path of the run, as a shell reads it.
     pub path: &'a str,
-    /// The size of a node that was asked for.
-    pub size: &'a str,
-    /// Whether checksums by SHA-256 were asked for.
-    pub is_hashed: bool,
 }
 
 impl Outcome<'_> {
@@ -161,13 +158,7 @@ fn tell_refusal(
         text.end()?;
         tell_safety(text, written(outcome, "free"))?;
         match space_of(&refusal, outcome.is_trial()) {
-            Some(space) => {
-                let wanted = Wanted {
-                    size: outcome.size,
-                    is_hashed: outcome.is_hashed,
-                };
-                space.tell_what_helps(alloc, text, wanted, None)?
-            }
+            Some(space) => { space.tell_what_helps(alloc, text, Wanted::new(outcome.words), None)? }
             None => tell_next(text, next, refusal.numbers)?,
         }
     }
@@ -281,6 +272,9 @@ const ABSENT: &str = "absent";
 /// The same of a trial.
 const UNTRIED: &str = "untried";
 
+/// The same of what a trial finds that is neither a plain file nor a block device.
+const UNFIT: &str = "unfit";
+
 /// The cause's name in the table of sentences.
 fn cause(trouble: &Trouble, outcome: &Outcome<'_>) -> &'static str {
     match trouble.cause {
@@ -293,6 +287,7 @@ fn cause(trouble: &Trouble, outcome: &Outcome<'_>) -> &'static str {
         Cause::InUse(Use::Unknown) => "unknown",
         Cause::ReadOnly => "readonly",
         Cause::Holds(_) => "holds",
+        Cause::Kind if outcome.is_trial() => UNFIT,
         Cause::Kind => "kind",
         Cause::System(_) | Cause::Closed => "device",
     }

@@ -7,6 +7,7 @@ ghost use Rattle.host_edge.specs.FileDisk.{opened_for};
 
 mod advice;
 mod asked;
+mod device;
 mod finding;
 mod first_write;
 mod foreign;
@@ -16,22 +17,24 @@ mod notices;
 mod options;
 mod paragraph;
 mod question;
+mod recount;
 mod root;
 mod sentences;
 mod shell;
-mod sizes;
 mod space;
 mod start;
 mod talk;
+mod wanted;
 mod wrong_words;
 
 use asked::Asked;
+use device::is_device;
 use first_write::FirstWrite;
 use guarded::GuardedDisk;
 use host_edge::{FileDisk, LineSink, Sink, StatusLine, StdSink, hold_streams};
 use question::Question;
+use recount::Recount;
 use root::is_root;
-use sizes::best_size;
 use start::{Missing, Start};
 use std::alloc::Global;
 use std::env::Env;
@@ -40,7 +43,7 @@ use std::io::{Stderr, Stdin, Write};
 use std::process::ExitCode;
 use std::random::RandomSource;
 use std::time::Clock;
-use talk::{Ended, Talk, tell_start};
+use talk::{Ended, How, Talk, tell_start};
 use volume_app::run;
 
 /// The status where the arguments, the clock or the random source failed.
@@ -120,13 +123,18 @@ fn serve<
         &mut line,
     );
     shown.wipe();
-    let (trouble, wrote, root) = (disk.disk.trouble(), disk.disk.written() > 0, is_root(&rt));
+    let how = How {
+        trouble: disk.disk.trouble(),
+        wrote: disk.disk.written() > 0,
+        is_root: is_root(&rt),
+        is_device: asked.is_trial() && is_device(&rt, asked.path),
+    };
     if disk.is_stopped() {
-        let ended = Ended::new(NOT_CONFIRMED, NOT_CONFIRMED_LINE, trouble, wrote, root);
+        let ended = Ended::new(NOT_CONFIRMED, NOT_CONFIRMED_LINE, how);
         tell_end(rt, start, talk.as_ref(), &ended, shown, out, err);
         return NOT_CONFIRMED;
     }
-    let ended = Ended::new(status, line.line(), trouble, wrote, root);
+    let ended = Ended::new(status, line.line(), how);
     tell_end(rt, start, talk.as_ref(), &ended, shown, out, err);
     status
 }
@@ -154,13 +162,14 @@ fn tell_end<
         let _ = err.write(ended.line);
         return;
     };
-    let best = match talk.lacks_space(ended.status, out) {
-        Some(size) => best_size(rt, start, size, shown),
-        None => None,
+    let again = if talk.lacks_space(ended.status, out) {
+        Recount::new(rt, start, shown).ok()
+    } else {
+        None
     };
     shown.wipe();
     let _ = err.write(ended.line);
-    talk.end(ended, best.as_ref(), out, err);
+    talk.end(ended, again.as_ref(), out, err);
 }
 
 /// The disk of a run. That of a trial is to be overwritten.

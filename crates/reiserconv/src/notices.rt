@@ -1,8 +1,9 @@
 // What a person is told right before a command writes, and when a command is done.
 use crate::asked::{Asked, Verb};
 use crate::paragraph::Paragraph;
-use crate::sizes::Counted;
-use crate::space::{Space, Wanted};
+use crate::recount::Recount;
+use crate::space::Space;
+use crate::wanted::Wanted;
 use std::alloc::{AllocError, Global};
 use std::str;
 
@@ -32,7 +33,7 @@ pub fn before(alloc: Global, asked: &Asked<'_>, path: &str) -> Result<String, Al
 /// What comes behind a conversion, each a paragraph.
 const CONVERTED: [&str; 7] = [
     "{path} is a Btrfs volume now. The old one is the file 'reiserfs_saved/image' in it.",
-    "What comes next: 'btrfs check --readonly {path}' has to find nothing. The first time, mount it with 'mount -t btrfs -o space_cache=v2 {path} /mnt'.",
+    "What comes next: 'btrfs check --readonly {path}' has to say 'no error found'. The first time, mount it with 'mount -t btrfs -o space_cache=v2 {path} /mnt'.",
     "If /etc/fstab names the volume, change its line: the type is 'btrfs', options that only ReiserFS has go, and the last two fields are '0 0'. If the line names the UUID, 'blkid {path}' shows the one that it has now.",
     "To go back, unmount it and run 'reiserconv rollback {path}': then it is as it was, without what was written since. Keep the image for as long as you may want that.",
     "What closes the way back for good: to delete the image or its folder, a balance of data, data that is kept twice or in a RAID ('-dconvert'), a smaller size that moves blocks of the image, and a defragmentation or deduplication of the image itself.",
@@ -41,40 +42,63 @@ const CONVERTED: [&str; 7] = [
 ];
 
 const ROLLED_BACK: &str =
-    "{path} is the ReiserFS volume from before the conversion again, and what was written since is gone. 'reiserfsck --check --yes {path}' has to find nothing. If /etc/fstab names the volume, its line is to be the old one again.";
+    "{path} is the ReiserFS volume from before the conversion again, and what was written since is gone. 'reiserfsck --check --yes {path}' has to say 'No corruptions found'. If /etc/fstab names the volume, its line is to be the old one again.";
 
 const IS_REISERFS: &str =
-    "{path} is a ReiserFS volume. If a conversion was interrupted, it is as before: begin again with 'reiserconv convert {path}'. If a rollback was interrupted, it is done.";
+    "{path} is a ReiserFS volume. If a conversion was interrupted, it is as before: begin again with 'reiserconv convert {path}', and with the options that you gave, if any, before the path. If a rollback was interrupted, it is done.";
 
 const IS_BTRFS: &str =
-    "{path} is a Btrfs volume. If a conversion was interrupted, it is done, and 'btrfs check --readonly {path}' has to find nothing. If a rollback was interrupted, begin again with 'reiserconv rollback {path}'.";
+    "{path} is a Btrfs volume. If a conversion was interrupted, it is done, and 'btrfs check --readonly {path}' has to say 'no error found'. If a rollback was interrupted, begin again with 'reiserconv rollback {path}'.";
 
-/// What comes behind a trial, each a paragraph. `{1}` is the number of its files.
-const TRIED: [&str; 2] = [
-    "The trial went well. A ReiserFS volume with {1} files was made at {path}, turned into Btrfs, and turned back. The lines of 'list' were the same before and after the conversion, and so was each block in use after the way back.",
-    "{path} still holds that ReiserFS volume, of 256 MiB, for you to look at. Remove the file when you are done with it. Before another trial take away what tells of the volume ('wipefs -a {path}').",
-];
+/// What comes behind a trial. `{1}` is the number of its files.
+const TRIED: &str =
+    "The trial went well. A ReiserFS volume with {1} {1:file:files} was made at {path}, turned into Btrfs, and turned back. The lines of 'list' were the same before and after the conversion, and so was each block in use after the way back.";
 
-/// What is told of a command that is done, by the first bytes that it printed. `wanted` is what was asked for, and `best` what was
-/// counted with nodes of another size.
+/// What comes behind that of a file.
+const LEFT_IN_FILE: &str =
+    "{path} still holds that ReiserFS volume, of 256 MiB, for you to look at. Remove the file when you are done with it. Before another trial take away what tells of the volume ('wipefs -a {path}').";
+
+/// The same of a device.
+const LEFT_ON_DEVICE: &str =
+    "{path} still holds that ReiserFS volume, of 256 MiB, for you to look at. When you are done with it, or before another trial, take away what tells of the volume ('wipefs -a {path}'), or make a file system of yours on the device.";
+
+/// A command that is done.
+#[derive(Clone, Copy)]
+pub struct Done<'a> {
+    /// The first bytes that it printed.
+    pub printed: &'a [u8],
+    /// What was asked for.
+    pub wanted: Wanted<'a>,
+    /// What was counted with something else, where that was done.
+    pub again: Option<&'a Recount>,
+    /// Whether a trial was done on a block device.
+    pub is_device: bool,
+}
+
+/// What is told of a command that is done.
 pub fn behind(
     alloc: Global,
     asked: &Asked<'_>,
     path: &str,
-    printed: &[u8],
-    wanted: Wanted<'_>,
-    best: Option<&Counted>,
+    done: &Done<'_>,
 ) -> Result<String, AllocError> {
     let mut text = Paragraph::new(alloc, path);
-    let printed = str::from_utf8(printed).unwrap_or("");
+    let printed = str::from_utf8(done.printed).unwrap_or("");
     match asked.verb {
         Some(Verb::Convert) => tell_all(&mut text, &CONVERTED, &[])?,
         Some(Verb::Rollback) => text.say(ROLLED_BACK, &[])?,
         Some(Verb::Recover) => text.say(recovered(printed), &[])?,
-        Some(Verb::Trial) => tell_all(&mut text, &TRIED, &[files(printed)])?,
+        Some(Verb::Trial) => {
+            let left = if done.is_device {
+                LEFT_ON_DEVICE
+            } else {
+                LEFT_IN_FILE
+            };
+            tell_all(&mut text, &[TRIED, left], &[files(printed)])?
+        }
         Some(Verb::Inspect) => {
             if let Some(space) = Space::printed(printed) {
-                space.tell(alloc, &mut text, wanted, best)?;
+                space.tell(alloc, &mut text, done.wanted, done.again)?;
             }
         }
         _ => {}

@@ -22,7 +22,7 @@ pub fn of_refusal(number: u64) -> Sentence {
         },
         2 => Sentence {
             means: "The volume was not unmounted, or is mounted right now: its superblock has the state {1}.",
-            next: "Mount it in Linux and unmount it, or run 'reiserfsck --check --yes {path}', which replays the journal.",
+            next: "Mount it in Linux 6.12 or earlier, which has ReiserFS, and unmount it, or run 'reiserfsck --check --yes {path}', which replays the journal.",
         },
         3 => Sentence {
             means: "The volume has something that is not supported: feature {1}, with the value {2}.",
@@ -34,46 +34,46 @@ pub fn of_refusal(number: u64) -> Sentence {
         },
         5 => Sentence {
             means: "The journal holds at least one transaction that is not in its place yet, number {1}.",
-            next: "Mount the volume in Linux and unmount it, or run 'reiserfsck --check --yes {path}', which replays the journal.",
+            next: "Mount the volume in Linux 6.12 or earlier, which has ReiserFS, and unmount it, or run 'reiserfsck --check --yes {path}', which replays the journal.",
         },
         6 => Sentence {
             means: "At block {1} a rule of the format is broken, rule {2}.",
-            next: "Run 'reiserfsck --check --yes {path}', and do what it says. With '--rebuild-tree' it writes a lot: have a copy before. Where it finds nothing and the line stays, mount the volume read-only in Linux, and copy its files to a new one.",
+            next: "Run 'reiserfsck --check --yes {path}', and do what it says. With '--rebuild-tree' it writes a lot: have a copy before. Where it says 'No corruptions found' and the line stays, mount the volume read-only in Linux 6.12 or earlier, which has ReiserFS, and copy its files to a new one.",
         },
         7 => Sentence {
             means: "There are extended attributes or access control lists, which the program does not carry over: those of {1} {2}.",
-            next: "Keep them in two files, remove them, and put them back on the new volume: the commands are in HOWTO.md, section 9. Where none is worth it, mount the volume in Linux with the options 'user_xattr,acl', and remove the attributes ('setfattr -x NAME FILE') and lists ('setfacl -R -b /mnt/disk'). Empty folders that stay behind in '.reiserfs_priv' do no harm.",
+            next: "They lie in a folder that Linux does not show. To find the files that have them, mount the volume in Linux 6.12 or earlier, which has ReiserFS, with the options 'user_xattr,acl': 'getfattr -R -h -P -m - /mnt/disk' names those with attributes, and 'getfacl -R -P -s /mnt/disk' those with lists. Keep both in two files, remove them, and put them back on the new volume: the commands are in HOWTO.md, section 9. Where none is worth it, only remove the attributes ('setfattr -x NAME FILE') and lists ('setfacl -R -b /mnt/disk'). Empty folders that stay behind in '.reiserfs_priv' do no harm.",
         },
         8 => Sentence {
             means: "A file was removed, or cut short, while a program had it open, and is still to be cleaned up: object {1}.",
-            next: "Mount the volume in Linux for writing, and unmount it.",
+            next: "Mount the volume in Linux 6.12 or earlier, which has ReiserFS, for writing, and unmount it.",
         },
         9 => Sentence {
             means: "The root directory has an entry 'reiserfs_saved', a name that a conversion needs for itself.",
-            next: "Rename it.",
+            next: "Mount the volume in Linux 6.12 or earlier, which has ReiserFS, and rename it.",
         },
         10 => Sentence {
             means: "A name of the object {1} {2} has more than 255 bytes, or the object is a symbolic link whose target has more than 3900: {3} bytes.",
-            next: "Shorten it. 'find /mnt/disk -xdev -inum {2}' prints where it is.",
+            next: "Mount the volume in Linux 6.12 or earlier, which has ReiserFS, and shorten it. 'find /mnt/disk -xdev -inum {2}' prints where it is.",
         },
         11 => Sentence {
             means: "In the directory {1} {2} more names share the hash {3} than Btrfs can hold.",
-            next: "Rename some of the names there, until it is no longer refused. 'find /mnt/disk -xdev -inum {2}' prints where it is.",
+            next: "Mount the volume in Linux 6.12 or earlier, which has ReiserFS, and rename some of the names there, until it is no longer refused. 'find /mnt/disk -xdev -inum {2}' prints where it is.",
         },
         13 => Sentence {
             means: "At the address {1}, in bytes, a rule of the format is broken, rule {2}.",
-            next: "Run 'btrfs check --readonly {path}'. Where it finds nothing, the volume may have something that this program does not know, and is sound all the same.",
+            next: "Run 'btrfs check --readonly {path}'. Where it says 'no error found', the volume may have something that this program does not know, and is sound all the same.",
         },
         14 => Sentence {
             means: "The volume was not unmounted, and a log waits to be replayed, at the address {1}.",
             next: "Mount it in Linux once, and unmount it. The way back stays open.",
         },
         15 => Sentence {
-            means: "A conversion needs {1} free units of 1 MiB, with {3} in one row. Of units that are free as a whole there are {2}, with {4} in the longest row.",
+            means: "A conversion needs {1} free units of 1 MiB, with {3} in one row. The number of those that are free as a whole is {2}, and that in the longest row {4}.",
             next: "Remove or move away large files, or make the volume larger. Nodes of another size may need less: 'reiserconv inspect --nodesize 4096 {path}' tells how much. See HOWTO.md.",
         },
         16 => Sentence {
-            means: "The volume already has the format that the command makes.",
+            means: "The volume already has the format that the command would turn it into.",
             next: "Nothing.",
         },
         17 => Sentence {
@@ -82,7 +82,7 @@ pub fn of_refusal(number: u64) -> Sentence {
         },
         18 => Sentence {
             means: "Block {1} of the old volume no longer lies where it lay. A balance of data moves blocks, as do a smaller size, and a defragmentation or a deduplication of the file 'image' itself.",
-            next: "Nothing leads back any more. Stay with Btrfs, or copy your files to a new volume. The old volume can still be read: the file 'image' is one, if no other number is wrong with it.",
+            next: "'rollback' can't turn it back any more: stay with Btrfs, or copy your files to a new volume. What the old volume held is not lost. The file 'image' still has it, as a volume of ReiserFS that can be read: 'reiserconv list /mnt/disk/reiserfs_saved/image' lists it.",
         },
         19 => Sentence {
             means: "The old volume in the file 'image' is refused. Somebody has written to the file, or a block of it is damaged.",
@@ -108,12 +108,12 @@ pub fn of_refusal(number: u64) -> Sentence {
 pub fn of_command(command: &str, number: u64) -> Sentence {
     match (command, number) {
         ("convert", 16) => Sentence {
-            means: "It is a Btrfs volume already, and a conversion makes one of ReiserFS. If you have converted it before, that is done.",
+            means: "It is a Btrfs volume already. 'convert' turns a ReiserFS volume into Btrfs. If you have converted it before, that is done.",
             next: "Nothing. 'reiserconv inspect {path}' shows in the line 'image' whether it holds an old volume.",
         },
         ("rollback", 16) => Sentence {
-            means: "It is a ReiserFS volume already, and a rollback makes one of Btrfs. If you have rolled it back before, that is done.",
-            next: "Nothing. 'reiserfsck --check --yes {path}' has to find nothing.",
+            means: "It is a ReiserFS volume already. 'rollback' turns a volume that was converted to Btrfs back into ReiserFS. If you have rolled it back before, that is done.",
+            next: "Nothing. 'reiserfsck --check --yes {path}' has to say 'No corruptions found'.",
         },
         ("trial", 4) => Sentence {
             means: "A trial takes {1} blocks of 4 KiB, which is 256 MiB, and the device has only {2} of them.",
@@ -266,11 +266,11 @@ pub fn of_feature(number: u64) -> Sentence {
     match number {
         1 => Sentence {
             means: "It is ReiserFS of format 3.5.",
-            next: "Mount it once in Linux with the option 'conv', which makes it one of format 3.6.",
+            next: "Mount it once in Linux 6.12 or earlier, which has ReiserFS, with the option 'conv', which makes it one of format 3.6.",
         },
         2 => Sentence {
             means: "Blocks of ReiserFS have another size than 4096 bytes.",
-            next: "",
+            next: "Such a volume can't be converted. Mount it in Linux 6.12 or earlier, which has ReiserFS, and copy its files to a new volume.",
         },
         3 => Sentence {
             means: "The journal of the ReiserFS volume lies on another device.",
@@ -282,7 +282,7 @@ pub fn of_feature(number: u64) -> Sentence {
         },
         5 => Sentence {
             means: "The ReiserFS volume has more than 2^29 blocks, which is 2 TiB.",
-            next: "",
+            next: "Where less than 2 TiB is in use, 'resize_reiserfs -s 2048G {path}' makes the volume so small that it can be converted; have a copy before. Where more is in use, copy the files to a new volume.",
         },
         11 => Sentence {
             means: "The Btrfs volume has incompatible features that are not read.",
@@ -310,7 +310,7 @@ pub fn of_feature(number: u64) -> Sentence {
         },
         17 => Sentence {
             means: "A file is compressed, and its bytes can't be listed.",
-            next: "It is not in the way of 'rollback', unless it is the file 'image' itself.",
+            next: "To list the volume, mount it without a compression, and write each such file anew, as by 'cp -a --reflink=never FILE NEW' and 'mv NEW FILE'; 'compsize FILE' of the package 'btrfs-compsize' tells whether a file is compressed. 'rollback' needs none of this, unless the file 'image' itself is compressed: then nothing leads back.",
         },
         18 => Sentence {
             means: "A file is encrypted.",
@@ -381,6 +381,10 @@ pub fn of_fault(cause: &str) -> Sentence {
         "kind" => Sentence {
             means: "It is neither a plain file nor a block device.",
             next: "Give a partition or a file that holds a volume.",
+        },
+        "unfit" => Sentence {
+            means: "It is neither a plain file nor a block device, and a trial takes one of these.",
+            next: "Give a file or a device of at least 256 MiB which holds nothing. 'truncate -s 256M scratch.img' makes such a file.",
         },
         "mounted" => Sentence {
             means: "It is mounted, or one of its partitions or the disk that it lies on is.",

@@ -1,6 +1,9 @@
 // Whether the space of a volume suffices for a conversion, and what helps where it does not.
+use crate::asked::Verb;
+use crate::options::Choice;
 use crate::paragraph::Paragraph;
-use crate::sizes::Counted;
+use crate::recount::{Counted, Recount};
+use crate::wanted::{Change, Wanted};
 use std::alloc::{AllocError, Global};
 
 /// The free units of 1 MiB of a volume, and those that a conversion takes.
@@ -16,20 +19,8 @@ pub struct Space {
     pub longest: Option<u64>,
 }
 
-/// The size of a node where none is asked for.
-pub const USUAL_SIZE: &str = "16384";
-
 /// Linux itself needs free units to write to a volume: with fewer to spare it takes few new files, or may only read.
 const GOOD_TO_SPARE: u64 = 16;
-
-/// What was asked for that changes the space of a conversion, as far as it is told.
-#[derive(Clone, Copy, Debug, PartialEq, Eq)]
-pub struct Wanted<'a> {
-    /// The size of a node in bytes.
-    pub size: &'a str,
-    /// Whether the checksums are SHA-256, which are eight times as long as the usual ones.
-    pub is_hashed: bool,
-}
 
 impl Space {
     /// By what `inspect` prints of a ReiserFS volume.
@@ -75,14 +66,14 @@ impl Space {
         missing < others || (missing == others && self.needed <= other.needed)
     }
 
-    /// Tells whether the volume can be converted, and else what helps. `wanted` is what was counted with, and `best` the best count with
-    /// nodes of another size, where there is one.
+    /// Tells whether the volume can be converted, and how, and else what helps. `wanted` is what was counted with, and `again` what was counted
+    /// with something else, where that was done.
     pub fn tell(
         &self,
         alloc: Global,
         text: &mut Paragraph<'_>,
         wanted: Wanted<'_>,
-        best: Option<&Counted>,
+        again: Option<&Recount>,
     ) -> Result<(), AllocError> {
         if self.suffices() {
             self.tell_that_it_fits(alloc, text, wanted)
@@ -90,7 +81,7 @@ impl Space {
             let numbers = Numbers::new(alloc, self)?;
             text.say(TOO_FEW, &numbers.parts())?;
             text.end()?;
-            self.tell_what_helps(alloc, text, wanted, best)
+            self.tell_what_helps(alloc, text, wanted, again)
         }
     }
 
@@ -103,13 +94,11 @@ impl Space {
         let numbers = Numbers::new(alloc, self)?;
         let fits = if self.run > 1 { FITS_IN_A_ROW } else { FITS };
         text.say(fits, &numbers.parts())?;
-        if wanted.size != USUAL_SIZE {
-            text.say(WITH_SIZE, &[wanted.size])?;
+        let command = wanted.command(alloc, Verb::Convert, None)?;
+        text.say(CONVERT, &[command.as_str()])?;
+        if self.spare() < GOOD_TO_SPARE {
+            text.say(HARDLY, &[])?;
         }
-        if wanted.is_hashed {
-            text.say(WITH_HASHES, &[])?;
-        }
-        self.tell_if_tight(text)?;
         text.end()
     }
 
@@ -118,21 +107,13 @@ impl Space {
         self.units.saturating_sub(self.needed)
     }
 
-    /// Tells where a conversion leaves too little for Linux to write.
-    fn tell_if_tight(&self, text: &mut Paragraph<'_>) -> Result<(), AllocError> {
-        if self.spare() < GOOD_TO_SPARE {
-            text.say(HARDLY, &[])?;
-        }
-        Ok(())
-    }
-
-    /// Tells what helps where the space does not suffice. `wanted` and `best` are as for `tell`.
+    /// Tells what helps where the space does not suffice. `wanted` and `again` are as for `tell`.
     pub fn tell_what_helps(
         &self,
         alloc: Global,
         text: &mut Paragraph<'_>,
         wanted: Wanted<'_>,
-        best: Option<&Counted>,
+        again: Option<&Recount>,
     ) -> Result<(), AllocError> {
         let numbers = Numbers::new(alloc, self)?;
         text.say("What to do:", &[])?;
@@ -142,46 +123,106 @@ impl Space {
             &numbers.parts(),
         )?;
         text.say(ENLARGE, &numbers.parts())?;
-        match best {
-            Some(best) => self.tell_of_size(alloc, text, wanted.size, best)?,
-            None => text.say(OTHER_NODES, &other_sizes(wanted.size))?,
+        match again {
+            Some(again) => self.tell_of_counts(alloc, text, wanted, again)?,
+            None => tell_what_to_count(alloc, text, wanted)?,
         }
-        if wanted.is_hashed {
+        if wanted.is_hashed() && !wanted.has(Choice::NoDatasum) {
             text.say(SHORTER_SUMS, &[])?;
         }
         text.end()
     }
 
-    /// Tells whether nodes of another size help.
-    fn tell_of_size(
+    /// Tells which of the counts with a change helps.
+    fn tell_of_counts(
         &self,
         alloc: Global,
         text: &mut Paragraph<'_>,
-        size: &str,
-        best: &Counted,
+        wanted: Wanted<'_>,
+        again: &Recount,
     ) -> Result<(), AllocError> {
-        if self.needed <= best.space.needed {
-            return text.say(NO_OTHER_NODES, &other_sizes(size));
+        let sized = self.helping(again.sized);
+        let without = self.helping(again.without);
+        match &sized {
+            Some(best) => tell_of(alloc, text, wanted, best)?,
+            None => text.say(NO_OTHER_NODES, &other_sizes(wanted.size()))?,
         }
-        let needed = decimal(alloc, best.space.needed)?;
-        if !best.space.suffices() {
-            return text.say(SMALLER_NEED, &[best.size, needed.as_str()]);
+        if let Some(best) = &without {
+            tell_of(alloc, text, wanted, best)?;
         }
-        let spare = decimal(alloc, best.space.spare())?;
-        text.say(BETTER_NODES, &[best.size, needed.as_str(), spare.as_str()])?;
-        best.space.tell_if_tight(text)
+        if is_tight(sized) || is_tight(without) {
+            text.say(HARDLY, &[])?;
+        }
+        Ok(())
+    }
+
+    /// A count that needs fewer units, if this one does.
+    fn helping(&self, counted: Option<Counted>) -> Option<Counted> {
+        match counted {
+            Some(counted) if counted.space.needed < self.needed => Some(counted),
+            _ => None,
+        }
     }
 }
 
+/// Whether it suffices by a count, but leaves too little for Linux to write.
+fn is_tight(counted: Option<Counted>) -> bool {
+    match counted {
+        Some(counted) => counted.space.suffices() && counted.space.spare() < GOOD_TO_SPARE,
+        None => false,
+    }
+}
+
+/// Tells of a count with a change that needs fewer units, and whether it suffices.
+fn tell_of(
+    alloc: Global,
+    text: &mut Paragraph<'_>,
+    wanted: Wanted<'_>,
+    best: &Counted,
+) -> Result<(), AllocError> {
+    let numbers = Numbers::new(alloc, &best.space)?;
+    let (needed, spare) = (numbers.needed.as_str(), numbers.spare.as_str());
+    let command = wanted.command(alloc, Verb::Convert, Some(best.change))?;
+    let command = command.as_str();
+    match (best.change, best.space.suffices()) {
+        (Change::Size(size), true) => text.say(BETTER_NODES, &[size, needed, spare, command]),
+        (Change::Size(size), false) => text.say(SMALLER_NEED, &[size, needed]),
+        (Change::Without(option), true) => {
+            text.say(LEFT_OUT, &[option.word(), needed, spare, command])
+        }
+        (Change::Without(option), false) => text.say(LESS_NEED, &[option.word(), needed]),
+    }
+}
+
+/// Tells by which commands it can be counted what helps, and which one converts the volume then: nodes of another size, and files in the tree where it was
+/// asked for none.
+fn tell_what_to_count(
+    alloc: Global,
+    text: &mut Paragraph<'_>,
+    wanted: Wanted<'_>,
+) -> Result<(), AllocError> {
+    let [size, other] = other_sizes(wanted.size());
+    let change = Some(Change::Size(size));
+    let count = wanted.command(alloc, Verb::Inspect, change)?;
+    let convert = wanted.command(alloc, Verb::Convert, change)?;
+    let parts = [count.as_str(), other, size, convert.as_str()];
+    text.say(OTHER_NODES, &parts)?;
+    if wanted.has(Choice::NoInline) {
+        let change = Some(Change::Without(Choice::NoInline));
+        let count = wanted.command(alloc, Verb::Inspect, change)?;
+        let convert = wanted.command(alloc, Verb::Convert, change)?;
+        text.say(MAY_BE_LEFT_OUT, &[count.as_str(), convert.as_str()])?;
+    }
+    Ok(())
+}
+
 const FITS: &str =
-    "It can be converted: {2} units of 1 MiB are needed, {1} are free as a whole, and so {3} are to spare.";
+    "It can be converted: {2} units of 1 MiB are needed, {1} are free as a whole, and so {3} {3:is:are} to spare.";
 
 const FITS_IN_A_ROW: &str =
-    "It can be converted if of the free units of 1 MiB {4} lie in one row, which 'convert' sees before it writes: {2} are needed, {1} are free as a whole, and so {3} are to spare.";
+    "It can be converted if of the free units of 1 MiB {4} lie in one row, which 'convert' sees before it writes: {2} are needed, {1} are free as a whole, and so {3} {3:is:are} to spare.";
 
-const WITH_SIZE: &str = "This is with nodes of {1} bytes: give 'convert' the same '--nodesize'.";
-
-const WITH_HASHES: &str = "This is with checksums by SHA-256: give 'convert' '--csum sha256' too.";
+const CONVERT: &str = "This command does it: '{1}'.";
 
 const SHORTER_SUMS: &str =
     "Or leave '--csum sha256' out: checksums by CRC-32C take some 7 MiB less for each GiB in use.";
@@ -190,26 +231,35 @@ const HARDLY: &str =
     "Linux takes such units too when it writes to the new volume: have 16 to spare, or it may only be able to read there until more is free.";
 
 const TOO_FEW: &str =
-    "It can't be converted as it is: {2} units of 1 MiB are needed, and {1} are free as a whole, which is {5} too few.";
+    "It can't be converted as it is: {2} units of 1 MiB are needed, and {1} {1:is:are} free as a whole, which is {5} too few.";
 
 const FREE_MORE: &str =
-    "Remove large files or move them away, until {5} MiB more are free as a whole, better {6}, since Linux takes some to write to the new volume. Small files that lie scattered hardly help.";
+    "Mount it in Linux 6.12 or earlier, which has ReiserFS, and remove large files or move them away, until {5} MiB more {5:is:are} free as a whole, better {6}, since Linux takes some to write to the new volume. Small files that lie scattered hardly help.";
 
-const FREE_A_ROW: &str = "Remove a large file or move it away, until {4} MiB are free in one row.";
+const FREE_A_ROW: &str =
+    "Mount it in Linux 6.12 or earlier, which has ReiserFS, and remove a large file or move it away, until {4} MiB are free in one row.";
 
 const ENLARGE: &str =
     "Or make the partition larger by {6} MiB or more, and then the volume ('resize_reiserfs -f {path}').";
 
 const OTHER_NODES: &str =
-    "Nodes of another size may need less: 'reiserconv inspect --nodesize {1} {path}' and the same with {2} tell how much.";
+    "Nodes of another size may need less: '{1}' tells how much, and so does the same with {2}. If nodes of {3} bytes suffice, '{4}' converts it.";
 
 const BETTER_NODES: &str =
-    "Or take nodes of {1} bytes, which need {2} units, so that {3} MiB are to spare: 'reiserconv convert --nodesize {1} {path}'.";
+    "Or take nodes of {1} bytes, which need {2} units, so that {3} MiB {3:is:are} to spare: '{4}'.";
 
 const SMALLER_NEED: &str =
     "Nodes of {1} bytes need fewer units, {2} ('--nodesize {1}'), which alone does not suffice.";
 
 const NO_OTHER_NODES: &str = "Nodes of {1} or {2} bytes need no fewer units.";
+
+const LEFT_OUT: &str =
+    "Or leave '{1}' out: then {2} units are needed, so that {3} MiB {3:is:are} to spare: '{4}'.";
+
+const LESS_NEED: &str = "Without '{1}' fewer units are needed, {2}, which alone does not suffice.";
+
+const MAY_BE_LEFT_OUT: &str =
+    "Without '--no-inline' it may need less: '{1}' tells how much. If that suffices, '{2}' converts it.";
 
 /// Two sizes of nodes to try in place of the one that was counted with.
 fn other_sizes(size: &str) -> [&'static str; 2] {

@@ -1,17 +1,15 @@
 use crate::advice::{Outcome, advice, start_advice};
 use crate::asked::{Asked, Verb};
-use crate::notices::{before, behind};
+use crate::notices::{Done, before, behind};
+use crate::recount::Recount;
 use crate::shell::quoted;
-use crate::sizes::{Counted, NODESIZE};
-use crate::space::{Space, USUAL_SIZE, Wanted};
+use crate::space::Space;
 use crate::start::Missing;
+use crate::wanted::Wanted;
 use host_edge::{LineSink, StatusLine, Trouble};
 use std::alloc::Global;
 use std::io::Write;
 use std::str;
-
-/// The option of the kind of checksum.
-const CSUM: &str = "--csum";
 
 /// What a person is told of a run, beside its lines.
 #[derive(Drop)]
@@ -23,36 +21,32 @@ pub struct Talk<'a> {
     path: String,
 }
 
-/// How a run ended.
+/// How a run ended, beside its line.
 #[derive(Clone, Copy)]
-pub struct Ended<'a> {
-    pub status: u8,
-    /// Its line for standard error, with its line feed; nothing where it is done.
-    pub line: &'a [u8],
+pub struct How {
     /// Why the last call of the device failed, if one did.
     pub trouble: Option<Trouble>,
     /// Whether a block was written, whole or in part.
     pub wrote: bool,
     /// Whether it ran as root.
     pub is_root: bool,
+    /// Whether its path is that of a block device, of a trial; of other commands it is not asked.
+    pub is_device: bool,
+}
+
+/// The end of a run.
+#[derive(Clone, Copy)]
+pub struct Ended<'a> {
+    pub status: u8,
+    /// Its line for standard error, with its line feed; nothing where it is done.
+    pub line: &'a [u8],
+    pub how: How,
 }
 
 impl<'a> Ended<'a> {
-    /// With this status and this line; the rest is as the fields say.
-    pub fn new(
-        status: u8,
-        line: &'a [u8],
-        trouble: Option<Trouble>,
-        wrote: bool,
-        is_root: bool,
-    ) -> Ended<'a> {
-        Ended {
-            status,
-            line,
-            trouble,
-            wrote,
-            is_root,
-        }
+    /// With this status and this line.
+    pub fn new(status: u8, line: &'a [u8], how: How) -> Ended<'a> {
+        Ended { status, line, how }
     }
 }
 
@@ -83,53 +77,45 @@ impl<'a> Talk<'a> {
         before(self.alloc, &self.asked, self.path.as_str()).ok()
     }
 
-    /// The size of a node that was asked for, where a volume was looked at that has too little space with it.
-    pub fn lacks_space<O: Write + Drop>(
-        &self,
-        status: u8,
-        out: &LineSink<'_, O>,
-    ) -> Option<&'a str> {
+    /// Whether a volume was looked at that has too little space for what was asked for.
+    pub fn lacks_space<O: Write + Drop>(&self, status: u8, out: &LineSink<'_, O>) -> bool {
         if status != 0 || self.asked.verb != Some(Verb::Inspect) {
-            return None;
+            return false;
         }
-        let space = Space::printed(str::from_utf8(out.line()).ok()?)?;
-        if space.suffices() {
-            None
-        } else {
-            Some(asked_size(self.words))
+        match str::from_utf8(out.line()) {
+            Ok(text) => match Space::printed(text) {
+                Some(space) => !space.suffices(),
+                None => false,
+            },
+            Err(_) => false,
         }
     }
 
-    /// Tells what the lines of the run mean, and what to do. `best` is what was counted with nodes of another size.
+    /// Tells what the lines of the run mean, and what to do. `again` is what was counted with something else than was asked for.
     pub fn end<O: Write + Drop, W: Write + Drop>(
         &self,
         ended: &Ended<'_>,
-        best: Option<&Counted>,
+        again: Option<&Recount>,
         out: &LineSink<'_, O>,
         err: &mut LineSink<'_, W>,
     ) {
-        let size = asked_size(self.words);
-        let is_hashed = is_hashed(self.words);
         let text = if ended.status == 0 {
-            behind(
-                self.alloc,
-                &self.asked,
-                self.path.as_str(),
-                out.line(),
-                Wanted { size, is_hashed },
-                best,
-            )
+            let done = Done {
+                printed: out.line(),
+                wanted: Wanted::new(self.words),
+                again,
+                is_device: ended.how.is_device,
+            };
+            behind(self.alloc, &self.asked, self.path.as_str(), &done)
         } else {
             let outcome = Outcome {
                 line: ended.line,
-                trouble: ended.trouble,
-                wrote: ended.wrote,
+                trouble: ended.how.trouble,
+                wrote: ended.how.wrote,
                 verb: self.asked.verb,
-                is_root: ended.is_root,
+                is_root: ended.how.is_root,
                 words: self.words,
                 path: self.path.as_str(),
-                size,
-                is_hashed,
             };
             advice(self.alloc, &outcome)
         };
@@ -151,26 +137,4 @@ pub fn tell_start<W: Write + Drop>(
             let _ = err.pass(text.as_bytes());
         }
     }
-}
-
-/// The size of a node that the words ask for.
-fn asked_size(words: &[String]) -> &str {
-    value_of(words, NODESIZE).unwrap_or(USUAL_SIZE)
-}
-
-/// Whether they ask for checksums by SHA-256.
-fn is_hashed(words: &[String]) -> bool {
-    value_of(words, CSUM) == Some("sha256")
-}
-
-/// The word behind this option, where it is among the words.
-fn value_of<'a>(words: &'a [String], option: &str) -> Option<&'a str> {
-    let mut is_next = false;
-    for word in words {
-        if is_next {
-            return Some(word.as_str());
-        }
-        is_next = word.as_str() == option;
-    }
-    None
 }

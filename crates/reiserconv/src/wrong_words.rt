@@ -63,8 +63,14 @@ fn command_words() -> &'static [&'static str] {
 /// What is wrong with the words behind a command.
 fn find_behind(alloc: Global, verb: Verb, words: &[String]) -> Result<Option<Finding>, AllocError> {
     let mut scan = Scan::new(alloc, verb);
+    let mut before = words.iter();
+    let _ = before.next();
     for word in words {
-        let wrong = scan.take(word.as_str())?;
+        let next = match before.next() {
+            Some(next) => next.as_str(),
+            None => "",
+        };
+        let wrong = scan.take(word.as_str(), next)?;
         if wrong.is_some() {
             return Ok(wrong);
         }
@@ -144,6 +150,12 @@ const OUT_OF_RANGE: &str =
 const NUMBER_FIRST: &str =
     "'{1}' is no number of files: the number stands before the path, for example 'reiserconv trial 1000 {1}'.";
 
+const SWAPPED: &str =
+    "'{1}' is no number of files: the number stands before the path, so 'reiserconv trial {2} {1}'.";
+
+const NO_NUMBER_OF_FILES: &str =
+    "'{1}' is no number of files, from 0 to 4000: for example 'reiserconv trial 1000 {2}'.";
+
 impl Scan {
     fn new(alloc: Global, verb: Verb) -> Scan {
         Scan {
@@ -155,8 +167,8 @@ impl Scan {
         }
     }
 
-    /// Looks at a word, and says what is wrong with it.
-    fn take(&mut self, word: &str) -> Result<Option<Finding>, AllocError> {
+    /// Looks at a word, and says what is wrong with it. The next one stands behind it; it is empty where there is none.
+    fn take(&mut self, word: &str, next: &str) -> Result<Option<Finding>, AllocError> {
         self.valued = None;
         match self.next {
             Next::Value(choice) => {
@@ -165,7 +177,7 @@ impl Scan {
                 choice.wrong_value(self.alloc, word)
             }
             Next::Any if word.starts_with('-') => self.take_option(word),
-            Next::Any if self.verb == Verb::Trial => self.take_number(word),
+            Next::Any if self.verb == Verb::Trial => self.take_number(word, next),
             Next::Any | Next::Path => self.take_path(word),
             Next::Nothing if word.starts_with('-') => self.tell(BEHIND_PATH, word, ""),
             Next::Nothing => self.tell(TOO_MANY, word, ""),
@@ -218,6 +230,9 @@ impl Scan {
     }
 
     fn unknown_option(&self, word: &str) -> Result<Option<Finding>, AllocError> {
+        if self.verb == Verb::Trial && is_below_zero(word) {
+            return self.tell(OUT_OF_RANGE, word, "");
+        }
         if let Some((front, value)) = word.split_once('=') {
             if let Some(choice) = Choice::named(front) {
                 return self.with_equals(choice, value);
@@ -241,15 +256,18 @@ impl Scan {
         }
     }
 
-    fn take_number(&mut self, word: &str) -> Result<Option<Finding>, AllocError> {
+    fn take_number(&mut self, word: &str, next: &str) -> Result<Option<Finding>, AllocError> {
         self.next = Next::Path;
-        match word.parse::<u64>() {
-            Ok(number) if number <= MOST_FILES && !has_sign_or_zero(word) => Ok(None),
-            Ok(_) => self.tell(OUT_OF_RANGE, word, ""),
-            Err(_) if word.bytes().all(|byte| byte.is_ascii_digit()) => {
-                self.tell(OUT_OF_RANGE, word, "")
-            }
-            Err(_) => self.tell(NUMBER_FIRST, word, ""),
+        if is_number_of_files(word) {
+            Ok(None)
+        } else if word.bytes().all(|byte| byte.is_ascii_digit()) || word.parse::<u64>().is_ok() {
+            self.tell(OUT_OF_RANGE, word, "")
+        } else if is_number_of_files(next) {
+            self.tell(SWAPPED, word, next)
+        } else if next.is_empty() || next.starts_with('-') {
+            self.tell(NUMBER_FIRST, word, "")
+        } else {
+            self.tell(NO_NUMBER_OF_FILES, word, next)
         }
     }
 
@@ -264,6 +282,22 @@ impl Scan {
         } else {
             Ok(None)
         }
+    }
+}
+
+/// Whether a word is a number that a trial may have.
+fn is_number_of_files(word: &str) -> bool {
+    match word.parse::<u64>() {
+        Ok(number) => number <= MOST_FILES && !has_sign_or_zero(word),
+        Err(_) => false,
+    }
+}
+
+/// Whether a word is a number with a minus sign.
+fn is_below_zero(word: &str) -> bool {
+    match word.strip_prefix("-") {
+        Some(digits) => digits.parse::<u64>().is_ok(),
+        None => false,
     }
 }
 

@@ -37,7 +37,7 @@ pub use Rattle.btrfs_format.specs.declared.key.TheConstants.{BLOCK_GROUP_ITEM, D
 pub use Rattle.btrfs_format.specs.declared.object.TheConstants.{DEV_ITEMS_OBJECTID, EXTENT_CSUM_OBJECTID, EXTENT_TREE, FS_TREE}
 pub use Rattle.btrfs_format.specs.declared.size.TheConstants.{ITEM_SIZE, METADATA_ITEM_SIZE}
 pub use Rattle.space_items.specs.Chunks.{chunk_item, chunk_items, dev_extent_item, device_body, device_items}
-pub use Rattle.space_items.specs.Extents.{bytes_of_nodes, bytes_of_pieces, data_ref, extent_items, group_item, hash_of_ref, image_refs, node_item, piece_item, piece_refs, put_ref, used_in}
+pub use Rattle.space_items.specs.Extents.{bytes_of_nodes, bytes_of_pieces, data_ref, extent_items, group_item, image_refs, is_behind, node_item, piece_item, piece_refs, put_ref, used_in}
 pub use Rattle.space_items.specs.Laws.{AreIds, ChunkItemsFit, ChunksAreOne, RootItemsFit}
 pub use Rattle.space_items.specs.Merging.{item_cmp, merged}
 pub use Rattle.space_items.specs.Nodes.{AreNodes, HasSlots, merged_nodes, nodes_at, nodes_of_tree}

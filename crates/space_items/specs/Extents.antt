@@ -1,6 +1,6 @@
 -- The extent tree: which ranges of the volume are taken, by what, and how much of each chunk.
-use Rattle.std.specs.Prelude.{ℕ, ◌+◌, ◌*◌, nat_le, nat_lt, Bool, ◌&&◌, if◌then◌else◌, Option, Some, None, List, [], ◌∷◌, ◌++◌, length, map, filter}
-use Rattle.std.specs.List.{flat_map, sum_by}
+use Rattle.std.specs.Prelude.{ℕ, ◌+◌, ◌*◌, ◌==◌, nat_le, nat_lt, Bool, ◌&&◌, ◌||◌, if◌then◌else◌, Option, Some, None, List, [], ◌∷◌, map, filter}
+use Rattle.std.specs.List.{sum_by}
 use Rattle.btrfs_format.specs.declared.flag.TheConstants.{EXTENT_FLAG_DATA, EXTENT_FLAG_TREE_BLOCK}
 use Rattle.btrfs_format.specs.declared.key.TheConstants.{BLOCK_GROUP_ITEM, EXTENT_ITEM, METADATA_ITEM}
 use Rattle.btrfs_format.specs.declared.object.TheConstants.{CONV_IMAGE_SUBVOL, FIRST_CHUNK_TREE_OBJECTID, FS_TREE}
@@ -8,10 +8,10 @@ use Rattle.btr_tree.specs.castagnoli.Castagnoli.{data_ref_hash}
 use Rattle.btr_tree.specs.btr_keys.Key.{make_key}
 use Rattle.btr_tree.specs.btr_node.Leaf.{Item}
 use Rattle.btr_space_items.specs.BlockGroup.{block_group_bytes}
-use Rattle.btr_space_items.specs.ExtentHead.{extent_head_bytes}
-use Rattle.btr_space_items.specs.InlineRef.{inline_ref_bytes, ref_root, ref_objectid, ref_offset}
+use Rattle.btr_space_items.specs.ExtentBody.{extent_body_of}
+use Rattle.btr_space_items.specs.InlineRef.{ref_kind}
 use Rattle.btr_space_items.specs.declared.inline_ref.InlineRef.{InlineRef}
-use Rattle.btr_space_items.specs.declared.inline_ref.InlineRef.TheVariants.{TreeBlock, DataRef}
+use Rattle.btr_space_items.specs.declared.inline_ref.InlineRef.TheVariants.{TreeBlock, SharedBlock, DataRef, SharedData}
 use Rattle.space_items.specs.Merging.{merged}
 use Rattle.unit_plan.specs.declared.chunk.PlannedChunk.{PlannedChunk}
 use Rattle.unit_plan.specs.declared.piece.Piece.{Piece}
@@ -31,13 +31,22 @@ abbrev pub owner_refs : Option (ℕ × ℕ) → List InlineRef
 owner_refs None = []
 owner_refs (Some owner) = data_ref FS_TREE owner.0 owner.1 ∷ []
 
-abbrev pub hash_of_ref : InlineRef → ℕ
-hash_of_ref r = data_ref_hash (ref_root r) (ref_objectid r) (ref_offset r)
+-- by what references of one kind descend in an item
+abbrev pub place_of_ref : InlineRef → ℕ
+place_of_ref (TreeBlock root) = root
+place_of_ref (SharedBlock parent) = parent
+place_of_ref (DataRef root objectid offset count) = data_ref_hash root objectid offset
+place_of_ref (SharedData parent count) = parent
 
--- One reference more in a list of references by descending hash. Of two equal ones it stands first.
+-- The one belongs behind the other: in an item kinds of references ascend, and those of one kind descend (check_extent_item
+-- of Linux from 6.8 on).
+abbrev pub is_behind : InlineRef → InlineRef → Bool
+is_behind r other = nat_lt (ref_kind other) (ref_kind r) || ((ref_kind r == ref_kind other) && nat_lt (place_of_ref r) (place_of_ref other))
+
+-- One reference more in a list of references in the order of an item. Of two equal ones it stands first.
 abbrev pub put_ref : InlineRef → List InlineRef → List InlineRef
 put_ref r [] = r ∷ []
-put_ref r (next ∷ refs) = if nat_lt (hash_of_ref r) (hash_of_ref next) then next ∷ put_ref r refs else r ∷ (next ∷ refs)
+put_ref r (next ∷ refs) = if is_behind r next then next ∷ put_ref r refs else r ∷ (next ∷ refs)
 
 abbrev pub put_refs : List InlineRef → List InlineRef → List InlineRef
 put_refs [] refs = refs
@@ -47,9 +56,9 @@ put_refs (r ∷ rs) refs = put_ref r (put_refs rs refs)
 abbrev pub piece_refs : Piece → List InlineRef
 piece_refs p = put_refs (owner_refs p.owner) (image_refs p.from)
 
--- what an extent's item has: how many references there are, and these
+-- the body of an extent that transaction 1 made
 abbrev pub extent_body : ℕ → List InlineRef → List ℕ
-extent_body flags refs = extent_head_bytes (record { refs = length refs; generation = 1; flags = flags }) ++ flat_map inline_ref_bytes refs
+extent_body flags refs = extent_body_of 1 flags refs
 
 -- the extent of a piece; 1 is data
 abbrev pub piece_item : Piece → Item

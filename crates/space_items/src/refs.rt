@@ -1,12 +1,12 @@
 ghost use Rattle.std.specs.Prelude.{◌≡◌, ◌≤◌, ◌<◌, ◌+◌, ◌*◌, ◌^◌, ◌++◌, ◌∷◌, [], length};
 ghost use Rattle.std.specs.Option.{option_to_list};
-ghost use Rattle.btr_space_items.specs.ExtentHead.{extent_head_bytes};
-ghost use Rattle.btr_space_items.specs.InlineRef.{inline_ref_bytes, inline_ref_size};
-ghost use Rattle.space_items.specs.Extents.{data_ref, extent_body, hash_of_ref, image_refs, node_item, owner_refs, piece_item, put_ref};
+ghost use Rattle.btr_space_items.specs.ExtentBody.{extent_body_of, extent_body_size};
+ghost use Rattle.btr_space_items.specs.InlineRef.{inline_ref_size};
+ghost use Rattle.space_items.specs.Extents.{data_ref, extent_body, image_refs, is_behind, node_item, owner_refs, piece_item, place_of_ref, put_ref};
 ghost use Rattle.space_items.specs.Stream.{IsSmallPiece};
 
 use crate::node::TreeNode;
-use btr_space_items::{ExtentHead, InlineRef};
+use btr_space_items::{InlineRef, extent_body_size, write_extent_body};
 use btr_tree::data_ref_hash;
 use btrfs_format::flag::{EXTENT_FLAG_DATA, EXTENT_FLAG_TREE_BLOCK};
 use btrfs_format::size::{EXTENT_ITEM_SIZE, INLINE_DATA_REF_SIZE};
@@ -57,30 +57,16 @@ impl ExtentItemBody {
         }
     }
 
-    /// The head of an extent, before its references.
-    fn begun(refs: u64, flags: u64) -> ExtentItemBody
-        ensures bytes { result ≡ extent_head_bytes (record { refs = refs; generation = 1; flags = flags }) }
-        ensures length { length result ≡ 24 }
+    /// The body of an extent with these references: the transaction that made it, and what it holds.
+    fn of_refs(generation: u64, flags: u64, refs: &[InlineRef]) -> ExtentItemBody
+        requires few { length refs.now ≤ 2 }
+        requires room { extent_body_size refs.now ≤ 82 }
+        ensures { result ≡ extent_body_of generation flags refs.now }
     {
-        let head = ExtentHead {
-            refs,
-            generation: 1,
-            flags,
-        };
-        ExtentItemBody::of(&head.to_bytes())
-    }
-
-    /// One reference more.
-    fn with(mut self, reference: InlineRef) -> ExtentItemBody
-        requires { length self + inline_ref_size reference ≤ 82 }
-        ensures bytes { result ≡ self ++ inline_ref_bytes reference }
-        ensures length { length result ≡ length self + inline_ref_size reference }
-    {
-        let start = self.length;
-        let end = start + reference.size();
-        reference.write(&mut self.bytes[start..end]);
-        self.length = end;
-        self
+        let length = extent_body_size(refs);
+        let mut bytes = [0; LONGEST];
+        write_extent_body(generation, flags, refs, &mut bytes[..length]);
+        ExtentItemBody { bytes, length }
     }
 
     /// The bytes.
@@ -95,7 +81,11 @@ impl ExtentItemBody {
 pub fn node_body(node: TreeNode) -> ExtentItemBody
     ensures { result ≡ (node_item node).1 }
 {
-    ExtentItemBody::begun(1, EXTENT_FLAG_TREE_BLOCK).with(InlineRef::TreeBlock { root: node.owner })
+    ExtentItemBody::of_refs(
+        1,
+        EXTENT_FLAG_TREE_BLOCK,
+        &[InlineRef::TreeBlock { root: node.owner }],
+    )
 }
 
 /// The body of a piece's extent. References stand by descending hash, and of equal ones that of tree 5 stands first.
@@ -104,9 +94,11 @@ pub fn piece_body(piece: &Piece) -> ExtentItemBody
     ensures { result ≡ (piece_item piece.now).1 }
 {
     match (owner_ref(piece), image_ref(piece)) {
-        (None, None) => ExtentItemBody::begun(0, EXTENT_FLAG_DATA),
-        (Some(one), None) | (None, Some(one)) => ExtentItemBody::begun(1, EXTENT_FLAG_DATA).with(
-            one,
+        (None, None) => ExtentItemBody::of_refs(1, EXTENT_FLAG_DATA, &[]),
+        (Some(one), None) | (None, Some(one)) => ExtentItemBody::of_refs(
+            1,
+            EXTENT_FLAG_DATA,
+            &[one],
         ),
         (Some(owner), Some(image)) => two_refs(owner, image),
     }
@@ -130,16 +122,15 @@ fn image_ref(piece: &Piece) -> Option<InlineRef>
     Some(data_ref(256, 257, block))
 }
 
-/// The body of an extent of data with two references, by descending hash. Of equal hashes the first one stands first.
+/// The body of an extent of data with two references, in their order. Of equal ones the first one stands first.
 fn two_refs(first: InlineRef, other: InlineRef) -> ExtentItemBody
     requires { inline_ref_size first + inline_ref_size other ≤ 2 * INLINE_DATA_REF_SIZE }
     ensures { result ≡ extent_body EXTENT_FLAG_DATA (put_ref first (other ∷ [])) }
 {
-    let body = ExtentItemBody::begun(2, EXTENT_FLAG_DATA);
-    if hash_of(first) < hash_of(other) {
-        body.with(other).with(first)
+    if is_behind(first, other) {
+        ExtentItemBody::of_refs(1, EXTENT_FLAG_DATA, &[other, first])
     } else {
-        body.with(first).with(other)
+        ExtentItemBody::of_refs(1, EXTENT_FLAG_DATA, &[first, other])
     }
 }
 
@@ -156,12 +147,21 @@ fn data_ref(tree: u64, inode: u64, block: u64) -> InlineRef
     }
 }
 
-/// By which references to data are ordered.
-fn hash_of(reference: InlineRef) -> u64
-    ensures { result ≡ hash_of_ref reference }
+/// Whether a reference belongs behind another in the item of an extent.
+fn is_behind(reference: InlineRef, other: InlineRef) -> bool
+    ensures { result ≡ is_behind reference other }
+{
+    other.kind() < reference.kind()
+        || (reference.kind() == other.kind() && place_of(reference) < place_of(other))
+}
+
+/// By what references of one kind descend.
+fn place_of(reference: InlineRef) -> u64
+    ensures { result ≡ place_of_ref reference }
 {
     match reference {
-        InlineRef::TreeBlock { root } => data_ref_hash(root, 0, 0),
+        InlineRef::TreeBlock { root } => root,
+        InlineRef::SharedBlock { parent } | InlineRef::SharedData { parent, .. } => parent,
         InlineRef::DataRef {
             root,
             objectid,

@@ -1,18 +1,13 @@
 -- What the proofs of volume_state import of std, of lower crates and of its specs.
-pub use Rattle.std.proofs.Common.{Bool, Contains, Err, IsTrue, List, None, Ok, OnOk, Option, Result, Some, [], ap, append_assoc, arith, eqb, false, get_or, if◌then◌else◌, inl, inr, is_some, length, map, min, nat_le, nat_lt, not, refl, rules, subst, suc, sym, take, true, true≢false, zero, ℕ, ⊎_elim, ◌%◌, ◌&&◌, ◌*◌, ◌++◌, ◌+◌, ◌-◌, ◌/◌, ◌<◌, ◌||◌, ◌∙◌, ◌∷◌, ◌≡◌, ◌≢◌, ◌≤◌}
+pub use Rattle.std.proofs.Common.{Bool, Contains, Err, IsTrue, List, None, Ok, OnOk, Option, Result, Some, [], ap, append_assoc, arith, eqb, false, get_or, if◌then◌else◌, inl, inr, is_some, length, min, nat_le, nat_lt, not, refl, rules, subst, suc, sym, take, true, true≢false, zero, ℕ, ⊎_elim, ◌%◌, ◌&&◌, ◌*◌, ◌++◌, ◌+◌, ◌-◌, ◌/◌, ◌<◌, ◌||◌, ◌∙◌, ◌∷◌, ◌≡◌, ◌≢◌, ◌≤◌}
 pub use Rattle.std.proofs.lemmas.Bool.{and_parts, cases_lt}
 pub use Rattle.std.proofs.lemmas.Bool.Decides.{nat_tests}
-pub use Rattle.std.proofs.lemmas.List.{append-nil, ext_get_or, get_or_default, map_more, take_all}
+pub use Rattle.std.proofs.lemmas.List.{append-nil, ext_get_or, get_or_default, take_all}
 pub use Rattle.std.proofs.lemmas.List.Elements.{All-cons, All-head, All-more, All-nil, All-tail, Contains-append_cases, Contains-append_left, Contains-append_right}
 pub use Rattle.std.proofs.lemmas.Result.{err_from_is_err_and}
-pub use Rattle.std.specs.List.{All, flat_map}
 pub use Rattle.std.specs.Option.{option_and_then, option_map, option_or}
-pub use Rattle.btr_node.specs.Inner.{children_in}
-pub use Rattle.btr_node.specs.Leaf.{items_in}
-pub use Rattle.btr_node.specs.Rules.{broken, inner_damages, leaf_damages}
 pub use Rattle.btr_node.specs.btr_keys.FileExtent.{ContentValue, FileExtentValue, Inline, Prealloc, Regular, file_extent_of}
 pub use Rattle.btr_node.specs.btr_keys.declared.file_extent.DiskRange.{DiskRange}
-pub use Rattle.btr_node.specs.declared.child.Child.{Child}
 pub use Rattle.btr_reader.proofs.Among.{among_first, among_left, among_none}
 pub use Rattle.btr_reader.proofs.MapApart.{opened_apart}
 pub use Rattle.btr_reader.proofs.PartsRead.{no_log, none_in, of_disk, of_volume, one_log, opened_super}
@@ -31,16 +26,14 @@ pub use Rattle.btr_reader.specs.declared.image_map.ImageMap.{ImageMap}
 pub use Rattle.btr_reader_contents.proofs.ExtentLists.{aligned_of, form_of_sound, none_left, none_right}
 pub use Rattle.btr_reader_contents.specs.Blocks.{AreInBlocks, IsInBlocks}
 pub use Rattle.btr_reader_contents.specs.Extents.{covered_after, covers, end_after, extents_of, extents_refusals, is_aligned, is_extent_of, is_hole, range_is_aligned, refusals_at}
-pub use Rattle.btr_reader_walk.proofs.Events.{leaf_nodes, nodes_in-append}
 pub use Rattle.btr_reader_walk.proofs.Mapping.{holds_bounds, mapped_at}
-pub use Rattle.btr_reader_walk.proofs.Walking.{breaks, mapped_breaks, unmapped_breaks}
 pub use Rattle.btr_reader_walk.specs.Events.{TreeEvent, TreeItem, items_in_events, leaf_events, may_be_bare, node, nodes_in, unless_damaged}
 unfoldable pub use Rattle.btr_reader_walk.specs.Events.{node_events}
 pub use Rattle.btr_reader_walk.specs.Map.{are_mapped, block_of_place, blocks_at, holds, place, second_place}
 unfoldable pub use Rattle.btr_reader_walk.specs.Map.{is_mapped, node_at}
-pub use Rattle.btr_reader_walk.specs.Node.{child_pointer, want}
 pub use Rattle.btr_reader_walk.specs.Tree.{at_address, order_damages, pointer_damages}
-pub use Rattle.btr_reader_walk.specs.Walks.{IsAmong, IsReadFault, below, found, met, met_faults, wrong}
+pub use Rattle.btr_reader_walk.specs.Visits.{GoesBelow, Refuses, Takes, ahead, nodes_fuel}
+pub use Rattle.btr_reader_walk.specs.Walks.{IsAmong, found, met, met_faults, wrong}
 pub use Rattle.btr_reader_walk.specs.declared.map.MapRange.{MapRange}
 pub use Rattle.btr_reader_walk.specs.declared.tree.NodePointer.{NodePointer}
 pub use Rattle.btr_reader_walk.specs.declared.tree.Tree.{Tree}
@@ -53,16 +46,12 @@ pub use Rattle.reiser_bitmap.specs.outside.History.{Image, block_at}
 pub use Rattle.reiser_bitmap.specs.refusals.declared.answer.BtrAnswer.{BtrAnswer}
 pub use Rattle.reiser_bitmap.specs.refusals.declared.answer.BtrAnswer.TheVariants.{Fault, Memory, Refused}
 pub use Rattle.reiser_bitmap.specs.refusals.declared.refusal.BtrRefusal.{BtrRefusal}
-pub use Rattle.reiser_bitmap.specs.refusals.declared.refusal.BtrRefusal.TheVariants.{BadBtrfs, LogPending}
-pub use Rattle.reiser_bitmap.specs.refusals.declared.rule.BtrRule.{BtrRule}
-pub use Rattle.reiser_bitmap.specs.refusals.declared.rule.BtrRule.TheVariants.{NodeHead, Unmapped}
 pub use Rattle.reiser_bitmap.specs.vol_block.Volume.{IsReserved, is_reserved}
-pub use Rattle.reiser_volume.proofs.fs_paths.Lists.{at_head, from_filter, from_flat_map, from_map, head_or_tail, in_flat_map, in_map}
+pub use Rattle.reiser_volume.proofs.fs_paths.Lists.{at_head, from_filter, from_map, head_or_tail, in_flat_map, in_map}
 pub use Rattle.reiser_volume.specs.Volume.{IsAccepted, superblock, used_of}
 pub use Rattle.volume_state.specs.GoingBack.{CanGoBack}
 pub use Rattle.volume_state.specs.Laws.{SpareBlocksDecideNothing, is_spare}
 pub use Rattle.volume_state.specs.Moved.{IsOld}
-pub use Rattle.volume_state.specs.Nodes.{below_faults, below_nodes, own_faults}
 pub use Rattle.volume_state.specs.Reserved.{IsBetween, IsMapApart, LieInCopy, LieInRange, LieInSecond, TellsBetween}
 pub use Rattle.volume_state.specs.Saved.{IsImageMissing, block_or_hole, blocks_by, blocks_by_map, file_blocks, place_by_file, saved_file, saved_place}
 unfoldable pub use Rattle.volume_state.specs.Saved.{image_blocks}

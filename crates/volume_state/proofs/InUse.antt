@@ -1,5 +1,6 @@
 -- What is told of the blocks that a volume uses, from its trees to the whole.
-use Rattle.volume_state.proofs.Imports.{◌≡◌, ◌≢◌, ⊎_elim, inl, inr, ℕ, List, [], ◌∷◌, ◌++◌, length, Contains, Option, Some, None, refl, sym, ◌∙◌, subst, arith, All-cons, All-head, All-nil, All-tail, SUPER_BLOCK, Image, block_at, BtrAnswer, Refused, Fault, Memory, BtrRefusal, LogPending, IsReserved, none_left, AreInBlocks, IsInBlocks, no_log, of_disk, of_volume, one_log, opened_super, items_refusals, IsSuperInBounds, IsBtrfsOpened, boot_chunks, boot_list, boot_refusals, chunk_tree, map_from, or_later, root_tree, trees_refusals, way_refusals, ChunkAt, Super, IsAmong, found, met, wrong, MapRange, boot_map, HoldsNodeOf, IsInFiles, IsInRoots, IsInUse, RefusesUse, TellsReserved, chunk_node, file_part, has_log, root_node, unreadable, option_or, later_none}
+use Rattle.volume_state.proofs.Imports.{◌≡◌, ◌≢◌, ⊎_elim, inl, inr, ℕ, List, [], ◌∷◌, ◌++◌, length, Contains, Option, Some, None, refl, sym, ◌∙◌, subst, arith, All-cons, All-head, All-nil, All-tail, SUPER_BLOCK, Image, block_at, BtrAnswer, Refused, Fault, Memory, BtrRefusal, IsReserved, none_left, AreInBlocks, IsInBlocks, no_log, of_disk, of_volume, one_log, opened_super, items_refusals, IsSuperInBounds, IsBtrfsOpened, boot_chunks, boot_list, boot_refusals, chunk_tree, map_from, or_later, root_tree, trees_refusals, way_refusals, ChunkAt, Super, IsAmong, found, met, wrong, MapRange, boot_map, HoldsNodeOf, IsInFiles, IsInRoots, IsInUse, RefusesUse, TellsReserved, chunk_node, file_part, has_log, root_node, unreadable, option_or, later_none}
+use Rattle.reiser_bitmap.specs.refusals.declared.refusal.BtrRefusal.TheVariants.{LogPending}
 use Rattle.btr_reader.proofs.MapBlocks.{opened_in_blocks}
 use Rattle.btr_reader.proofs.Opens.{opening_is}
 use Rattle.btr_reader.proofs.Supers.{in_bounds}

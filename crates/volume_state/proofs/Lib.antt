@@ -1,11 +1,11 @@
 pub mod Apart
 pub mod Extending
-pub mod Faults
 pub mod Images
 pub mod Imports
 pub mod InUse
 pub mod Lying
 pub mod Mapped
+pub mod Meeting
 pub mod Moving
 pub mod Placed
 pub mod Reaching

@@ -1,5 +1,5 @@
 -- The parts of a volume that can go back lie in no spare block.
-use Rattle.volume_state.proofs.Imports.{◌≡◌, inl, inr, ℕ, ◌+◌, ◌*◌, ◌/◌, ◌<◌, eqb, nat_lt, Bool, true, false, not, ◌&&◌, List, ◌∷◌, ◌++◌, length, get_or, Contains, Option, Some, None, refl, sym, ◌∙◌, ap, subst, arith, if◌then◌else◌, option_and_then, and_parts, get_or_default, EXTENT_DATA, FS_TREE, Image, is_reserved, extents_of, is_extent_of, ContentValue, FileExtentValue, Inline, Prealloc, Regular, file_extent_of, ImageFile, file_block, image_place, items_at, saved_image, chunk_tree, root_tree, tree_of, own_map, own_super, Super, TreeItem, nodes_in, place, found, met, MapRange, NodePointer, Tree, AreExtentsApart, AreNodesApart, IsApart, IsContentApart, IsVolumeApart, boot_map, root_of, saved_tree, from_filter, superblock, is_spare, image_blocks, CanGoBack, HoldsExtent, HoldsNodeOf, HoldsPartOf, IsInUse, LieIn, chunk_node, content_range, file_part, file_trees, item_range, named_by, numbered, root_node, tree_if}
+use Rattle.volume_state.proofs.Imports.{◌≡◌, inl, inr, ℕ, eqb, nat_lt, Bool, true, false, not, ◌&&◌, List, Contains, Option, Some, None, refl, ◌∙◌, ap, subst, if◌then◌else◌, option_and_then, and_parts, EXTENT_DATA, FS_TREE, Image, is_reserved, extents_of, is_extent_of, FileExtentValue, file_extent_of, ImageFile, file_block, image_place, items_at, saved_image, chunk_tree, root_tree, tree_of, own_map, own_super, Super, TreeItem, found, MapRange, Tree, AreExtentsApart, AreNodesApart, IsVolumeApart, boot_map, from_filter, superblock, is_spare, image_blocks, CanGoBack, HoldsPartOf, IsInUse, chunk_node, content_range, file_part, file_trees, item_range, root_node}
 use Rattle.reiser_bitmap.proofs.vol_block.Reserved.{decides_reserved}
 use Rattle.volume_state.proofs.Placed.{has_block, no_some}
 use Rattle.volume_state.proofs.Reaching.{reached}

@@ -1,5 +1,5 @@
 -- What is told of reserved blocks, from the parts of a volume to the whole.
-use Rattle.volume_state.proofs.Imports.{◌≡◌, ⊎_elim, inl, inr, ℕ, List, [], ◌∷◌, ◌++◌, Contains, Option, Some, None, Result, Ok, Err, refl, sym, ◌∙◌, ap, subst, arith, option_and_then, option_or, Contains-append_right, FS_TREE, Image, BtrAnswer, BtrRefusal, entry_refusals, if_there, image_refusals, image_refusals_in, items_at, pointer_in, refusals_below, root_refusals, saved_location, saved_refusals, tree_number, IsBtrfsOpened, or_later, tree_of, own_map, own_super, way_refusals, FindsNumbered, FindsSaved, FindsTree, pointer_of, root_item, roots_on, of_disk, Super, TreeItem, order_damages, IsAmong, found, wrong, MapRange, NodePointer, Tree, at_head, head_or_tail, below_faults, HoldsExtent, HoldsNodeOf, HoldsPartOf, IsInFiles, TellsReserved, file_trees, named_by, numbered, tree_if, among_first, among_left}
+use Rattle.volume_state.proofs.Imports.{◌≡◌, ⊎_elim, inl, inr, ℕ, List, [], ◌∷◌, ◌++◌, Contains, Option, Some, None, Result, Ok, Err, refl, sym, ◌∙◌, ap, subst, arith, option_and_then, option_or, Contains-append_right, FS_TREE, Image, BtrAnswer, BtrRefusal, entry_refusals, if_there, image_refusals, image_refusals_in, items_at, pointer_in, refusals_below, root_refusals, saved_location, saved_refusals, tree_number, IsBtrfsOpened, or_later, tree_of, own_map, own_super, way_refusals, FindsNumbered, FindsSaved, FindsTree, pointer_of, root_item, roots_on, of_disk, Super, TreeItem, IsAmong, found, wrong, MapRange, NodePointer, Tree, at_head, head_or_tail, HoldsExtent, HoldsNodeOf, HoldsPartOf, IsInFiles, TellsReserved, file_trees, named_by, numbered, tree_if, among_first, among_left}
 use Rattle.std.specs.Result.{MatchResult}
 use Rattle.volume_state.proofs.Placed.{no_some, some_is}
 use Rattle.volume_state.proofs.Reaching.{at_root, there}
@@ -12,9 +12,6 @@ match_so (Err e) P Q A B good bad is = bad e is
 pub tells_so : (P Q : ℕ → Type 0) (blocks : ℕ) → ((b : ℕ) → P b → Q b) → ((b : ℕ) → Q b → P b) → (o : Option ℕ) → TellsReserved P blocks o → TellsReserved Q blocks o
 tells_so P Q blocks to back None none = λ b reserved is. none b reserved (back b is)
 tells_so P Q blocks to back (Some b) one = (one.0, to b one.1)
-
-pub tree_among : (image : Image) (ranges : List MapRange) (t : Tree) (e : BtrAnswer) → IsAmong (below_faults image ranges t t.root) e → IsAmong (wrong image ranges t) e
-tree_among image ranges t e is = among_left (below_faults image ranges t t.root) (order_damages None (found image ranges t)) e is
 
 -- a tree whose nodes lie in no reserved block, by its extents
 pub part_told : (image : Image) (ranges : List MapRange) (t : Tree) (blocks : ℕ) (o : Option ℕ) → TellsReserved (HoldsNodeOf image ranges t) blocks None → TellsReserved (HoldsExtent (found image ranges t) ranges) blocks o

@@ -1,11 +1,22 @@
 -- A tree by a map that begins with another, where its nodes lie by the beginning. The chunk tree of an opened volume is met by its whole
 -- map as by the chunks in the superblock.
-use Rattle.volume_state.proofs.Imports.{◌≡◌, ⊎_elim, inl, inr, ℕ, zero, suc, ◌+◌, ◌-◌, ◌*◌, ◌/◌, ◌%◌, ◌<◌, eqb, Bool, true, false, ◌&&◌, List, [], ◌∷◌, ◌++◌, Contains, Option, Some, None, is_some, refl, sym, ◌∙◌, ap, subst, arith, append_assoc, true≢false, if◌then◌else◌, All, flat_map, option_map, and_parts, nat_tests, append-nil, All-cons, All-head, All-nil, All-tail, Image, BtrRefusal, BtrRule, Unmapped, none_left, none_right, AreInBlocks, IsInBlocks, children_in, items_in, Child, chunk_in, range_of, with_chunk, with_items, ChunkAt, TreeEvent, TreeItem, items_in_events, leaf_events, may_be_bare, node, node_events, nodes_in, unless_damaged, are_mapped, block_of_place, blocks_at, holds, is_mapped, node_at, place, second_place, at_address, order_damages, pointer_damages, met, met_faults, wrong, MapRange, NodePointer, Tree, nodes_in-append, holds_bounds, mapped_at, breaks, mapped_breaks, unmapped_breaks, HoldsNodeOf}
+use Rattle.volume_state.proofs.Imports.{◌≡◌, ⊎_elim, inl, inr, ℕ, zero, suc, ◌+◌, ◌-◌, ◌*◌, ◌/◌, ◌%◌, ◌<◌, eqb, Bool, true, false, ◌&&◌, List, [], ◌∷◌, ◌++◌, Contains, Option, Some, None, is_some, refl, sym, ◌∙◌, ap, subst, arith, append_assoc, true≢false, if◌then◌else◌, option_map, and_parts, nat_tests, append-nil, All-cons, All-head, All-nil, All-tail, Image, BtrRefusal, none_left, none_right, AreInBlocks, IsInBlocks, chunk_in, range_of, with_chunk, with_items, ChunkAt, TreeEvent, TreeItem, items_in_events, leaf_events, may_be_bare, node, node_events, nodes_in, unless_damaged, are_mapped, block_of_place, blocks_at, holds, is_mapped, node_at, place, second_place, at_address, order_damages, pointer_damages, met, met_faults, wrong, MapRange, NodePointer, Tree, holds_bounds, mapped_at, HoldsNodeOf}
+use Rattle.std.specs.List.{All, flat_map}
+use Rattle.reiser_bitmap.specs.refusals.declared.rule.BtrRule.{BtrRule}
+use Rattle.reiser_bitmap.specs.refusals.declared.rule.BtrRule.TheVariants.{Unmapped}
+use Rattle.btr_node.specs.Inner.{children_in}
+use Rattle.btr_node.specs.Leaf.{items_in}
+use Rattle.btr_node.specs.declared.child.Child.{Child}
+use Rattle.btr_reader_walk.proofs.Events.{nodes_in-append}
+use Rattle.btr_reader_walk.proofs.Walking.{breaks, mapped_breaks, unmapped_breaks}
 use Rattle.btr_node.specs.NodeSize.{IsNodeSize}
 use Rattle.btr_reader_walk.proofs.Subtrees.{to}
-use Rattle.volume_state.proofs.Faults.{none_broken}
 use Rattle.volume_state.proofs.Lying.{held_so}
 use Rattle.volume_state.proofs.Placed.{no_some}
+
+none_broken : (address : ℕ) (rules : List BtrRule) → at_address address rules ≡ [] → rules ≡ []
+none_broken address [] is = refl
+none_broken address (rule ∷ rules) is = absurd (cc is)
 
 -- ---- places
 place_first : (early late : List MapRange) (a p : ℕ) → place early a ≡ Some p → place (early ++ late) a ≡ Some p
@@ -171,7 +182,7 @@ module _ (image : Image) (early late : List MapRange) where
     all_in [] sound = All-nil IsIn
     all_in (p ∷ ps) sound =
         let faults : NodePointer → List BtrRefusal = pointer_damages image early t.form t.owner (may_be_bare t.root) in
-        All-cons IsIn p ps (mapped_of p (none_broken image early t p.address (breaks image early t p) (none_left (faults p) (flat_map faults ps) sound))) (all_in ps (none_right (faults p) (flat_map faults ps) sound))
+        All-cons IsIn p ps (mapped_of p (none_broken p.address (breaks image early t p) (none_left (faults p) (flat_map faults ps) sound))) (all_in ps (none_right (faults p) (flat_map faults ps) sound))
 
     module _ (sound : wrong image early t ≡ []) where
       none_met : met_faults image early t (met image early t) ≡ []

@@ -1,7 +1,6 @@
 pub mod Extents
 pub mod Laws
 pub mod Moved
-pub mod Nodes
 pub mod Reserved
 pub mod Saved
 pub mod GoingBack

@@ -87,12 +87,15 @@ pub fn read_way<S: BlockSource>(
     ensures reads { OverTold S.tells (S.blocks src.old) (λ image. IsVolumeOn image volume.now → MatchResult result (λ way. ReadsImage volume.now.ranges.items (saved_image image volume.now.sup volume.now.ranges.items) (image_refusals image volume.now.sup volume.now.ranges.items) (Ok way.map)) (IsAmong (image_refusals image volume.now.sup volume.now.ranges.items))) }
     ensures reserved { OverTold S.tells (S.blocks src.old) (λ image. IsVolumeOn image volume.now → IfOk result (λ way. TellsReserved (IsInUse image) way.reserved.blocks way.reserved.used)) }
 {
-    read_way_for(
-        alloc,
-        volume,
-        src,
-        (volume.sup.total_bytes / 65536) * 16 + 15,
-    )
+    read_way_for(alloc, volume, src, old_blocks(volume.sup.total_bytes))
+}
+
+/// A conversion makes a Btrfs volume of whole stripes, `BTRFS_STRIPE_LEN`: so many blocks each.
+const STRIPE_BLOCKS: u64 = 16;
+
+/// The most blocks of an old volume of which a conversion makes a Btrfs volume of so many bytes.
+fn old_blocks(total_bytes: u64) -> u64 {
+    total_bytes / (4096 * STRIPE_BLOCKS) * STRIPE_BLOCKS + (STRIPE_BLOCKS - 1)
 }
 
 /// The same, where the old volume is taken to have so many blocks.
@@ -117,7 +120,7 @@ fn read_way_for<S: BlockSource>(
     let used = reserved_root(alloc, volume, src, blocks)?;
     let files = read_files(alloc, volume, src, blocks)?;
     Ok(Way {
-        map: files.map,
+        map: files.found,
         reserved: Reserved {
             blocks,
             used: used.or(files.used),
@@ -145,10 +148,10 @@ fn reserved_root<S: BlockSource>(
     reserved_node(alloc, src, &volume.root_tree(), ranges, blocks)
 }
 
-/// The map of the saved image, if it is there, and a reserved block that the trees on the way to it use.
+/// What was sought, if it is there, and a reserved block that is used by the trees that were read for it.
 #[derive(Drop)]
-struct Files {
-    map: Option<ImageMap>,
+struct Sought<T> {
+    found: Option<T>,
     used: Option<BlockNo>,
 }
 
@@ -159,44 +162,37 @@ fn read_files<S: BlockSource>(
     volume: &Btrfs,
     src: &mut S,
     blocks: u64,
-) -> Result<Files, BtrAnswer>
+) -> Result<Sought<ImageMap>, BtrAnswer>
     requires inside { LieOn (S.size src.old) volume.now.ranges.items }
     ensures kept { S.kept src.old src.new }
     ensures cause { HasCauseOf BtrAnswer.Fault (S.faults src.old) (S.faults src.new) result }
     ensures known { IfErr result NamesNoLogTree }
-    ensures device { IfOk result (λ files. IfSome files.map (λ m. m.device ≡ volume.now.device)) }
+    ensures device { IfOk result (λ files. IfSome files.found (λ m. m.device ≡ volume.now.device)) }
     ensures reads { OverTold S.tells (S.blocks src.old) (λ image. IsVolumeOn image volume.now → IsMapApart volume.now.ranges.items →
-        MatchResult result (λ files. ReadsImage volume.now.ranges.items (saved_image image volume.now.sup volume.now.ranges.items) (image_refusals image volume.now.sup volume.now.ranges.items) (Ok files.map))
+        MatchResult result (λ files. ReadsImage volume.now.ranges.items (saved_image image volume.now.sup volume.now.ranges.items) (image_refusals image volume.now.sup volume.now.ranges.items) (Ok files.found))
         (IsAmong (image_refusals image volume.now.sup volume.now.ranges.items))) }
     ensures used { OverTold S.tells (S.blocks src.old) (λ image. IsVolumeOn image volume.now → IsMapApart volume.now.ranges.items → IfOk result (λ files. TellsReserved (IsInFiles image) blocks files.used)) }
 {
     let file = match volume.find_tree(FS_TREE)? {
         Some(file) => file,
-        None => return Ok(Files {
-            map: None,
+        None => return Ok(Sought {
+            found: None,
             used: None,
         }),
     };
     let own = note_file(alloc, volume, src, file, blocks)?;
-    let saved = match own.saved {
+    let saved = match own.found {
         Some(saved) => saved,
-        None => return Ok(Files {
-            map: None,
+        None => return Ok(Sought {
+            found: None,
             used: own.used,
         }),
     };
     let other = note_saved(alloc, volume, src, saved, blocks)?;
-    Ok(Files {
-        map: other.map,
+    Ok(Sought {
+        found: other.found,
         used: own.used.or(other.used),
     })
-}
-
-/// The tree of the saved image, if it is there, and a reserved block that the file tree uses.
-#[derive(Drop)]
-struct FileNotes {
-    saved: Option<Tree>,
-    used: Option<BlockNo>,
 }
 
 /// The tree that the file tree names, and a block that is reserved on a volume of so many blocks in which a part of the file tree lies.
@@ -206,15 +202,15 @@ fn note_file<S: BlockSource>(
     src: &mut S,
     file: Tree,
     blocks: u64,
-) -> Result<FileNotes, BtrAnswer>
+) -> Result<Sought<Tree>, BtrAnswer>
     requires walkable { IsWalkable file }
     requires inside { LieOn (S.size src.old) volume.now.ranges.items }
     ensures kept { S.kept src.old src.new }
     ensures cause { HasCauseOf BtrAnswer.Fault (S.faults src.old) (S.faults src.new) result }
     ensures known { IfErr result NamesNoLogTree }
-    ensures walkable { IfOk result (λ notes. IfSome notes.saved IsWalkable) }
+    ensures walkable { IfOk result (λ notes. IfSome notes.found IsWalkable) }
     ensures finds { OverTold S.tells (S.blocks src.old) (λ image. IsMapApart volume.now.ranges.items → (roots : List TreeItem) → HasRoots volume.now.roots roots →
-        MatchResult result (λ notes. FindsSaved volume.now.sup roots (entry_refusals image volume.now.ranges.items file) (found image volume.now.ranges.items file) (Ok notes.saved))
+        MatchResult result (λ notes. FindsSaved volume.now.sup roots (entry_refusals image volume.now.ranges.items file) (found image volume.now.ranges.items file) (Ok notes.found))
         (λ e. FindsSaved volume.now.sup roots (entry_refusals image volume.now.ranges.items file) (found image volume.now.ranges.items file) (Err e))) }
     ensures used { OverTold S.tells (S.blocks src.old) (λ image. IsMapApart volume.now.ranges.items → IfOk result (λ notes. TellsReserved (HoldsPartOf image volume.now.ranges.items file) blocks notes.used)) }
 {
@@ -222,8 +218,8 @@ fn note_file<S: BlockSource>(
     let node = reserved_node(alloc, src, &file, ranges, blocks)?;
     let mut extent = ReservedExtent::new(ranges, blocks);
     let saved = volume.saved_tree(alloc, src, file, &mut extent)?;
-    Ok(FileNotes {
-        saved,
+    Ok(Sought {
+        found: saved,
         used: node.or(extent.found),
     })
 }
@@ -236,15 +232,15 @@ fn note_saved<S: BlockSource>(
     src: &mut S,
     tree: Tree,
     blocks: u64,
-) -> Result<Files, BtrAnswer>
+) -> Result<Sought<ImageMap>, BtrAnswer>
     requires walkable { IsWalkable tree }
     requires inside { LieOn (S.size src.old) volume.now.ranges.items }
     ensures kept { S.kept src.old src.new }
     ensures cause { HasCauseOf BtrAnswer.Fault (S.faults src.old) (S.faults src.new) result }
     ensures known { IfErr result NamesNoLogTree }
-    ensures device { IfOk result (λ files. IfSome files.map (λ m. m.device ≡ volume.now.device)) }
+    ensures device { IfOk result (λ files. IfSome files.found (λ m. m.device ≡ volume.now.device)) }
     ensures reads { OverTold S.tells (S.blocks src.old) (λ image. IsMapApart volume.now.ranges.items →
-        MatchResult result (λ files. ReadsImage volume.now.ranges.items (image_in (found image volume.now.ranges.items tree)) (saved_refusals image volume.now.ranges.items tree) (Ok files.map))
+        MatchResult result (λ files. ReadsImage volume.now.ranges.items (image_in (found image volume.now.ranges.items tree)) (saved_refusals image volume.now.ranges.items tree) (Ok files.found))
         (IsAmong (saved_refusals image volume.now.ranges.items tree))) }
     ensures used { OverTold S.tells (S.blocks src.old) (λ image. IsMapApart volume.now.ranges.items → IfOk result (λ files. TellsReserved (HoldsPartOf image volume.now.ranges.items tree) blocks files.used)) }
 {
@@ -252,8 +248,8 @@ fn note_saved<S: BlockSource>(
     let node = reserved_node(alloc, src, &tree, ranges, blocks)?;
     let mut extent = ReservedExtent::new(ranges, blocks);
     let map = volume.read_saved(alloc, src, tree, &mut extent)?;
-    Ok(Files {
-        map,
+    Ok(Sought {
+        found: map,
         used: node.or(extent.found),
     })
 }

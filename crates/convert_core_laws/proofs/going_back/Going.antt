@@ -1,5 +1,5 @@
 -- A converted volume can be turned back.
-use Rattle.convert_core_laws.proofs.Imports.{◌≡◌, ℕ, ◌*◌, ◌/◌, Bool, true, false, List, length, Option, Some, None, sym, ap, subst, ◌∙◌, arith, Image, IsReserved, is_reserved, Ids, ImageFile, image_in, saved_image, own_map, own_super, AreUnreserved, Super, found, IsMaking, Making, TreeRoots, blocks_inside, NewIdsFit, ChunksMap, ConvertedIsReadable, IsReadableWithTrees, IsNewVolume, used_inside, EntriesAreThere, IsSpareFree, ConvertedVolumesOpen, OpensAsBefore, has, used_length, IsSameVolume, UsedBlocksDecide, superblock, used_of, NamesKeepRules, image_blocks, saved_place, IsInUse, IsReservedFree, ConvertedReservedAreSound, recount_for, TreeNode, blocks_are, Options, SavedImage}
+use Rattle.convert_core_laws.proofs.Imports.{◌≡◌, ℕ, ◌*◌, ◌/◌, Bool, true, false, List, length, Option, Some, None, sym, ap, subst, ◌∙◌, arith, Image, IsReserved, is_reserved, Ids, ImageFile, image_in, saved_image, own_map, own_super, KeepsReserved, Super, found, IsMaking, Making, TreeRoots, blocks_inside, NewIdsFit, ChunksMap, ConvertedIsReadable, IsReadableWithTrees, IsNewVolume, used_inside, EntriesAreThere, IsSpareFree, ConvertedVolumesOpen, OpensAsBefore, has, used_length, IsSameVolume, UsedBlocksDecide, superblock, used_of, NamesKeepRules, image_blocks, saved_place, IsInUse, IsReservedFree, ConvertedReservedAreSound, recount_for, TreeNode, blocks_are, Options, SavedImage}
 use Rattle.reiser_volume.specs.reiser_volume_contents.Laws.{SameUsed}
 use Rattle.reiser_volume.specs.reiser_super.declared.superblock.Super.{Super as OldSuper}
 use Rattle.volume_state.specs.Moved.{AreInPlace}
@@ -46,7 +46,7 @@ module _ (o : Options) (ids : Ids) (now : ℕ) (image other : Image) (m : Making
       let inside = used_inside (used_of image) (λ n. None) b t in
       block_is other file saved b at.0 (omega (arith, inside, volume_is, long)) at.1 ∙ at.2
 
-  module _ (maps : ChunksMap) (readable : ConvertedIsReadable) (entries : EntriesAreThere) (names : NamesKeepRules) (sound : AreUnreserved (recount_for image other m r nodes)) where
+  module _ (maps : ChunksMap) (readable : ConvertedIsReadable) (entries : EntriesAreThere) (names : NamesKeepRules) (sound : (at : ℕ) → KeepsReserved (recount_for image other m r nodes) at) where
     is : IsReadableWithTrees image other m r nodes
     is = readable o ids now image other m r nodes v
 

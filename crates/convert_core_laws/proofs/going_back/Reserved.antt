@@ -1,5 +1,5 @@
 -- No part of a converted volume lies in a reserved block.
-use Rattle.convert_core_laws.proofs.Imports.{◌≡◌, ◌≤◌, ◌<◌, ℕ, ◌+◌, ◌-◌, ◌*◌, ◌/◌, eqb, Bool, true, false, List, [], ◌∷◌, ◌++◌, length, map, Option, None, Some, refl, sym, ap, subst, ◌∙◌, ⊎_elim, arith, Contains, if◌then◌else◌, map-append, Contains-permutation, IsPermutation-sym, map-map, IsPermutation, EXTENT_DATA, CHUNK_TREE, CONV_IMAGE_SUBVOL, FS_TREE, ROOT_TREE, in_map, Image, IsReserved, Ids, DiskRange, Item, IsNodeSize, range_of, boot_list, chunk_map, chunk_tree, form_of, root_tree, tree_of, own_map, own_super, ChunkAt, AreUnreserved, IsExtent, a_node, node_kind, Recount, Span, TreeOn, all_trees, Super, GivesItself, Root, TreeItem, nodes_in, walk_events, holds, place, second_place, bare_item, found, MapRange, Form, NodePointer, Tree, IsMaking, Making, chunk_slots, new_ids, TreesStand, file_tree_items, form, image_tree_items, root_tree_items, TreeRoots, piece_apart, new_super, IsReadableWithTrees, MapsChunks, IsNewVolume, boot_part, chunk_at, map_for, other_part, range_for, super_for, boot_map, all_from_contains, contains_cases, used_of, HasPlace, HoldsExtent, HoldsNodeOf, HoldsPartOf, IsInUse, chunk_node, file_part, file_trees, root_node, recount_for, tree_for, chunk_items, TreeNode, blocks_are, pointer_to_root, Options, PlannedChunk, Piece, Files, SavedImage}
+use Rattle.convert_core_laws.proofs.Imports.{◌≡◌, ◌≤◌, ◌<◌, ℕ, ◌+◌, ◌-◌, ◌*◌, ◌/◌, eqb, Bool, true, false, List, [], ◌∷◌, ◌++◌, length, map, Option, None, Some, refl, sym, ap, subst, ◌∙◌, ⊎_elim, arith, Contains, if◌then◌else◌, map-append, Contains-permutation, IsPermutation-sym, map-map, IsPermutation, EXTENT_DATA, CHUNK_TREE, CONV_IMAGE_SUBVOL, FS_TREE, ROOT_TREE, in_map, Image, IsReserved, Ids, DiskRange, Item, IsNodeSize, range_of, boot_list, chunk_map, chunk_tree, form_of, root_tree, tree_of, own_map, own_super, ChunkAt, KeepsReserved, IsExtent, a_node, node_kind, Recount, Span, TreeOn, all_trees, Super, GivesItself, Root, TreeItem, nodes_in, walk_events, holds, place, second_place, bare_item, found, MapRange, Form, NodePointer, Tree, IsMaking, Making, chunk_slots, new_ids, TreesStand, file_tree_items, form, image_tree_items, root_tree_items, TreeRoots, piece_apart, new_super, IsReadableWithTrees, MapsChunks, IsNewVolume, boot_part, chunk_at, map_for, other_part, range_for, super_for, boot_map, all_from_contains, contains_cases, used_of, HasPlace, HoldsExtent, HoldsNodeOf, HoldsPartOf, IsInUse, chunk_node, file_part, file_trees, root_node, recount_for, tree_for, chunk_items, TreeNode, blocks_are, pointer_to_root, Options, PlannedChunk, Piece, Files, SavedImage}
 use Rattle.convert_core_laws.proofs.reading.Mapped.{boot_nodes}
 use Rattle.convert_core_laws.proofs.reading.Superblock.{size}
 use Rattle.convert_core_laws.proofs.soundness.Nodes.{chunk_at as chunk_nodes_at, met as met_by, packed_at}
@@ -40,7 +40,7 @@ module _ (m : Making) (r : TreeRoots) (nodes : List TreeNode) where
   root_tree_is = refl
 
 module _ (o : Options) (ids : Ids) (now : ℕ) (image other : Image) (m : Making) (r : TreeRoots) (nodes : List TreeNode) (v : IsNewVolume o ids now image other m r nodes) (maps : MapsChunks other m r nodes)
-    (is : IsReadableWithTrees image other m r nodes) (sound : AreUnreserved (recount_for image other m r nodes)) where
+    (is : IsReadableWithTrees image other m r nodes) (sound : (at : ℕ) → KeepsReserved (recount_for image other m r nodes) at) where
   abbrev making : IsMaking image m
   making = v.new.conversion.making
 
@@ -72,7 +72,7 @@ module _ (o : Options) (ids : Ids) (now : ℕ) (image other : Image) (m : Making
 
   extent_free : (span : Span) (kind a p : ℕ) → IsExtent k span kind → span.start ≤ a → a < span.start + span.length → place (map_for m.chunks) a ≡ Some p → ¬ IsReserved (p / 4096) volume
   extent_free span kind a p extent low high there reserved =
-      sound span kind a p extent low high (ap (λ (rs : List MapRange). place rs a) map_is ∙ there) (subst (λ (n : ℕ). IsReserved (p / 4096) n) (sym volume_is) reserved)
+      (sound span.start).first span kind a p refl extent low high (ap (λ (rs : List MapRange). place rs a) map_is ∙ there) (subst (λ (n : ℕ). IsReserved (p / 4096) n) (sym volume_is) reserved)
 
   -- by either copy: there is one alone
   only_own : (a p : ℕ) → HasPlace (own_map other) a p → place (own_map other) a ≡ Some p

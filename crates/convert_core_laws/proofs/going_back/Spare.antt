@@ -1,6 +1,5 @@
 -- Where no block in use is reserved, no part of a volume lies in a reserved block but for the superblock.
-use Rattle.convert_core_laws.proofs.Imports.{◌≡◌, ◌<◌, ℕ, ◌+◌, ◌*◌, ◌/◌, eqb, inl, inr, ◌&&◌, not, Bool, true, false, List, ◌∷◌, ◌++◌, length, get_or, Option, Some, None, refl, sym, ap, subst, ◌∙◌, arith, Contains, if◌then◌else◌, option_and_then, and_parts, get_or_default, FS_TREE, from_filter, Image, IsReserved, is_reserved, decides_reserved, is_extent_of, ContentValue, FileExtentValue, Inline, Prealloc, Regular, file_extent_of, ImageFile, image_place, saved_image, chunk_tree, root_tree, tree_of, own_map, own_super, Super, TreeItem, nodes_in, place, found, met, MapRange, NodePointer, Tree, AreExtentsApart, AreNodesApart, IsVolumeApart, boot_map, is_spare, is_spare_in, IsApart, IsContentApart, root_of, saved_tree, HoldsExtent, HoldsNodeOf, HoldsPartOf, IsInUse, chunk_node, content_range, file_part, file_trees, named_by, root_node, tree_if, LieIn, item_range}
-use Rattle.volume_state.specs.Using.{numbered}
+use Rattle.convert_core_laws.proofs.Imports.{◌≡◌, ℕ, ◌/◌, eqb, inl, inr, ◌&&◌, not, Bool, true, false, List, Some, refl, ap, ◌∙◌, Contains, FS_TREE, Image, IsReserved, is_reserved, decides_reserved, ImageFile, image_place, saved_image, chunk_tree, root_tree, tree_of, own_map, own_super, Super, found, MapRange, Tree, AreExtentsApart, AreNodesApart, IsVolumeApart, boot_map, is_spare, is_spare_in, HoldsPartOf, IsInUse, chunk_node, file_part, file_trees, root_node}
 use Rattle.volume_state.proofs.Apart.{extents_apart, file_tree_among, nodes_apart, saved_tree_among}
 
 module _ (disk : Image) (blocks : ℕ) (total : (own_super disk).total_bytes / 4096 ≡ blocks) (free : (b : ℕ) → IsInUse disk b → ¬ IsReserved b blocks)

@@ -1,11 +1,11 @@
 -- The chunks of a converted volume are read as they were written.
-use Rattle.convert_core_laws.proofs.Imports.{◌≡◌, ◌≢◌, ◌⊎◌, ◌≤◌, ◌<◌, ℕ, suc, ◌+◌, ◌*◌, ◌%◌, ◌^◌, inl, inr, ◌&&◌, eqb, Bool, true, false, not, cond, List, [], ◌∷◌, ◌++◌, length, map, filter, max, min, Option, Some, None, refl, sym, ap, subst, ◌∙◌, ⊎_elim, arith, append_assoc, AllPairs, Contains, if◌then◌else◌, nat_eq, AllByRecursion, flat_map, list_any, option_map, and_from, cases_Bool, eq-eqb, le-leb, le-ltb, ne_eqb, or_left, or_right, append-nil, map-append, Contains-append_cases, flat_map-map, CHUNK_ITEM, DEV_ITEM, DEV_ITEMS_OBJECTID, FIRST_CHUNK_TREE_OBJECTID, BtrRefusal, BadBtrfs, Unsupported, ChunkForm, ChunkType, Ids, refused_unless, make_key, Key, Item, device_bytes, chunk_made, TreeItem, bare_item, MapRange, beside_refusals, chunk_in, chunk_item_refusals, chunk_refusals, chunks_refusals, is_read_kind, items_refusals, lies_on, new_chunk, overlap, same_body, same_chunk, same_mirror, same_stripe, stripes_of, with_chunk, with_items, FitsArray, array_entry, ChunkAt, is_system_role, record_bytes, contains_cases, contains_head, contains_tail, chunk_body, chunk_item, chunk_items, chunk_kind, device_body, PlannedChunk, Role, System, Metadata, Data, chunk_at, range_for}
+use Rattle.convert_core_laws.proofs.Imports.{◌≡◌, ◌≢◌, ◌⊎◌, ◌≤◌, ◌<◌, ℕ, suc, ◌+◌, ◌*◌, ◌%◌, ◌^◌, inl, inr, ◌&&◌, eqb, Bool, true, false, not, cond, List, [], ◌∷◌, ◌++◌, length, map, filter, max, min, Option, Some, None, refl, sym, ap, subst, ◌∙◌, ⊎_elim, arith, append_assoc, AllPairs, Contains, if◌then◌else◌, nat_eq, AllByRecursion, flat_map, list_any, option_map, and_from, cases_Bool, eq-eqb, le-leb, le-ltb, ne_eqb, or_left, or_right, append-nil, map-append, Contains-append_cases, flat_map-map, CHUNK_ITEM, DEV_ITEM, DEV_ITEMS_OBJECTID, FIRST_CHUNK_TREE_OBJECTID, BtrRefusal, BadBtrfs, Unsupported, ChunkForm, ChunkType, Ids, refused_unless, make_key, Key, Item, device_bytes, chunk_made, TreeItem, bare_item, MapRange, beside_refusals, chunk_in, chunk_item_refusals, chunk_refusals, chunks_refusals, is_read_kind, items_refusals, lies_on, new_chunk, overlap, same_body, same_chunk, same_mirror, same_stripe, with_chunk, with_items, FitsArray, array_entry, ChunkAt, is_system_role, record_bytes, contains_cases, contains_head, contains_tail, chunk_body, chunk_item, chunk_items, chunk_kind, device_body, PlannedChunk, Role, System, Metadata, Data, chunk_at, range_for, Stripe}
 use Rattle.std.specs.Prelude.{nat_lt}
+use Rattle.btr_reader.specs.Chunks.{stripes_of}
 use Rattle.std.specs.Cmp.Lexicographic.{pointwise}
 use Rattle.btr_reader.specs.btr_space_items.Chunk.{chunk_bytes, chunk_layout}
 use Rattle.btr_reader.specs.btr_space_items.Stripe.{stripe_layout}
 use Rattle.btr_reader.specs.btr_space_items.declared.chunk.Chunk.{Chunk}
-use Rattle.btr_reader.specs.btr_space_items.declared.stripe.Stripe.{Stripe}
 
 -- ---- the bootstrap array
 

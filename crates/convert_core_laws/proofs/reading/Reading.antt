@@ -1,5 +1,5 @@
 -- The trees of a converted volume are read, and it is readable.
-use Rattle.convert_core_laws.proofs.Imports.{◌≡◌, ◌⊎◌, ◌≤◌, ◌<◌, ℕ, ◌^◌, ◌-◌, inl, inr, List, [], ◌∷◌, map, drop, length, Option, Some, None, Ok, Err, sym, ap, subst, ◌∙◌, ⊎_elim, arith, length-drop, Contains, All, All-drop, SUPER_BLOCK, CONV_IMAGE_SUBVOL, EXTENT_TREE, FIRST_FREE_OBJECTID, FS_TREE, Image, block_at, BtrRefusal, Ids, has_root, BreaksNames, Item, chunk_map, opening_refusals, tree_of, own_map, own_super, pointer_of, root_item, BreaksExtents, IsFileTreeRefusal, roots_on, no_root_item, bad_root_item, bad_tree, bad_names, bad_extents, Super, super_refusals, unless_refused, super_of, super_in, Root, TreeItem, bare_item, found, wrong, MapRange, NodePointer, IsMaking, Making, new_ids, saved_index, slots, TreesStand, extents_from, file_tree_items, form, root_tree_items, TreeRoots, NamedTree, named_trees, all_from_contains, extent_items, tree_root_item as item_of_root, TreeNode, TreeRoot, TreeStands, pointer_to_root, Options, ConvertedIsReadable, IsReadableWithTrees, OpensWithTrees, TreesRead, AreRangesFor, GivesItsOwn, IsNewVolume, ReadsTree, ReadsTrees, map_for, super_for, Files, SavedImage, tree_number}
+use Rattle.convert_core_laws.proofs.Imports.{◌≡◌, ◌⊎◌, ◌≤◌, ◌<◌, ℕ, ◌^◌, inl, inr, List, [], ◌∷◌, map, drop, length, Option, Some, None, Ok, Err, sym, ap, subst, ◌∙◌, ⊎_elim, arith, length-drop, Contains, All, All-drop, SUPER_BLOCK, CONV_IMAGE_SUBVOL, EXTENT_TREE, FIRST_FREE_OBJECTID, FS_TREE, Image, block_at, BtrRefusal, Ids, has_root, BreaksNames, Item, chunk_map, opening_refusals, tree_of, own_map, own_super, pointer_of, root_item, BreaksExtents, IsFileTreeRefusal, roots_on, no_root_item, bad_root_item, bad_tree, bad_names, bad_extents, Super, super_refusals, unless_refused, super_of, super_in, Root, TreeItem, bare_item, found, wrong, MapRange, NodePointer, IsMaking, Making, new_ids, saved_index, slots, TreesStand, extents_from, file_tree_items, form, root_tree_items, TreeRoots, NamedTree, named_trees, all_from_contains, extent_items, tree_root_item as item_of_root, TreeNode, TreeRoot, TreeStands, pointer_to_root, Options, ConvertedIsReadable, IsReadableWithTrees, OpensWithTrees, TreesRead, AreRangesFor, GivesItsOwn, IsNewVolume, ReadsTree, ReadsTrees, map_for, super_for, Files, SavedImage, tree_number}
 use Rattle.convert_core.specs.convert_steps.Standing.{items_of}
 use Rattle.convert_core_laws.proofs.reading.Mapped.{slot_small}
 use Rattle.convert_core_laws.proofs.reading.Numbers.{size_small, slots_few}
@@ -63,23 +63,27 @@ module _ (o : Options) (ids : Ids) (now : ℕ) (image other : Image) (m : Making
   abbrev ranges : List MapRange
   ranges = map_for m.chunks
 
-  -- a tree whose root item is found
-  read_tree : (number k : ℕ) (root : Root) (items : List Item) → TreeStands other (form m) number (drop k (slots m)) items root
-      → IsFoundRoot number (roots_on other (super_for m r nodes) (map_for m.chunks)) (item_of_root (new_ids m) m.options.nodesize (record { tree = number; root = root }))
-      → ReadsTree other (super_for m r nodes) (map_for m.chunks) number root items
-  read_tree number k root items stands at =
+  -- a root item leads to the root of its tree
+  pub root_leads : (number k : ℕ) (root : Root) (items : List Item) → TreeStands other (form m) number (drop k (slots m)) items root
+      → pointer_of (item_of_root (new_ids m) m.options.nodesize (record { tree = number; root = root })).1 ≡ Some (pointer_to_root root)
+  root_leads number k root items stands =
       let fit = size o ids now image other m r nodes v in
       let own : TreeRoot = record { tree = number; root = root } in
       let low : root.level ≤ 6 = root_low other (form m) number (drop k (slots m)) items root stands fit (let few = slots_few image m making fit in let long = length-drop k (slots m) in omega (arith, few, long)) in
       let small : root.address < 2 ^ 41 = root_at other (form m) number (drop k (slots m)) items root stands (λ (a : ℕ). a < 2 ^ 41) (All-drop (λ (a : ℕ). a < 2 ^ 41) k (slots m) (all_from_contains (λ (a : ℕ). a < 2 ^ 41) (slots m) (slot_small image m making fit))) in
       let few : root.nodes ≤ 2 ^ 40 = (let all = slots_few image m making fit in let long = length-drop k (slots m) in let fits = stands.few in omega (arith, all, long, fits)) in
+      leads (new_ids m) m.options.nodesize own v.ids_ (size_small m.options.nodesize fit) (omega (arith, small)) (omega (arith, low)) few
+
+  -- a tree whose root item is found
+  read_tree : (number k : ℕ) (root : Root) (items : List Item) → TreeStands other (form m) number (drop k (slots m)) items root
+      → IsFoundRoot number (roots_on other (super_for m r nodes) (map_for m.chunks)) (item_of_root (new_ids m) m.options.nodesize (record { tree = number; root = root }))
+      → ReadsTree other (super_for m r nodes) (map_for m.chunks) number root items
+  read_tree number k root items stands at =
       let read = later_read o ids now image other m r nodes v number k items root stands in
       record {
         item = at.item;
         has_item = at.has;
-        leads =
-            ap (λ (i : Item). pointer_of i.1) at.is
-            ∙ leads (new_ids m) m.options.nodesize own v.ids_ (size_small m.options.nodesize fit) (omega (arith, small)) (omega (arith, low)) few;
+        leads = ap (λ (i : Item). pointer_of i.1) at.is ∙ root_leads number k root items stands;
         sound = read.0;
         items_are = read.1;
       }
@@ -112,7 +116,7 @@ module _ (o : Options) (ids : Ids) (now : ℕ) (image other : Image) (m : Making
   pub opens : OpensWithTrees image other m r nodes
   opens = record { opened = opened o ids now image other m r nodes v; trees = all_read }
 
-  own_super_is : own_super other ≡ super_for m r nodes
+  pub own_super_is : own_super other ≡ super_for m r nodes
   own_super_is = super_is (block_at other SUPER_BLOCK) (length other) (super_for m r nodes) (super_reads o ids now image other m r nodes v)
 
   own_map_is : own_map other ≡ map_for m.chunks

@@ -1,5 +1,5 @@
 -- Each tree is found by its root item.
-use Rattle.convert_core_laws.proofs.Imports.{◌≡◌, ◌≤◌, ◌<◌, ℕ, ◌*◌, ◌^◌, ◌-◌, eqb, Bool, true, false, ◌&&◌, ◌||◌, List, [], ◌∷◌, length, map, replicate, Option, Some, None, refl, ap, ◌∙◌, arith, sym, if◌then◌else◌, codes, pos, list_any, option_and_then, option_map, le-ltb, or_left, or_right, w64, fits_signed_from_abs, mul-le, length-replicate, ROOT_BACKREF, ROOT_ITEM, ROOT_REF, CONV_IMAGE_SUBVOL, CSUM_TREE, DATA_RELOC_TREE, DEV_TREE, EXTENT_TREE, FS_TREE, ROOT_TREE_DIR_OBJECTID, DIRECTORY_MODE, Ids, inode_layout, key_layout, make_key, stamp_layout, has_root, is_root_of, Item, last_or, pointer_of, root_item, root_pointer as read_pointer, root_items_read_back, TreeItem, bare_item, TreeRoots, rooted_trees, AreIds, default_item, is_file_tree, root_body, root_dirid, root_items, tree_root_item as item_of_root, saved_ref, tree_uuid, TreeRoot, pointer_to_root, inode_item, inode_made, ref_item, Files, SavedImage, Relocation, Checksums, Devices, NewTree, tree_number}
+use Rattle.convert_core_laws.proofs.Imports.{◌≡◌, ◌≤◌, ◌<◌, ℕ, ◌*◌, ◌^◌, eqb, Bool, true, false, ◌&&◌, ◌||◌, List, [], ◌∷◌, length, map, replicate, Option, Some, None, refl, ap, ◌∙◌, arith, if◌then◌else◌, codes, pos, list_any, option_and_then, option_map, le-ltb, or_left, or_right, w64, fits_signed_from_abs, mul-le, length-replicate, ROOT_BACKREF, ROOT_ITEM, ROOT_REF, CONV_IMAGE_SUBVOL, CSUM_TREE, DATA_RELOC_TREE, DEV_TREE, EXTENT_TREE, FS_TREE, ROOT_TREE_DIR_OBJECTID, DIRECTORY_MODE, Ids, inode_layout, key_layout, make_key, stamp_layout, has_root, is_root_of, Item, last_or, pointer_of, root_item, root_pointer as read_pointer, root_items_read_back, TreeItem, bare_item, TreeRoots, rooted_trees, AreIds, default_item, is_file_tree, root_body, root_dirid, root_items, tree_root_item as item_of_root, saved_ref, tree_uuid, TreeRoot, pointer_to_root, inode_item, inode_made, ref_item, Files, SavedImage, Relocation, Checksums, Devices, NewTree, tree_number}
 use Rattle.btr_reader.specs.btr_space_items.RootItem.{root_item_bytes, root_item_layout, root_item_of}
 use Rattle.btr_reader.specs.btr_space_items.declared.root_item.RootItem.{RootItem}
 
@@ -110,28 +110,6 @@ named number (j ∷ items) i e = by (root_item number items) (named number items
     by None later is false t e = absurd (cc e)
     by (Some k) later is false t e = or_right (is_root_of number j) _ (later k is)
 
--- ---- which trees have a root item
-
--- it is told by the items without their leaves
-bare_roots : (number : ℕ) (items : List TreeItem) → has_root items number ≡ list_any (is_root number) (map bare_item items)
-bare_roots number [] = refl
-bare_roots number (i ∷ items) = ap (λ (b : Bool). is_root_of number i || b) (bare_roots number items)
-
--- those that are written have one
-numbers_are : (a b c d e f g : Bool) → (a || (b || (c || (d || (e || (f || false))))))
-    ≡ ((a && true) || ((b && true) || ((c && true) || ((c && false) || ((g && false) || ((g && false) || ((g && false) || ((d && true) || ((e && true) || ((e && false) || ((f && true) || false)))))))))))
-numbers_are true b c d e f g = refl
-numbers_are false true c d e f g = refl
-numbers_are false false true d e f g = refl
-numbers_are false false false true e f true = refl
-numbers_are false false false true e f false = refl
-numbers_are false false false false true f true = refl
-numbers_are false false false false true f false = refl
-numbers_are false false false false false true true = refl
-numbers_are false false false false false true false = refl
-numbers_are false false false false false false true = refl
-numbers_are false false false false false false false = refl
-
 module _ (r : TreeRoots) (index : ℕ) (ids : Ids) (now nodesize : ℕ) (items : List TreeItem) (are : map bare_item items ≡ root_items (rooted_trees r) index ids now nodesize) where
   found_in : (number : ℕ) (x : Item) → bare_root number (in_order r index ids now nodesize) ≡ Some x → IsFoundRoot number items x
   found_in number x e = find number items x (ap (bare_root number) (are ∙ order_is r index ids now nodesize) ∙ e)
@@ -146,10 +124,3 @@ module _ (r : TreeRoots) (index : ℕ) (ids : Ids) (now nodesize : ℕ) (items :
   tree_found Relocation = found_in DATA_RELOC_TREE _ refl
   tree_found Checksums = found_in CSUM_TREE _ refl
   tree_found Devices = found_in DEV_TREE _ refl
-
--- the trees that have a root item are those with these numbers
-pub numbers_named : (r : TreeRoots) (index : ℕ) (ids : Ids) (now nodesize : ℕ) (items : List TreeItem) → map bare_item items ≡ root_items (rooted_trees r) index ids now nodesize → (number : ℕ)
-    → list_any (λ (x : TreeRoot). eqb x.tree number) (rooted_trees r) ≡ has_root items number
-numbers_named r index ids now nodesize items are number =
-    numbers_are (eqb 2 number) (eqb 4 number) (eqb 5 number) (eqb 7 number) (eqb 256 number) (eqb DATA_RELOC_TREE number) (eqb 6 number)
-    ∙ sym (bare_roots number items ∙ ap (list_any (is_root number)) are)

@@ -1,8 +1,7 @@
 -- The superblock of a converted volume reads back.
-use Rattle.convert_core_laws.proofs.Imports.{◌≡◌, ◌≤◌, ◌<◌, ℕ, ◌-◌, ◌*◌, ◌%◌, ◌^◌, ◌++◌, ◌&&◌, eqb, Bool, true, false, List, [], ◌∷◌, length, take, drop, replicate, Some, None, Ok, refl, sym, ap, subst, ◌∙◌, ⊎_elim, arith, length-append, length-drop, ◌+◌, if◌then◌else◌, bit_and, sum_by, eq-eqb, le-leb, length-replicate, length-take, All-drop, All-take, SUPER_BLOCK, BIG_METADATA, EXTENDED_IREF, MIXED_BACKREF, NO_HOLES, SKINNY_METADATA, METADATA_UUID, Image, BtrRefusal, Unsupported, DeviceCount, Incompat, NodeSize, SectorSize, Ids, IsNodeSize, device_layout, SumKind, bad_field, failing, field_rules, has_fields, is_node_size, super_of, unread_bits, csum_number, known_kind, super_bytes, super_layout, node_fsid, super_on, log_of, IsMaking, Making, chunk_slots, label_by, label_field, new_ids, slots, TreesStand, form, root_from, root_tree_items, used_bytes, TreeRoots, blocks_few, blocks_inside, blocks_some, boot_bytes, features, is_system_role, new_super, record_bytes, chunk_item, chunk_items, device_body, all_from_contains, AreIds, TreeNode, chunk_blocks_fit, boot_fits, PlannedChunk, Options, ReadsSuperblock, SuperblockReads, IsNewVolume, super_for, known-number, number-small}
+use Rattle.convert_core_laws.proofs.Imports.{◌≡◌, ◌≤◌, ◌<◌, ℕ, ◌-◌, ◌*◌, ◌%◌, ◌^◌, ◌++◌, ◌&&◌, eqb, Bool, true, false, List, [], ◌∷◌, length, take, drop, replicate, Some, None, Ok, refl, sym, ap, subst, ◌∙◌, ⊎_elim, arith, length-append, length-drop, ◌+◌, if◌then◌else◌, bit_and, sum_by, eq-eqb, le-leb, length-replicate, length-take, All-drop, All-take, SUPER_BLOCK, BIG_METADATA, EXTENDED_IREF, MIXED_BACKREF, NO_HOLES, SKINNY_METADATA, METADATA_UUID, Image, BtrRefusal, Unsupported, DeviceCount, Incompat, NodeSize, SectorSize, Ids, IsNodeSize, device_layout, SumKind, bad_field, failing, field_rules, has_fields, is_node_size, super_of, unread_bits, csum_number, known_kind, super_bytes, super_layout, node_fsid, super_on, log_of, IsMaking, Making, chunk_slots, label_by, label_field, new_ids, slots, TreesStand, form, root_from, root_tree_items, used_bytes, TreeRoots, blocks_few, blocks_inside, blocks_some, boot_bytes, features, is_system_role, new_super, record_bytes, chunk_item, chunk_items, device_body, all_from_contains, AreIds, TreeNode, chunk_blocks_fit, boot_fits, PlannedChunk, Options, ReadsSuperblock, SuperblockReads, IsNewVolume, super_for, known-number, number-small, length_record}
 use Rattle.btr_reader.proofs.btr_super.ReadBack.{supers_read_back}
 use Rattle.convert_core.specs.convert_steps.declared.fields.NewRoots.{NewRoots}
-use Rattle.convert_core.proofs.convert_steps.Booting.{length_record}
 use Rattle.convert_core_laws.proofs.reading.Mapped.{chunk_slot_small, slot_small}
 use Rattle.convert_core_laws.proofs.reading.Numbers.{chunk_slots_few, size_small, slots_few, used_small}
 use Rattle.convert_core_laws.proofs.reading.Stood.{root_at, root_low}

@@ -47,6 +47,10 @@ pub size_some : (n : ℕ) → IsNodeSize n → 1 ≤ n
 size_some n fit =
     ⊎_elim (λ (e : n ≡ 4096). omega (arith, e)) (λ rest. ⊎_elim (λ (e : n ≡ 8192). omega (arith, e)) (λ rest'. ⊎_elim (λ (e : n ≡ 16384). omega (arith, e)) (λ rest''. ⊎_elim (λ (e : n ≡ 32768). omega (arith, e)) (λ (e : n ≡ 65536). omega (arith, e)) rest'') rest') rest) fit
 
+pub size_big : (n : ℕ) → IsNodeSize n → 4096 ≤ n
+size_big n fit =
+    ⊎_elim (λ (e : n ≡ 4096). omega (arith, e)) (λ rest. ⊎_elim (λ (e : n ≡ 8192). omega (arith, e)) (λ rest'. ⊎_elim (λ (e : n ≡ 16384). omega (arith, e)) (λ rest''. ⊎_elim (λ (e : n ≡ 32768). omega (arith, e)) (λ (e : n ≡ 65536). omega (arith, e)) rest'') rest') rest) fit
+
 -- ranges by their numbers
 ends : (a b : Span) (s l t u : ℕ) → a ≡ record { start = s; length = l } → b ≡ record { start = t; length = u } → (s + l ≤ t) ⊎ (t + u ≤ s) → EndsBefore a b ⊎ EndsBefore b a
 ends a b s l t u is also apart =

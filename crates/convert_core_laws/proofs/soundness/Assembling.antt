@@ -1,8 +1,8 @@
 -- A tree has its names where its items tell the same ones in each way.
-use Rattle.convert_core_laws.proofs.Imports.{◌≡◌, ◌≢◌, ◌<◌, ℕ, ◌*◌, ◌==◌, true, false, cond, List, [], ◌∷◌, ◌++◌, map, filter, count_by, length, Some, refl, sym, ap, ap₂, subst, ◌∙◌, ⊎_elim, arith, All, AllByRecursion, IsPermutation, eqb-true, append-nil, map-append, IsPermutation-append, IsPermutation-refl, IsPermutation-trans, sum_by-IsPermutation, DIR_INDEX, DIR_ITEM, EXTENT_DATA, INODE_EXTREF, INODE_ITEM, INODE_REF, at_head, from_filter, head_or_tail, in_tail, inode_of, Inode, Item, AreTreeNames, AreOnForm, BackName, NamedEntry, IndexEntry, IsInode, IsThere, IsTreeEntry, back_name, directory_size, hashed_entries, index_entries, ref_name_count, names_inode_item, own_name, ref_names, TreeOn, of_kind, Climb, all_append, all_from_contains, all_in}
+use Rattle.convert_core_laws.proofs.Imports.{◌≡◌, ◌≢◌, ◌<◌, ℕ, ◌*◌, ◌==◌, true, false, cond, List, [], ◌∷◌, ◌++◌, map, filter, count_by, length, Some, refl, sym, ap, ap₂, subst, ◌∙◌, ⊎_elim, arith, All, All-from_recursion, AllByRecursion, IsPermutation, append-nil, map-append, IsPermutation-append, IsPermutation-refl, IsPermutation-trans, sum_by-IsPermutation, DIR_INDEX, DIR_ITEM, INODE_EXTREF, INODE_ITEM, INODE_REF, at_head, head_or_tail, in_tail, inode_of, Inode, Item, AreTreeNames, IsInode, IsTreeEntry, BackName, NamedEntry, IndexEntry, IsThere, back_name, hashed_entries, index_entries, names_inode_item, own_name, ref_names, IsOnForm, directory_size, ref_name_count, TreeOn, Climb, all_append, all_from_contains, all_in}
 use Rattle.std.proofs.Common.{flat_map, Contains, sum_by}
 use Rattle.convert_core_laws.proofs.soundness.NameLists.{flat_append, flat_kept, middle_swap}
-use Rattle.convert_core_laws.proofs.soundness.Telling.{IsOnForm, Told, far_of, hashed_of, if_kind, indexed_of, ref_of}
+use Rattle.convert_core_laws.proofs.soundness.Telling.{Told, far_of, hashed_of, if_kind, indexed_of, ref_of}
 
 abbrev pub entry_part : IndexEntry → NamedEntry
 entry_part e = e.entry
@@ -63,21 +63,8 @@ module _ (t : TreeOn) (indexes : List IndexEntry) (names : List BackName) (tells
   refs_told : IsPermutation names (ref_names t)
   refs_told = subst (IsPermutation names) (sym refs_are) tells.refs
 
-  of_form : (k : ℕ) (P : Item → Type 0) → ((i : Item) → i.0.kind ≡ k → IsOnForm i → P i) → All P (of_kind k t.items)
-  of_form k P to =
-      all_from_contains P (of_kind k t.items) (λ i h.
-      let kept = from_filter (λ (j : Item). j.0.kind == k) t.items i h in
-      to i (eqb-true i.0.kind k kept.1) (all_in IsOnForm t.items i tells.forms kept.0))
-
-  forms : AreOnForm t.items
-  forms = record {
-    inodes = of_form INODE_ITEM _ (λ i is form. form.inode is);
-    refs = of_form INODE_REF _ (λ i is form. form.refs is);
-    extrefs = of_form INODE_EXTREF _ (λ i is form. form.extrefs is);
-    hashed = of_form DIR_ITEM _ (λ i is form. form.hashed is);
-    indexed = of_form DIR_INDEX _ (λ i is form. form.indexed is);
-    extents = of_form EXTENT_DATA _ (λ i is form. form.extent is);
-  }
+  forms : All IsOnForm t.items
+  forms = All-from_recursion IsOnForm t.items tells.forms
 
   -- the letters of a directory
   pub size_is : (ino : ℕ) → directory_size t ino ≡ 2 * sum_by (λ e. length e.entry.name) (filter (λ e. e.entry.dir == ino) indexes)

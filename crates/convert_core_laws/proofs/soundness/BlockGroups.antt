@@ -1,5 +1,5 @@
 -- The block groups of a converted volume tell what its chunks hold.
-use Rattle.convert_core_laws.proofs.Imports.{◌≡◌, ◌≤◌, ℕ, ◌+◌, ◌*◌, ◌&&◌, Bool, cond, List, [], ◌∷◌, map, get_or, Some, refl, sym, ap, subst, ◌∙◌, ⊎_elim, arith, nat_le, nat_lt, All, AllPairs, Contains, flat_map, sum_by, All-map, sum_by-cons, FIRST_CHUNK_TREE_OBJECTID, from_map, in_map, Image, Ids, Item, IsNodeSize, AreBlockGroups, AreRanges, IsGroupOf, chunk_span, data_bytes_in, groups, node_bytes_in, bytes_used_in, IsData, Recount, Span, TreeOn, all_trees, is_within, ChunkAt, BlockGroup, NodePointer, IsMaking, Making, new_ids, TreeRoots, well, NewIdsFit, IsNewVolume, chunk_at, pairs_map, FilesAreHeld, sum_alike, sum_kept, sum_mapped, all_from_contains, contains_cases, chunk_kind, bytes_of_nodes, bytes_of_pieces, group_item, is_in_chunk, used_in as used_of_chunk, TreeNode, PlannedChunk, Options, Piece, ConvertedBlockGroupsAreSound, recount_for}
+use Rattle.convert_core_laws.proofs.Imports.{◌≡◌, ◌≤◌, ℕ, ◌+◌, ◌*◌, ◌&&◌, Bool, cond, List, [], ◌∷◌, map, get_or, Some, refl, sym, ap, subst, ◌∙◌, ⊎_elim, arith, nat_le, nat_lt, All, AllPairs, Contains, flat_map, sum_by, All-map, sum_by-cons, FIRST_CHUNK_TREE_OBJECTID, from_map, in_map, Image, Ids, Item, IsNodeSize, AreRanges, IsGroupOf, chunk_span, data_bytes_in, groups, node_bytes_in, bytes_used_in, KeepsBlockGroups, IsData, object_of, Recount, Span, TreeOn, all_trees, is_within, ChunkAt, BlockGroup, NodePointer, IsMaking, Making, new_ids, TreeRoots, well, NewIdsFit, IsNewVolume, chunk_at, pairs_map, FilesAreHeld, sum_alike, sum_kept, sum_mapped, all_from_contains, contains_cases, chunk_kind, bytes_of_nodes, bytes_of_pieces, group_item, is_in_chunk, used_in as used_of_chunk, TreeNode, PlannedChunk, Options, Piece, ConvertedBlockGroupsAreSound, recount_for, each_at}
 use Rattle.convert_core_laws.proofs.reading.Numbers.{used_small}
 use Rattle.convert_core_laws.proofs.soundness.AllUses.{data_is, span_of}
 use Rattle.convert_core_laws.proofs.soundness.Recounting.{nodesize_is, volume_for}
@@ -76,7 +76,7 @@ module _ (o : Options) (ids : Ids) (now : ℕ) (image other : Image) (m : Making
   abbrev group_of : PlannedChunk → Item
   group_of c = group_item (used_of_chunk m.pieces nodes m.options.nodesize c) c
 
-  is_group : (c : PlannedChunk) → Contains m.chunks c → IsGroupOf k spans (chunk_at (new_ids m) c) (group_of c)
+  is_group : (c : PlannedChunk) → Contains m.chunks c → IsGroupOf (bytes_used_in k spans (chunk_at (new_ids m) c)) (chunk_at (new_ids m) c) (group_of c)
   is_group c h =
       let part = part_of_sum (used_of_chunk m.pieces nodes m.options.nodesize) m.chunks c h in
       let whole = used_small image m making size other r nodes v.new.stands.trees in
@@ -86,21 +86,29 @@ module _ (o : Options) (ids : Ids) (now : ℕ) (image other : Image) (m : Making
             ∙ ap (λ (n : ℕ). let g : BlockGroup = record { used = n; chunk_objectid = FIRST_CHUNK_TREE_OBJECTID; flags = chunk_kind c.role } in Some g) (sym (used_is c));
       }
 
-  pub block_groups : AreBlockGroups k
-  block_groups = record {
+  -- an item is the block group of a chunk, and a chunk has its block group
+  abbrev IsSomeGroup : Item → Type 0
+  IsSomeGroup i = (c : ChunkAt) × Contains k.chunks c × IsGroupOf (bytes_used_in k spans c) c i
+
+  abbrev HasGroup : ChunkAt → Type 0
+  HasGroup c = (i : Item) × Contains (groups k) i × IsGroupOf (bytes_used_in k spans c) c i
+
+  pub keeps : (a : ℕ) → KeepsBlockGroups k a
+  keeps a = record {
     spans = spans;
     ranges = spans_are;
-    each = subst (All (λ i. (c : ChunkAt) × Contains k.chunks c × IsGroupOf k spans c i)) (sym (groups_are image other m r nodes))
-        (All-map (λ i. (c : ChunkAt) × Contains k.chunks c × IsGroupOf k spans c i) group_of m.chunks
-        (all_from_contains (λ (c : PlannedChunk). (d : ChunkAt) × Contains k.chunks d × IsGroupOf k spans d (group_of c)) m.chunks (λ c h. (chunk_at (new_ids m) c, chunk_there o ids now image other m r nodes v c h, is_group c h))));
-    whole = all_from_contains (λ (c : ChunkAt). (i : Item) × Contains (groups k) i × IsGroupOf k spans c i) k.chunks (λ c h.
-        let at = chunk_from o ids now image other m r nodes v c h in (
-          group_of at.0,
-          subst (λ (l : List Item). Contains l (group_of at.0)) (sym (groups_are image other m r nodes)) (in_map group_of m.chunks at.0 at.1),
-          subst (λ (d : ChunkAt). IsGroupOf k spans d (group_of at.0)) at.2 (is_group at.0 at.1),
-        ));
+    groups_are = record {
+      each = each_at object_of a IsSomeGroup (groups k)
+          (subst (All IsSomeGroup) (sym (groups_are image other m r nodes))
+          (All-map IsSomeGroup group_of m.chunks
+          (all_from_contains (λ (c : PlannedChunk). IsSomeGroup (group_of c)) m.chunks (λ c h. (chunk_at (new_ids m) c, chunk_there o ids now image other m r nodes v c h, is_group c h)))));
+      whole = each_at (λ (c : ChunkAt). c.logical) a HasGroup k.chunks (all_from_contains HasGroup k.chunks (λ c h.
+          let at = chunk_from o ids now image other m r nodes v c h in
+          subst HasGroup at.2
+          (group_of at.0, subst (λ (l : List Item). Contains l (group_of at.0)) (sym (groups_are image other m r nodes)) (in_map group_of m.chunks at.0 at.1), is_group at.0 at.1)));
+    };
   }
 
 pub converted_block_groups_are_sound : NewIdsFit → FilesAreHeld → ConvertedBlockGroupsAreSound
 converted_block_groups_are_sound fit held = λ o ids now image other m r nodes is size low are has bytes.
-    block_groups o ids now image other m r nodes (volume_for fit o ids now image other m r nodes is size are has) held
+    λ a. keeps o ids now image other m r nodes (volume_for fit o ids now image other m r nodes is size are has) held a

@@ -1,9 +1,11 @@
 -- The checksums of a converted volume are sound.
-use Rattle.convert_core_laws.proofs.Imports.{◌≡◌, ◌≢◌, ◌≤◌, ◌<◌, ℕ, ◌+◌, ◌*◌, ◌/◌, ◌%◌, ◌^◌, Bool, true, false, List, [], map, Option, Some, None, refl, sym, ap, subst, ◌∙◌, ⊎_elim, true≢false, arith, All, AllPairs, Contains, if◌then◌else◌, is_some, ◌↔◌, append-nil, INODE_ITEM, CONV_IMAGE_SUBVOL, CSUM_TREE, FS_TREE, from_flat_map, in_flat_map, Image, Ids, inode_bytes, inode_of, make_key, Inode, Item, IsNodeSize, data_kind, range_of, form_of, has_no_sums, IsExtent, some_data, DataUse, Recount, TreeOn, all_trees, data_uses, recounted_items, uses_in, AreSums, HasBlockSum, AreSumsRight, IsSumItem, WantsSum, sum_count, place, Form, IsMaking, Making, HasPieces, made_from, file_tree_items, image_tree_items, sum_tree_items, TreeRoots, well, blocks_few, NewIdsFit, IsNewVolume, map_for, super_for, SumKind, two_cases, piece_bytes, pieces_of_volume, source_block, Source, inode_in, kind_in, ino_of, FilesAreHeld, InodesAreThere, ImageKeysAscend, File, all_from_contains, ObjectKey, HasBytes, block_sum, sum_items, sums_item, TreeNode, Options, Piece, recount_for, tree_for, ConvertedChecksumsAreSound, Files, SavedImage}
+use Rattle.convert_core_laws.proofs.Imports.{◌≡◌, ◌≢◌, ◌≤◌, ◌<◌, ℕ, ◌+◌, ◌*◌, ◌/◌, ◌%◌, ◌^◌, Bool, true, false, not, ◌&&◌, List, [], map, take, drop, Option, Some, None, refl, sym, ap, subst, ◌∙◌, ⊎_elim, true≢false, arith, nat_le, nat_lt, get_or, All, AllPairs, Contains, if◌then◌else◌, is_some, append-nil, INODE_ITEM, CONV_IMAGE_SUBVOL, FS_TREE, from_flat_map, in_flat_map, Image, block_at, Ids, inode_bytes, inode_of, make_key, Inode, Item, IsNodeSize, data_kind, range_of, form_of, has_no_sums, IsExtent, some_data, DataUse, Recount, TreeOn, all_trees, data_uses, uses_in, map_of, Span, is_within, span_of as span_of_use, HasBlockSum, IsSumItem, sum_count, IsReadBy, IsSumRight, KeepsCover, KeepsSums, read_span, sum_end, sums_of, place, and_from, and_parts, le-leb, lt-ltb, leb-true, ltb-true, Form, IsMaking, Making, HasPieces, made_from, file_tree_items, image_tree_items, sum_tree_items, TreeRoots, well, blocks_few, NewIdsFit, IsNewVolume, map_for, super_for, SumKind, two_cases, piece_bytes, pieces_of_volume, source_block, Source, inode_in, kind_in, ino_of, FilesAreHeld, InodesAreThere, ImageKeysAscend, File, all_from_contains, ObjectKey, HasBytes, block_sum, sum_items, sums_item, TreeNode, Options, Piece, recount_for, tree_for, ConvertedChecksumsAreSound, Files, SavedImage, each_at, pairs_at, kind_sum, kind_width}
+use Rattle.btr_check_rules.specs.Sums.{sum_items as sums_told}
 use Rattle.convert_core_laws.proofs.reading.SavedExtents.{AreSources, sources_bytes}
 use Rattle.convert_core_laws.proofs.reading.SavedPieces.{are_sources}
 use Rattle.convert_core_laws.proofs.soundness.AllUses.{span_of, uses_are}
-use Rattle.convert_core_laws.proofs.soundness.Recounting.{form_is, volume_for}
+use Rattle.convert_core_laws.proofs.soundness.Apart.{size_big}
+use Rattle.convert_core_laws.proofs.soundness.Recounting.{form_is, nodesize_is, volume_for}
 use Rattle.convert_core_laws.proofs.soundness.Unreserved.{fit_size, good, means_itself}
 use Rattle.convert_core_laws.proofs.soundness.Used.{file_use, is_data, owned, saved_use}
 use Rattle.convert_core_laws.proofs.soundness.Uses.{IsUse, by_file, by_image, use_at}
@@ -47,7 +49,7 @@ module _ (o : Options) (ids : Ids) (now : ℕ) (image other : Image) (m : Making
   kind_is : (form_of k.super).sums ≡ sums
   kind_is = ap (λ (f : Form). f.sums) (form_is m r nodes)
 
-  items_are : recounted_items k CSUM_TREE ≡ items
+  items_are : sums_told k ≡ items
   items_are = append-nil items
 
   -- ---- the items are those of the pieces, where data has checksums
@@ -72,11 +74,11 @@ module _ (o : Options) (ids : Ids) (now : ℕ) (image other : Image) (m : Making
   piece_of_item : (i : Item) → Contains items i → OfPiece i
   piece_of_item i h = of_piece sums other m.pieces i (from_items i h).among
 
-  forms : All (IsSumItem sums) items
+  forms : All (IsSumItem m.options.nodesize sums) items
   forms =
-      all_from_contains (IsSumItem sums) items (λ i h.
+      all_from_contains (IsSumItem m.options.nodesize sums) items (λ i h.
       let is : OfPiece i = piece_of_item i h in
-      subst (IsSumItem sums) (sym is.part.is) (form_of_item sums other is.part.at is.part.long))
+      subst (IsSumItem m.options.nodesize sums) (sym is.part.is) (form_of_item m.options.nodesize sums other is.part.at is.part.long (size_big m.options.nodesize fit) is.part.some is.part.few))
 
   once : AllPairs (EndsFirst sums) items
   once = by m.options.datasum
@@ -93,7 +95,12 @@ module _ (o : Options) (ids : Ids) (now : ℕ) (image other : Image) (m : Making
       let extent : IsExtent k (span_of p) data_kind = some_data (is_data image m making fit held other r nodes p h) refl in
       means_itself o ids now image other m r nodes v a (good o ids now image other m r nodes v (span_of p) data_kind a extent low high).has
 
-  item_right : (p : Piece) (at long : ℕ) → Contains m.pieces p → p.place ≤ at → at + long ≤ p.place + p.count → AreSumsRight other k sums (sums_item sums other at long)
+  abbrev AreSumsRight : Item → Type 0
+  AreSumsRight i =
+      (j q : ℕ) → j < sum_count sums i → place (map_of k) (i.0.offset + 4096 * j) ≡ Some q
+      → take (kind_width sums) (drop (kind_width sums * j) i.1) ≡ take (kind_width sums) (kind_sum sums (block_at other (q / 4096)))
+
+  item_right : (p : Piece) (at long : ℕ) → Contains m.pieces p → p.place ≤ at → at + long ≤ p.place + p.count → AreSumsRight (sums_item sums other at long)
   item_right p at long h low high = λ j q inside found.
       let count = count_of sums other at long in
       let less : j < long = omega (arith, inside, count) in
@@ -103,11 +110,11 @@ module _ (o : Options) (ids : Ids) (now : ℕ) (image other : Image) (m : Making
       let block : at + j ≡ q / 4096 = omega (arith, same) in
       sum_of sums other at long j less ∙ ap (block_sum sums other) block
 
-  rights : All (AreSumsRight other k sums) items
+  rights : All (AreSumsRight) items
   rights =
-      all_from_contains (AreSumsRight other k sums) items (λ i h.
+      all_from_contains (AreSumsRight) items (λ i h.
       let is : OfPiece i = piece_of_item i h in
-      subst (AreSumsRight other k sums) (sym is.part.is) (item_right is.piece is.part.at is.part.long is.among is.part.low is.part.high))
+      subst (AreSumsRight) (sym is.part.is) (item_right is.piece is.part.at is.part.long is.among is.part.low is.part.high))
 
   -- ---- the trees that use data
 
@@ -172,101 +179,65 @@ module _ (o : Options) (ids : Ids) (now : ℕ) (image other : Image) (m : Making
   file_item : (inode : ℕ) (f : HasFile inode) → Contains (file_tree_items image m) (make_key inode INODE_ITEM 0, inode_bytes (inode_in s f.key))
   file_item inode f = subst (λ (n : ℕ). Contains (file_tree_items image m) (make_key n INODE_ITEM 0, inode_bytes (inode_in s f.key))) f.number_is (inode_there s f.key f.among)
 
-  -- ---- a block with a checksum wants one
+  -- ---- what a block with a checksum lies in
 
-  piece_wants : (p : Piece) (a : ℕ) → m.options.datasum ≡ true → Contains m.pieces p → 4096 * p.place ≤ a → a < 4096 * p.place + 4096 * p.count → WantsSum k a
-  piece_wants p a on h low high = by p.from refl
+  piece_used : (p : Piece) → Contains m.pieces p → (u : DataUse) × Contains (data_uses k) u × (span_of_use u ≡ span_of p)
+  piece_used p h = by p.from refl
     where
-      by : (w : Option ℕ) → p.from ≡ w → WantsSum k a
-      by (Some b) from = record {
-        tree = saved;
-        is_use = use_at CONV_IMAGE_SUBVOL 257 (source_block p) p;
-        inode = own_image;
-        body = inode_bytes own_image;
-        among = saved_there;
-        used = used_by (use_at CONV_IMAGE_SUBVOL 257 (source_block p) p) saved saved_there refl (saved_use image m making fit held other r nodes p h (ap is_some from));
-        item = image_inode_there m.volume.sup.blocks m.pieces m.options.datasum m.now;
-        inode_is = image_reads;
-        with_sums = image_sums on;
-        low = low;
-        high = high;
-      }
-      by None from =
-          let own = owned image m making fit held p h from in
-          let f : HasFile own.0 = file_of p own.0 own.1 h own.2 in
-          record {
-            tree = files;
-            is_use = use_at FS_TREE own.0 own.1 p;
-            inode = inode_in s f.key;
-            body = inode_bytes (inode_in s f.key);
-            among = files_there;
-            used = used_by (use_at FS_TREE own.0 own.1 p) files files_there refl (file_use image m making fit held other r nodes p own.0 own.1 h own.2);
-            item = file_item own.0 f;
-            inode_is = file_reads f.key f.among;
-            with_sums = file_sums s f.key on;
-            low = low;
-            high = high;
-          }
+      by : (w : Option ℕ) → p.from ≡ w → (u : DataUse) × Contains (data_uses k) u × (span_of_use u ≡ span_of p)
+      by (Some b) from = (use_at CONV_IMAGE_SUBVOL 257 (source_block p) p, saved_use image m making fit held other r nodes p h (ap is_some from), refl)
+      by None from = let own = owned image m making fit held p h from in (use_at FS_TREE own.0 own.1 p, file_use image m making fit held other r nodes p own.0 own.1 h own.2, refl)
 
-  -- ---- a block that wants a checksum has one
-
-  -- where data has no checksums, no inode wants them
-  wants_on : (a : ℕ) (w : WantsSum k a) → IsUse m w.is_use → m.options.datasum ≡ false → ⊥
-  wants_on a w (by_file p inode block h own e) off =
-      let f : HasFile inode = file_of p inode block h own in
-      let tree : w.tree ≡ files = one_tree w.tree w.among files files_there (sym (uses_tree w.tree w.is_use w.used) ∙ ap (λ (u : DataUse). u.tree) e) in
-      let number : w.is_use.inode ≡ inode = ap (λ (u : DataUse). u.inode) e in
-      let item : Contains (file_tree_items image m) (make_key inode INODE_ITEM 0, w.body) =
-      subst (λ (n : ℕ). Contains (file_tree_items image m) (make_key n INODE_ITEM 0, w.body)) number (subst (λ (t : TreeOn). Contains t.items (make_key w.is_use.inode INODE_ITEM 0, w.body)) tree w.item) in
-      let one : (make_key inode INODE_ITEM 0, inode_bytes (inode_in s f.key)) ≡ (make_key inode INODE_ITEM 0, w.body) =
-      same_item (file_tree_items image m) (make_key inode INODE_ITEM 0, inode_bytes (inode_in s f.key)) (make_key inode INODE_ITEM 0, w.body) (files_rise image m making fit) (file_item inode f) item refl in
-      let same : inode_in s f.key ≡ w.inode = some_same (inode_in s f.key) w.inode (sym (file_reads f.key f.among) ∙ (ap (λ (i : Item). inode_of i.1) one ∙ w.inode_is)) in
-      true≢false (sym (file_no_sums s f.key off f.file) ∙ (ap has_no_sums same ∙ w.with_sums))
-  wants_on a w (by_image p block h from e) off =
-      let tree : w.tree ≡ saved = one_tree w.tree w.among saved saved_there (sym (uses_tree w.tree w.is_use w.used) ∙ ap (λ (u : DataUse). u.tree) e) in
-      let number : w.is_use.inode ≡ 257 = ap (λ (u : DataUse). u.inode) e in
-      let item : Contains (image_tree_items m) (make_key 257 INODE_ITEM 0, w.body) =
-      subst (λ (n : ℕ). Contains (image_tree_items m) (make_key n INODE_ITEM 0, w.body)) number (subst (λ (t : TreeOn). Contains t.items (make_key w.is_use.inode INODE_ITEM 0, w.body)) tree w.item) in
-      let one : (make_key 257 INODE_ITEM 0, inode_bytes own_image) ≡ (make_key 257 INODE_ITEM 0, w.body) =
-      same_item (image_tree_items m) (make_key 257 INODE_ITEM 0, inode_bytes own_image) (make_key 257 INODE_ITEM 0, w.body) (saved_rise image m making fit rising) (image_inode_there m.volume.sup.blocks m.pieces m.options.datasum m.now) item refl in
-      let same : own_image ≡ w.inode = some_same own_image w.inode (sym image_reads ∙ (ap (λ (i : Item). inode_of i.1) one ∙ w.inode_is)) in
-      true≢false (sym (image_no_sums off) ∙ (ap has_no_sums same ∙ w.with_sums))
-
-  -- the piece that a block which wants a checksum lies in
+  -- a block is one of a piece
   record InPiece (a : ℕ) : Type 0 where
     piece : Piece
     there : Contains m.pieces piece
     low : 4096 * piece.place ≤ a
     high : a < 4096 * piece.place + 4096 * piece.count
 
-  wants_piece : (a : ℕ) (w : WantsSum k a) → IsUse m w.is_use → InPiece a
-  wants_piece a w (by_file p inode block h own e) =
-      let start : w.is_use.start ≡ 4096 * p.place = ap (λ (u : DataUse). u.start) e in
-      let long : w.is_use.length ≡ 4096 * p.count = ap (λ (u : DataUse). u.length) e in
-      let low = w.low in
-      let high = w.high in
-      record { piece = p; there = h; low = omega (arith, low, start); high = omega (arith, high, start, long) }
-  wants_piece a w (by_image p block h from e) =
-      let start : w.is_use.start ≡ 4096 * p.place = ap (λ (u : DataUse). u.start) e in
-      let long : w.is_use.length ≡ 4096 * p.count = ap (λ (u : DataUse). u.length) e in
-      let low = w.low in
-      let high = w.high in
-      record { piece = p; there = h; low = omega (arith, low, start); high = omega (arith, high, start, long) }
+  within_span : (a : ℕ) (i : InPiece a) → is_within (span_of i.piece) a ≡ true
+  within_span a i =
+      and_from (nat_le (4096 * i.piece.place) a) (nat_lt a (4096 * i.piece.place + 4096 * i.piece.count)) (le-leb (4096 * i.piece.place) a i.low) (lt-ltb a (4096 * i.piece.place + 4096 * i.piece.count) i.high)
 
-  wanted_use : (a : ℕ) (w : WantsSum k a) → IsUse m w.is_use
-  wanted_use a w = uses_are image m making fit other r nodes w.is_use (in_flat_map uses_in (all_trees k) w.tree w.is_use w.among w.used)
+  inside : (a : ℕ) → InPiece a → (u : DataUse) × Contains (data_uses k) u × (is_within (span_of_use u) a ≡ true)
+  inside a i = let u = piece_used i.piece i.there in (u.0, u.1, ap (λ (x : Span). is_within x a) u.2 ∙ within_span a i)
 
-  wants_sums : (a : ℕ) → WantsSum k a → m.options.datasum ≡ true
-  wants_sums a w = by m.options.datasum refl
-    where
-      by : (b : Bool) → m.options.datasum ≡ b → b ≡ true
-      by true is = refl
-      by false is = absurd (wants_on a w (wanted_use a w) is)
+  -- an item has a checksum of the block
+  record HasSum (a : ℕ) : Type 0 where
+    item : Item
+    there : Contains items item
+    low : item.0.offset ≤ a
+    high : a < item.0.offset + 4096 * sum_count sums item
 
-  has_sum : (a : ℕ) → a % 4096 ≡ 0 → WantsSum k a → HasBlockSum k sums a
-  has_sum a aligned w =
-      let on : m.options.datasum ≡ true = wants_sums a w in
-      let is : InPiece a = wants_piece a w (wanted_use a w) in
+  to_sum : (a : ℕ) → HasBlockSum k a → HasSum a
+  to_sum a h = record {
+    item = h.item;
+    there = subst (λ (l : List Item). Contains l h.item) items_are h.there;
+    low = h.low;
+    high = subst (λ (x : SumKind). a < sum_end x h.item) kind_is h.high;
+  }
+
+  from_sum : (a : ℕ) → HasSum a → HasBlockSum k a
+  from_sum a h = record {
+    item = h.item;
+    there = subst (λ (l : List Item). Contains l h.item) (sym items_are) h.there;
+    low = h.low;
+    high = subst (λ (x : SumKind). a < sum_end x h.item) (sym kind_is) h.high;
+  }
+
+  summed_piece : (a : ℕ) → HasSum a → InPiece a
+  summed_piece a h =
+      let is : OfPiece h.item = piece_of_item h.item h.there in
+      let count : sum_count sums h.item ≡ is.part.long = ap (sum_count sums) is.part.is ∙ count_of sums other is.part.at is.part.long in
+      let offset : h.item.0.offset ≡ 4096 * is.part.at = ap (λ (i : Item). i.0.offset) is.part.is in
+      let low = h.low in
+      let high = h.high in
+      let from = is.part.low in
+      let to = is.part.high in
+      record { piece = is.piece; there = is.among; low = omega (arith, low, offset, from); high = omega (arith, high, offset, count, to) }
+
+  piece_summed : (a : ℕ) → a % 4096 ≡ 0 → m.options.datasum ≡ true → InPiece a → HasSum a
+  piece_summed a aligned on is =
       let low = is.low in
       let high = is.high in
       let covers : Covers sums (sums_item sums other) (a / 4096) (sum_items sums other m.pieces) = piece_covered sums other m.pieces is.piece (a / 4096) is.there (omega (arith, low)) (omega (arith, high)) in
@@ -274,36 +245,96 @@ module _ (o : Options) (ids : Ids) (now : ℕ) (image other : Image) (m : Making
       let count = count_of sums other covers.at covers.long in
       let from = covers.low in
       let to = covers.high in
-      record {
-        item = item;
-        there = subst (λ (l : List Item). Contains l item) (sym items_are) (to_items item on covers.there);
-        low = omega (arith, from);
-        high = omega (arith, to, count, aligned);
-      }
+      record { item = item; there = to_items item on covers.there; low = omega (arith, from); high = omega (arith, to, count, aligned) }
 
-  wants_sum : (a : ℕ) → HasBlockSum k sums a → WantsSum k a
-  wants_sum a h =
-      let there : Contains items h.item = subst (λ (l : List Item). Contains l h.item) items_are h.there in
-      let is : OfPiece h.item = piece_of_item h.item there in
-      let count : sum_count sums h.item ≡ is.part.long = ap (sum_count sums) is.part.is ∙ count_of sums other is.part.at is.part.long in
-      let offset : h.item.0.offset ≡ 4096 * is.part.at = ap (λ (i : Item). i.0.offset) is.part.is in
-      let low = h.low in
-      let high = h.high in
-      let from = is.part.low in
-      let to = is.part.high in
-      piece_wants is.piece a (from_items h.item there).on is.among (omega (arith, low, offset, from)) (omega (arith, high, offset, count, to))
+  -- ---- what reads a block
 
-  exact : (a : ℕ) → a % 4096 ≡ 0 → HasBlockSum k sums a ↔ WantsSum k a
-  exact a aligned = (λ h. wants_sum a h, λ w. has_sum a aligned w)
+  -- an inode that reads data has checksums of it where the option says so
+  reader_sums : (a : ℕ) (u : DataUse) (inode : Inode) → IsReadBy k a u inode → IsUse m u → has_no_sums inode ≡ not m.options.datasum
+  reader_sums a u inode w (by_file p n block h own e) =
+      let f : HasFile n = file_of p n block h own in
+      let tree : w.tree ≡ files = one_tree w.tree w.among files files_there (sym (uses_tree w.tree u w.used) ∙ ap (λ (x : DataUse). x.tree) e) in
+      let number : u.inode ≡ n = ap (λ (x : DataUse). x.inode) e in
+      let item : Contains (file_tree_items image m) (make_key n INODE_ITEM 0, w.owner.body) =
+      subst (λ (x : ℕ). Contains (file_tree_items image m) (make_key x INODE_ITEM 0, w.owner.body)) number (subst (λ (t : TreeOn). Contains t.items (make_key u.inode INODE_ITEM 0, w.owner.body)) tree w.owner.there) in
+      let one : (make_key n INODE_ITEM 0, inode_bytes (inode_in s f.key)) ≡ (make_key n INODE_ITEM 0, w.owner.body) =
+      same_item (file_tree_items image m) (make_key n INODE_ITEM 0, inode_bytes (inode_in s f.key)) (make_key n INODE_ITEM 0, w.owner.body) (files_rise image m making fit) (file_item n f) item refl in
+      let same : inode_in s f.key ≡ inode = some_same (inode_in s f.key) inode (sym (file_reads f.key f.among) ∙ (ap (λ (i : Item). inode_of i.1) one ∙ w.owner.reads)) in
+      ap has_no_sums (sym same) ∙ by m.options.datasum refl f
+    where
+      by : (b : Bool) → m.options.datasum ≡ b → (f : HasFile n) → has_no_sums (inode_in s f.key) ≡ not m.options.datasum
+      by true on f = file_sums s f.key on ∙ sym (ap not on)
+      by false off f = file_no_sums s f.key off f.file ∙ sym (ap not off)
+  reader_sums a u inode w (by_image p block h from e) =
+      let tree : w.tree ≡ saved = one_tree w.tree w.among saved saved_there (sym (uses_tree w.tree u w.used) ∙ ap (λ (x : DataUse). x.tree) e) in
+      let number : u.inode ≡ 257 = ap (λ (x : DataUse). x.inode) e in
+      let item : Contains (image_tree_items m) (make_key 257 INODE_ITEM 0, w.owner.body) =
+      subst (λ (x : ℕ). Contains (image_tree_items m) (make_key x INODE_ITEM 0, w.owner.body)) number (subst (λ (t : TreeOn). Contains t.items (make_key u.inode INODE_ITEM 0, w.owner.body)) tree w.owner.there) in
+      let one : (make_key 257 INODE_ITEM 0, inode_bytes own_image) ≡ (make_key 257 INODE_ITEM 0, w.owner.body) =
+      same_item (image_tree_items m) (make_key 257 INODE_ITEM 0, inode_bytes own_image) (make_key 257 INODE_ITEM 0, w.owner.body) (saved_rise image m making fit rising) (image_inode_there m.volume.sup.blocks m.pieces m.options.datasum m.now) item refl in
+      let same : own_image ≡ inode = some_same own_image inode (sym image_reads ∙ (ap (λ (i : Item). inode_of i.1) one ∙ w.owner.reads)) in
+      ap has_no_sums (sym same) ∙ by m.options.datasum refl
+    where
+      by : (b : Bool) → m.options.datasum ≡ b → has_no_sums own_image ≡ not m.options.datasum
+      by true on = image_sums on ∙ sym (ap not on)
+      by false off = image_no_sums off ∙ sym (ap not off)
 
-  pub checksums : AreSums other k
-  checksums = record {
-    forms = subst (λ (x : SumKind). All (IsSumItem x) (recounted_items k CSUM_TREE)) (sym kind_is) (subst (All (IsSumItem sums)) (sym items_are) forms);
-    once = subst (λ (x : SumKind). AllPairs (EndsFirst x) (recounted_items k CSUM_TREE)) (sym kind_is) (subst (AllPairs (EndsFirst sums)) (sym items_are) once);
-    exactly = subst (λ (x : SumKind). (a : ℕ) → a % 4096 ≡ 0 → HasBlockSum k x a ↔ WantsSum k a) (sym kind_is) exact;
-    right = subst (λ (x : SumKind). All (AreSumsRight other k x) (recounted_items k CSUM_TREE)) (sym kind_is) (subst (All (AreSumsRight other k sums)) (sym items_are) rights);
+  of_piece_use : (a : ℕ) (p : Piece) → Contains m.pieces p → (nat_le (4096 * p.place + 0) a && nat_lt a (4096 * p.place + 0 + 4096 * p.count)) ≡ true → InPiece a
+  of_piece_use a p h here =
+      let parts = and_parts (nat_le (4096 * p.place + 0) a) (nat_lt a (4096 * p.place + 0 + 4096 * p.count)) here in
+      let low = leb-true (4096 * p.place + 0) a parts.0 in
+      let high = ltb-true a (4096 * p.place + 0 + 4096 * p.count) parts.1 in
+      record { piece = p; there = h; low = omega (arith, low); high = omega (arith, high) }
+
+  -- the block that a use of a piece reads is one of the piece
+  reads_piece : (a : ℕ) (u : DataUse) → is_within (read_span u) a ≡ true → IsUse m u → InPiece a
+  reads_piece a u here (by_file p n block h own e) = of_piece_use a p h (subst (λ (x : DataUse). is_within (read_span x) a ≡ true) e here)
+  reads_piece a u here (by_image p block h from e) = of_piece_use a p h (subst (λ (x : DataUse). is_within (read_span x) a ≡ true) e here)
+
+  use_is : (a : ℕ) (u : DataUse) (inode : Inode) → IsReadBy k a u inode → IsUse m u
+  use_is a u inode w = uses_are image m making fit other r nodes u (in_flat_map uses_in (all_trees k) w.tree u w.among w.used)
+
+  is_written : (u : DataUse) → IsUse m u → u.written ≡ true
+  is_written u (by_file p n block h own e) = ap (λ (x : DataUse). x.written) e
+  is_written u (by_image p block h from e) = ap (λ (x : DataUse). x.written) e
+
+  data_on : (inode : Inode) → has_no_sums inode ≡ not m.options.datasum → has_no_sums inode ≡ false → m.options.datasum ≡ true
+  data_on inode is none = by m.options.datasum (sym is ∙ none)
+    where
+      by : (b : Bool) → not b ≡ false → b ≡ true
+      by true e = refl
+      by false e = absurd (true≢false e)
+
+  cover : (a : ℕ) → a % 4096 ≡ 0 → KeepsCover k a
+  cover a aligned = record {
+    wanted = λ u inode w written sums_. let own = use_is a u inode w in from_sum a (piece_summed a aligned (data_on inode (reader_sums a u inode w own) sums_) (reads_piece a u w.here own));
+    unsummed = λ u inode w written none has.
+        let own = use_is a u inode w in
+        let on : m.options.datasum ≡ true = (from_items (to_sum a has).item (to_sum a has).there).on in
+        true≢false (sym none ∙ (reader_sums a u inode w own ∙ ap not on));
+    unwritten = λ u inode w laid_out alone has. true≢false (sym (is_written u (use_is a u inode w)) ∙ laid_out);
+    inside = λ has. inside a (summed_piece a (to_sum a has));
   }
+
+  -- ---- the part
+
+  pub keeps : (a : ℕ) → KeepsSums other k a
+  keeps a = record {
+    forms = each_at (λ (i : Item). i.0.offset) a (IsSumItem k.super.nodesize (sums_of k)) (sums_told k)
+        (subst (λ (n : ℕ). All (IsSumItem n (sums_of k)) (sums_told k)) (sym (nodesize_is m r nodes))
+        (subst (λ (x : SumKind). All (IsSumItem m.options.nodesize x) (sums_told k)) (sym kind_is) (subst (All (IsSumItem m.options.nodesize sums)) (sym items_are) forms)));
+    once = pairs_at (λ (i : Item). i.0.offset) a (EndsFirst (sums_of k)) (sums_told k)
+        (subst (λ (x : SumKind). AllPairs (EndsFirst x) (sums_told k)) (sym kind_is) (subst (AllPairs (EndsFirst sums)) (sym items_are) once));
+    cover = cover a;
+    right = subst (λ (l : List Item). All (IsSumRight other k a) l) (sym items_are) (λ i d h. right_at (get_or items i d) (rights i d h));
+  }
+    where
+      right_at : (i : Item) → AreSumsRight i → IsSumRight other k a i
+      right_at i are =
+          subst
+          (λ (x : SumKind). (j q : ℕ) → j < sum_count x i → i.0.offset + 4096 * j ≡ a → place (map_of k) a ≡ Some q → take (kind_width x) (drop (kind_width x * j) i.1) ≡ take (kind_width x) (kind_sum x (block_at other (q / 4096))))
+          (sym kind_is) (λ j q low at found. are j q low (ap (place (map_of k)) at ∙ found))
 
 pub converted_checksums_are_sound : NewIdsFit → FilesAreHeld → ImageKeysAscend → InodesAreThere → ConvertedChecksumsAreSound
 converted_checksums_are_sound ids_fit held rising are_there = λ o ids now image other m r nodes is size low are has bytes.
-    checksums o ids now image other m r nodes (volume_for ids_fit o ids now image other m r nodes is size are has) held rising are_there low bytes
+    keeps o ids now image other m r nodes (volume_for ids_fit o ids now image other m r nodes is size are has) held rising are_there low bytes

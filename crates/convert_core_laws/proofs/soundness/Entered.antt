@@ -1,7 +1,6 @@
 -- What the entries of the file tree lead to is there, and so is what the root tree tells of the saved image's tree.
-use Rattle.convert_core_laws.proofs.Imports.{◌≡◌, ◌<◌, ℕ, ◌^◌, Bool, true, false, List, [], ◌∷◌, map, Some, refl, sym, ap, subst, ◌∙◌, ⊎_elim, true≢false, arith, Contains-append_cases, ROOT_BACKREF, ROOT_ITEM, ROOT_REF, CONV_IMAGE_SUBVOL, FIRST_FREE_OBJECTID, FS_TREE, keys, Image, inode_bytes, make_key, Item, AreTreeNames, IndexEntry, IsThere, IsTreeEntry, names_inode_item, root_refs_read_back, NodePointer, IsMaking, Making, new_ids, saved_index, HasPieces, root_tree_items, TreeRoots, rooted_trees as trees_listed, IndexedLink as Link, Indexed, indexed, names_in, next_index, saved_entry, Source, inode_in, kind_in, ino_of, index_small, FilesAreHeld, InodesAreThere, Kind, Directory, File, Symlink, Character, Block, Fifo, Socket, Subvolume, from_flat_map, from_map, head_or_tail, saved_name, root, same_key, ObjectKey, same_key-true, HasBytes, good_link, root_number, item_cmp, other_root_items, tree_root_item, saved_ref}
+use Rattle.convert_core_laws.proofs.Imports.{◌≡◌, ◌<◌, ℕ, ◌^◌, Bool, true, false, List, [], ◌∷◌, map, Some, refl, sym, ap, subst, ◌∙◌, ⊎_elim, true≢false, arith, get_or, Contains-append_cases, All-map, All-from_recursion, ROOT_BACKREF, ROOT_ITEM, ROOT_REF, CONV_IMAGE_SUBVOL, FIRST_FREE_OBJECTID, FS_TREE, keys, Image, inode_bytes, make_key, Item, AreTreeNames, IsTreeEntry, IndexEntry, IsThere, names_inode_item, root_refs_read_back, NodePointer, IsMaking, Making, new_ids, saved_index, HasPieces, root_tree_items, TreeRoots, rooted_trees as trees_listed, rooted_trees, IndexedLink as Link, Indexed, indexed, names_in, next_index, saved_entry, Source, inode_in, kind_in, ino_of, index_small, FilesAreHeld, InodesAreThere, Kind, Directory, File, Symlink, Character, Block, Fifo, Socket, Subvolume, from_flat_map, from_map, head_or_tail, saved_name, root, same_key, ObjectKey, same_key-true, HasBytes, good_link, root_number, item_cmp, other_root_items, tree_root_item, saved_ref, RootRefValue, root_ref_head, root_ref_of, All, AllByRecursion, all-merge, TreeRoot}
 use Rattle.std.proofs.Common.{flat_map, Contains, if◌then◌else◌}
-use Rattle.btr_reader.specs.btr_space_items.RootRef.{RootRefValue, root_ref_head, root_ref_of}
 use Rattle.convert_core_laws.proofs.soundness.Flags.{inode_there}
 use Rattle.convert_core_laws.proofs.soundness.InMerged.{in_second}
 use Rattle.convert_core_laws.proofs.soundness.Numbers.{kinds_apart}
@@ -18,10 +17,16 @@ unfolding root_ref_head
 saved_fits index low = (((tt, omega arith), omega (arith, low)), omega arith)
 
 -- an item of the others is one of the root tree's
-in_roots : (m : Making) (r : TreeRoots) (t : Item) → (t.0.kind ≡ ROOT_ITEM → ⊥) → Contains (other_root_items (saved_index m) m.now) t → Contains (root_tree_items m r) t
+pub in_roots : (m : Making) (r : TreeRoots) (t : Item) → (t.0.kind ≡ ROOT_ITEM → ⊥) → Contains (other_root_items (saved_index m) m.now) t → Contains (root_tree_items m r) t
 in_roots m r t apart h =
     in_second item_cmp t (map (tree_root_item (new_ids m) m.options.nodesize) (trees_listed r)) (other_root_items (saved_index m) m.now)
     (λ x l e. let at = from_map (tree_root_item (new_ids m) m.options.nodesize) (trees_listed r) x l in kinds_apart x.0 t.0 (λ same. apart (sym same ∙ sym (ap (λ (i : Item). i.0.kind) at.2))) e) h
+
+-- what holds of root items and of the others holds of all
+pub roots_all : (m : Making) (r : TreeRoots) (P : Item → Type 0) → ((x : TreeRoot) → P (tree_root_item (new_ids m) m.options.nodesize x)) → AllByRecursion P (other_root_items (saved_index m) m.now) → All P (root_tree_items m r)
+roots_all m r P roots others =
+    all-merge item_cmp P (map (tree_root_item (new_ids m) m.options.nodesize) (rooted_trees r)) (other_root_items (saved_index m) m.now)
+    (All-map P (tree_root_item (new_ids m) m.options.nodesize) (rooted_trees r) (λ i d h. roots (get_or (rooted_trees r) i d))) (All-from_recursion P (other_root_items (saved_index m) m.now) others)
 
 module _ (image : Image) (m : Making) (made : IsMaking image m) where
   abbrev of : HasPieces m.volume image m.options m.plan m.pieces
@@ -29,6 +34,13 @@ module _ (image : Image) (m : Making) (made : IsMaking image m) where
 
   abbrev src : Source
   src = s image m made
+
+  -- what the root tree tells of the saved image's tree is read
+  abbrev image_told : RootRefValue
+  image_told = record { dirid = FIRST_FREE_OBJECTID; sequence = saved_index m; name = saved_name }
+
+  pub ref_reads : root_ref_of (saved_ref (saved_index m)) ≡ Some image_told
+  ref_reads = root_refs_read_back image_told (saved_fits (saved_index m) (index_small m.volume image root of.accepted of.opened))
 
   -- an entry of a directory is a link, or the root's last one
   pub data IsEntry (key : ObjectKey) (x : Indexed) : Type 0 where
@@ -87,16 +99,12 @@ module _ (image : Image) (m : Making) (made : IsMaking image m) where
     -- the saved image's tree
     saved_told : (e : IndexEntry) → e ≡ index_by FIRST_FREE_OBJECTID (next_index src.links root, saved_entry) → IsTreeEntry (root_tree_items m r) FS_TREE e
     saved_told e is =
-        let index : ℕ = saved_index m in
-        let ref : RootRefValue = record { dirid = FIRST_FREE_OBJECTID; sequence = index; name = saved_name } in
-        let low = index_small m.volume image root of.accepted of.opened in
-        let reads : root_ref_of (saved_ref index) ≡ Some ref = root_refs_read_back ref (saved_fits index low) in
         subst (IsTreeEntry (root_tree_items m r) FS_TREE) (sym is) (record {
           location = refl;
-          ref = ref;
+          ref = image_told;
           ref_is = refl;
-          forth = (saved_ref index, in_roots m r (make_key FS_TREE ROOT_REF CONV_IMAGE_SUBVOL, saved_ref index) (λ k. omega (arith, k)) (0, omega arith, refl), reads);
-          back = (saved_ref index, in_roots m r (make_key CONV_IMAGE_SUBVOL ROOT_BACKREF FS_TREE, saved_ref index) (λ k. omega (arith, k)) (4, omega arith, refl), reads);
+          forth = (saved_ref (saved_index m), in_roots m r (make_key FS_TREE ROOT_REF CONV_IMAGE_SUBVOL, saved_ref (saved_index m)) (λ k. omega (arith, k)) (0, omega arith, refl), ref_reads);
+          back = (saved_ref (saved_index m), in_roots m r (make_key CONV_IMAGE_SUBVOL ROOT_BACKREF FS_TREE, saved_ref (saved_index m)) (λ k. omega (arith, k)) (4, omega arith, refl), ref_reads);
         })
 
     trees_told : (e : IndexEntry) (o : IsOfDirectory e) → names_inode_item e ≡ false → IsTreeEntry (root_tree_items m r) FS_TREE e

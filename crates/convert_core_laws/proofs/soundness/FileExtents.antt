@@ -1,17 +1,17 @@
 -- The file extents of a converted volume keep the rules of Linux.
-use Rattle.convert_core_laws.proofs.Imports.{◌≡◌, ◌≢◌, ◌≤◌, ◌<◌, ℕ, ◌+◌, ◌*◌, ◌/◌, ◌%◌, ◌^◌, ◌==◌, ◌&&◌, Bool, true, false, List, [], ◌∷◌, ◌++◌, map, filter, length, Some, refl, sym, ap, subst, ◌∙◌, ⊎_elim, true≢false, arith, AllByRecursion, and_from, eq-eqb, eqb-true, All-from_recursion, All-nil, AllPairs-filter, NO_HOLES, EXTENT_DATA, FIRST_FREE_OBJECTID, keys, Image, FileExtentValue, file_extent_of, Inode, Item, MapRange, NodePointer, Super, AreExtents, KeepsExtent, covered, extents_in, HasKind, is_of_inode, TreeOn, has_feature, of_kind, well, all_at, numbered, extent_item, inline_extent, regular_extent, IsMaking, Making, HasPieces, AreSortedKeys, extents_at, file_block, pieces_of, pieces_of_volume, source_block, image_entries, image_head, image_items, relocation_items, root_directory_items, Source, file_extent_items, fs_tree_items, ino_of, inline_in, kind_in, size_in, Piece, FilesAreHeld, InodesAreThere, HasBytes, Apart, all_in, all_append, all_mapped, from_filter, in_filter, length_bytes, all_from_contains, volume_items, has_bytes, Kind, File, file_byte, target_bytes, items_of, IsNamed, ObjectKey}
+use Rattle.convert_core_laws.proofs.Imports.{◌≡◌, ◌≤◌, ◌<◌, ℕ, ◌+◌, ◌*◌, ◌^◌, ◌==◌, Bool, true, false, List, [], ◌∷◌, filter, length, Some, refl, sym, ap, subst, ◌∙◌, ⊎_elim, true≢false, arith, AllByRecursion, and_from, eq-eqb, eqb-true, All-from_recursion, All-nil, AllPairs-filter, NO_HOLES, EXTENT_DATA, keys, Image, FileExtentValue, file_extent_of, Item, MapRange, NodePointer, Super, AreExtents, KeepsExtent, covered, EndsInFile, extents_in, HasKind, is_of_inode, TreeOn, has_feature, of_kind, well, all_at, numbered, extent_item, inline_extent, regular_extent, IsMaking, Making, HasPieces, AreSortedKeys, extents_at, file_block, pieces_of, pieces_of_volume, source_block, image_head, image_items, relocation_items, Source, file_extent_items, fs_tree_items, ino_of, inline_in, kind_in, size_in, Piece, FilesAreHeld, InodesAreThere, HasBytes, Apart, all_in, all_mapped, from_filter, in_filter, length_bytes, all_from_contains, volume_items, has_bytes, Kind, File, file_byte, target_bytes, items_of, IsNamed, ObjectKey}
 use Rattle.std.proofs.Common.{Contains, All, AllPairs, if◌then◌else◌}
 use Rattle.btr_check_rules.specs.Files.{EndsBefore}
 use Rattle.convert_core_laws.proofs.ByteReading.{inline_read, is_extent, regular_read}
 use Rattle.convert_core_laws.proofs.Holding.{StaysInTree, stays}
 use Rattle.convert_core_laws.proofs.Owned.{any_extents}
 use Rattle.convert_core_laws.proofs.Pieces.{all_of_inode}
-use Rattle.convert_core_laws.proofs.Sound.{Follow, all_follow}
+use Rattle.convert_core_laws.proofs.Sound.{Follow, all_follow, owner_is}
 use Rattle.convert_core_laws.proofs.reading.SavedExtents.{AreSources, IsSource}
 use Rattle.convert_core_laws.proofs.soundness.FileInodes.{has_kind, pairs_from}
 use Rattle.convert_core_laws.proofs.soundness.Inodes.{kept_twice, some_same, tree}
 use Rattle.convert_core_laws.proofs.soundness.Objects.{s}
-use Rattle.convert_core_laws.proofs.soundness.Uses.{IsSmall, piece_small}
+use Rattle.convert_core_laws.proofs.soundness.Uses.{IsSmall, owner_low, piece_small}
 
 -- ---- one extent
 
@@ -24,44 +24,60 @@ pub record IsPlaced (p : Piece) : Type 0 where
 abbrev pub IsOfBytes : TreeOn → ℕ → Type 0
 IsOfBytes t ino = (kind : Kind) × HasKind t ino kind × (has_bytes kind ≡ true)
 
+-- an extent keeps the rules, and ends in its file
+abbrev pub IsKept : Super → TreeOn → Item → Type 0
+IsKept sup t i = KeepsExtent sup t i × EndsInFile i
+
+-- the number of the last byte of an extent that is read as this one
+ends_by : (i : Item) (extent : FileExtentValue) → file_extent_of i.1 ≡ Some extent → i.0.offset + covered extent.ram_bytes extent.content < 2 ^ 64 → EndsInFile i
+ends_by i extent reads low = λ e is. subst (λ (x : FileExtentValue). i.0.offset + covered x.ram_bytes x.content < 2 ^ 64) (some_same extent e (sym reads ∙ is)) low
+
 module _ (sup : Super) (t : TreeOn) (newest : 1 ≤ sup.generation) where
-  pub regular_keeps : (ino block : ℕ) (p : Piece) → IsPlaced p → IsOfBytes t ino → KeepsExtent sup t (extent_item ino block (regular_extent p.place p.count))
-  regular_keeps ino block p is owner =
+  pub regular_keeps : (ino block : ℕ) (p : Piece) → IsPlaced p → block + p.count ≤ 2 ^ 32 → IsOfBytes t ino → IsKept sup t (extent_item ino block (regular_extent p.place p.count))
+  regular_keeps ino block p is few owner =
       let some = is.some in
       let high = is.high in
       let end = is.end in
-      record {
-        extent = regular_extent p.place p.count;
-        reads = regular_read p.place p.count (omega (arith, end)) (omega (arith, end));
-        generation = newest;
-        encoding = (refl, refl, omega arith);
-        place = omega arith;
-        content = (
-          record {
-            whole = (omega arith, omega arith, omega arith, omega arith, omega arith);
-            some = λ none. omega (arith, none, some);
-            in_memory = omega arith;
-            on_disk = λ no_hole plain. omega arith;
-            hole = (
-              λ hole. (let none = eqb-true (4096 * p.place) 0 hole in absurd (omega (arith, none, high))),
-              λ none. absurd (omega (arith, none, some)),
-            );
-          },
-          λ packed. absurd (packed refl),
-        );
-        owner = owner;
-      }
+      let reads = regular_read p.place p.count (omega (arith, end)) (omega (arith, end)) in (
+        record {
+          extent = regular_extent p.place p.count;
+          reads = reads;
+          generation = newest;
+          encoding = (refl, refl, omega arith);
+          place = omega arith;
+          content = (
+            record {
+              whole = (omega arith, omega arith, omega arith, omega arith, omega arith);
+              some = λ none. omega (arith, none, some);
+              in_memory = omega arith;
+              on_disk = λ no_hole plain. omega arith;
+              hole = (
+                λ hole. (let none = eqb-true (4096 * p.place) 0 hole in absurd (omega (arith, none, high))),
+                λ none. absurd (omega (arith, none, some)),
+              );
+            },
+            λ packed. absurd (packed refl),
+          );
+          sums = λ needs. absurd (needs refl);
+          owner = owner;
+        },
+        ends_by (extent_item ino block (regular_extent p.place p.count)) (regular_extent p.place p.count) reads (omega (arith, few)),
+      )
 
-  pub inline_keeps : (ino : ℕ) (bytes : List ℕ) → 1 ≤ length bytes → length bytes < 4096 → IsOfBytes t ino → KeepsExtent sup t (extent_item ino 0 (inline_extent bytes))
-  inline_keeps ino bytes some few owner = record {
-    extent = inline_extent bytes;
-    reads = inline_read bytes (omega (arith, few));
-    generation = newest;
-    encoding = (refl, refl, omega arith);
-    place = omega arith;
-    content = (omega arith, some, omega (arith, few), few, λ plain. refl);
-    owner = owner;
-  }
+  pub inline_keeps : (ino : ℕ) (bytes : List ℕ) → 1 ≤ length bytes → length bytes < 4096 → IsOfBytes t ino → IsKept sup t (extent_item ino 0 (inline_extent bytes))
+  inline_keeps ino bytes some few owner = (
+    record {
+      extent = inline_extent bytes;
+      reads = inline_read bytes (omega (arith, few));
+      generation = newest;
+      encoding = (refl, refl, omega arith);
+      place = omega arith;
+      content = (omega arith, some, omega (arith, few), few, λ plain. refl);
+      sums = λ needs. absurd needs;
+      owner = owner;
+    },
+    ends_by (extent_item ino 0 (inline_extent bytes)) (inline_extent bytes) (inline_read bytes (omega (arith, few))) (omega (arith, few)),
+  )
 
 -- ---- extents of pieces that lie one behind the other in a file
 
@@ -147,17 +163,17 @@ module _ (image : Image) (m : Making) (made : IsMaking image m) (sup : Super) (n
         let long : length (target_bytes (items_of key src.items) (size_in src key)) ≡ size_in src key = ap length st.bytes ∙ length_bytes (size_in src key) (file_byte image (items_of key src.items)) 0 in
         (omega (arith, long, some), omega (arith, long, short))
 
-    keep : IsOfBytes (tree image m made nodes) n → AllByRecursion (KeepsExtent sup (tree image m made nodes)) (file_extent_items src key)
+    keep : IsOfBytes (tree image m made nodes) n → AllByRecursion (IsKept sup (tree image m made nodes)) (file_extent_items src key)
     unfolding file_extent_items
     keep owner = by (inline_in src key) refl
       where
         by : (b : Bool) → inline_in src key ≡ b
-            → AllByRecursion (KeepsExtent sup (tree image m made nodes)) (if b then extent_item (ino_of src key) 0 (inline_extent (target_bytes (items_of key src.items) (size_in src key))) ∷ [] else extents_at (ino_of src key) file_block (pieces_of src.pieces (ino_of src key)))
+            → AllByRecursion (IsKept sup (tree image m made nodes)) (if b then extent_item (ino_of src key) 0 (inline_extent (target_bytes (items_of key src.items) (size_in src key))) ∷ [] else extents_at (ino_of src key) file_block (pieces_of src.pieces (ino_of src key)))
         by true is = let here = stays_here is in (inline_keeps sup (tree image m made nodes) newest (ino_of src key) (target_bytes (items_of key src.items) (size_in src key)) here.0 here.1 owner, tt)
         by false is =
-            all_mapped (KeepsExtent sup (tree image m made nodes)) (λ (p : Piece). extent_item (ino_of src key) (file_block p) (regular_extent p.place p.count)) (pieces_of m.pieces (ino_of src key))
-            (all_of_inode (λ p. KeepsExtent sup (tree image m made nodes) (extent_item (ino_of src key) (file_block p) (regular_extent p.place p.count))) m.pieces (ino_of src key)
-            (λ p h t. regular_keeps sup (tree image m made nodes) newest (ino_of src key) (file_block p) p (placed p h) owner))
+            all_mapped (IsKept sup (tree image m made nodes)) (λ (p : Piece). extent_item (ino_of src key) (file_block p) (regular_extent p.place p.count)) (pieces_of m.pieces (ino_of src key))
+            (all_of_inode (λ p. IsKept sup (tree image m made nodes) (extent_item (ino_of src key) (file_block p) (regular_extent p.place p.count))) m.pieces (ino_of src key)
+            (λ p h t. regular_keeps sup (tree image m made nodes) newest (ino_of src key) (file_block p) p (placed p h) (owner_low image m made p (ino_of src key) h (owner_is (ino_of src key) p t)) owner))
 
     lie_apart : AllPairs EndsBefore (file_extent_items src key)
     unfolding file_extent_items
@@ -182,17 +198,21 @@ module _ (image : Image) (m : Making) (made : IsMaking image m) (sup : Super) (n
       (λ (empty : filter (is_extent ino) (fs_tree_items src) ≡ []). subst P (sym empty) none)
       (any_extents src at.0 at.1 ino)
 
-  each_keeps : (i : Item) → Contains (of_kind EXTENT_DATA (fs_tree_items src)) i → KeepsExtent sup (tree image m made nodes) i
+  each_keeps : (i : Item) → Contains (of_kind EXTENT_DATA (fs_tree_items src)) i → IsKept sup (tree image m made nodes) i
   each_keeps i h =
       let kept = from_filter (λ (j : Item). j.0.kind == EXTENT_DATA) (fs_tree_items src) i h in
       let own : is_extent i.0.objectid i ≡ true = and_from (i.0.objectid == i.0.objectid) (i.0.kind == EXTENT_DATA) (eq-eqb i.0.objectid i.0.objectid refl) kept.1 in
-      all_in (KeepsExtent sup (tree image m made nodes)) (filter (is_extent i.0.objectid) (fs_tree_items src)) i
-      (by_object (AllByRecursion (KeepsExtent sup (tree image m made nodes))) tt (λ key among has. keep key among (kind_in src key, has_kind image m made sup nodes there bytes key among, has)) i.0.objectid)
+      all_in (IsKept sup (tree image m made nodes)) (filter (is_extent i.0.objectid) (fs_tree_items src)) i
+      (by_object (AllByRecursion (IsKept sup (tree image m made nodes))) tt (λ key among has. keep key among (kind_in src key, has_kind image m made sup nodes there bytes key among, has)) i.0.objectid)
       (in_filter (is_extent i.0.objectid) (fs_tree_items src) i kept.0 own)
+
+  all_kept : All (IsKept sup (tree image m made nodes)) (of_kind EXTENT_DATA (fs_tree_items src))
+  all_kept = all_from_contains (IsKept sup (tree image m made nodes)) (of_kind EXTENT_DATA (fs_tree_items src)) each_keeps
 
   pub file_extents : AreExtents sup (tree image m made nodes)
   file_extents = record {
-    each = all_from_contains (KeepsExtent sup (tree image m made nodes)) (of_kind EXTENT_DATA (fs_tree_items src)) each_keeps;
+    each = λ i d h. (all_kept i d h).0;
+    ends = λ i d h. (all_kept i d h).1;
     apart = λ ino. subst (AllPairs EndsBefore) (sym (in_one (tree image m made nodes) ino)) (by_object (AllPairs EndsBefore) (λ a b d l h. absurd (omega (arith, h))) (λ key among has. lie_apart key among) ino);
     covering = λ off ino inode kind has is_kind to_bytes some k low. absurd (true≢false (sym full ∙ off));
   }
@@ -217,30 +237,39 @@ module _ (sup : Super) (newest : 1 ≤ sup.generation) (full : has_feature sup N
   kept : of_kind EXTENT_DATA t.items ≡ extents
   kept = ap (of_kind EXTENT_DATA) are ∙ of_image
 
-  keep_all : (ps : List Piece) → AllByRecursion IsPlaced ps → AllByRecursion (KeepsExtent sup t) (extents_at 257 source_block ps)
-  keep_all [] placed_ = tt
-  keep_all (p ∷ ps) placed_ = (regular_keeps sup t newest 257 (source_block p) p placed_.0 (File, own, refl), keep_all ps placed_.1)
+  sources_low : (low : ℕ) (ps : List Piece) → AreSources ranges low ps → AllByRecursion (λ p. source_block p + p.count ≤ 2 ^ 32) ps
+  sources_low low [] is = tt
+  sources_low low (p ∷ ps) is = (let inside = is.0.inside in omega (arith, inside), sources_low (source_block p + p.count) ps is.2)
+
+  keep_all : (ps : List Piece) → AllByRecursion IsPlaced ps → AllByRecursion (λ p. source_block p + p.count ≤ 2 ^ 32) ps → AllByRecursion (IsKept sup t) (extents_at 257 source_block ps)
+  keep_all [] placed_ few = tt
+  keep_all (p ∷ ps) placed_ few = (regular_keeps sup t newest 257 (source_block p) p placed_.0 few.0 (File, own, refl), keep_all ps placed_.1 few.1)
 
   pub saved_extents : AreExtents sup t
   saved_extents =
       let is_placed : AllByRecursion IsPlaced parts = all_placed ranges 0 parts sources in
+      let all : All (IsKept sup t) (of_kind EXTENT_DATA t.items) = subst (All (IsKept sup t)) (sym kept) (All-from_recursion (IsKept sup t) extents (keep_all parts is_placed (sources_low 0 parts sources))) in
       record {
-        each = subst (All (KeepsExtent sup t)) (sym kept) (All-from_recursion (KeepsExtent sup t) extents (keep_all parts is_placed));
+        each = λ i d h. (all i d h).0;
+        ends = λ i d h. (all i d h).1;
         apart = λ ino. AllPairs-filter EndsBefore (is_of_inode ino) (of_kind EXTENT_DATA t.items) (subst (AllPairs EndsBefore) (sym kept) (pieces_apart source_block 257 parts is_placed (from_sources ranges 0 parts sources)));
         covering = λ off ino inode kind has is_kind to_bytes some k low. absurd (true≢false (sym full ∙ off));
       }
+
+-- a tree without extents
+module _ (sup : Super) (full : has_feature sup NO_HOLES ≡ true) (t : TreeOn) (none : of_kind EXTENT_DATA t.items ≡ []) where
+  pub no_extents : AreExtents sup t
+  no_extents = record {
+    each = subst (All (KeepsExtent sup t)) (sym none) (All-nil (KeepsExtent sup t));
+    ends = subst (All EndsInFile) (sym none) (All-nil EndsInFile);
+    apart = λ ino. subst (λ (l : List Item). AllPairs EndsBefore (filter (is_of_inode ino) l)) (sym none) (λ a b d l h. absurd (omega (arith, h)));
+    covering = λ off ino inode kind has is_kind to_bytes some k low. absurd (true≢false (sym full ∙ off));
+  }
 
 module _ (sup : Super) (full : has_feature sup NO_HOLES ≡ true) (now : ℕ) (t : TreeOn) (are : t.items ≡ relocation_items now) where
   none_in : of_kind EXTENT_DATA (relocation_items now) ≡ []
   unfolding relocation_items
   none_in = refl
 
-  none_kept : of_kind EXTENT_DATA t.items ≡ []
-  none_kept = ap (of_kind EXTENT_DATA) are ∙ none_in
-
   pub relocation_extents : AreExtents sup t
-  relocation_extents = record {
-    each = subst (All (KeepsExtent sup t)) (sym none_kept) (All-nil (KeepsExtent sup t));
-    apart = λ ino. subst (λ (l : List Item). AllPairs EndsBefore (filter (is_of_inode ino) l)) (sym none_kept) (λ a b d l h. absurd (omega (arith, h)));
-    covering = λ off ino inode kind has is_kind to_bytes some k low. absurd (true≢false (sym full ∙ off));
-  }
+  relocation_extents = no_extents sup full t (ap (of_kind EXTENT_DATA) are ∙ none_in)

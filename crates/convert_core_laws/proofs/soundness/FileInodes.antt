@@ -1,14 +1,14 @@
 -- The inodes and the entries of the file tree keep the rules of Linux.
-use Rattle.convert_core_laws.proofs.Imports.{◌≡◌, ◌≢◌, ◌≤◌, ◌<◌, ℕ, zero, suc, ◌+◌, ◌/◌, ◌^◌, ◌==◌, Bool, true, false, cond, not, List, [], ◌∷◌, ◌++◌, map, filter, count_by, length, Option, Some, None, refl, sym, ap, subst, ◌∙◌, ⊎_elim, true≢false, arith, AllByRecursion, cases_lt, eq-eqb, eqb-true, ne_eqb, All-from_recursion, AllPairs-cons, sum_by-cons, FT_DIR, FIRST_FREE_OBJECTID, keys, Image, inode_bytes, Item, is_name, NodePointer, Super, AreInodes, HasInode, HasKind, IsDirEntry, IsOwned, KeepsInode, SameName, entry_type, is_orphan, IndexEntry, IsThere, index_entries, names_inode_item, ref_name_count, TreeOn, two_cases, IsMaking, Making, HasPieces, IndexedLink as Link, Indexed, entry_kind, indexed, indexed_in, indexed_links, names_in, next_index, saved_entry, Source, fs_tree_items, ino_of, inode_in, kind_in, link_count, object_items, stat_in, InodesAreThere, HasBytes, inodes_climb, directories_apart, is_directory_there, kind_is, links_short, names_apart, root_known, entries_apart, is_link, Across, Apart, all_from, all_in, apart_both, apart_climb, apart_flat, apart_from, apart_map, apart_with, good_link, one_object, root_number, from_filter, from_flat_map, from_map, head_or_tail, in_filter, all_from_contains, is_directory, kind_of_code, Kind, Directory, File, Symlink, Character, Block, Fifo, Socket, Subvolume, root, same_key, IsNamed, IsReachedBy, followed, is_followed, namings, IsDirectory, ObjectKey, Naming, volume_items, accepted_is_small, same_key-self, same_key-true}
+use Rattle.convert_core_laws.proofs.Imports.{◌≡◌, ◌≢◌, ◌≤◌, ◌<◌, ℕ, zero, suc, ◌+◌, ◌/◌, ◌^◌, ◌==◌, Bool, true, false, cond, List, [], ◌∷◌, map, count_by, length, Option, Some, None, refl, sym, ap, subst, ◌∙◌, ⊎_elim, true≢false, arith, ◌++◌, AllByRecursion, cases_lt, eq-eqb, eqb-true, ne_eqb, All-from_recursion, Contains-append_left, AllPairs-cons, sum_by-cons, FT_DIR, INODE_IMMUTABLE, INODE_APPEND, keys, Image, inode_bytes, Item, is_name, NodePointer, Super, AreInodes, IsDirEntry, IsOwned, KeepsInode, SameName, HasInode, HasKind, entry_type, is_orphan, ref_name_count, other_flags, ComesToEnd, below, unnamed, IndexEntry, IsThere, index_entries, names_inode_item, TreeOn, two_cases, IsMaking, Making, HasPieces, IndexedLink as Link, Indexed, entry_kind, indexed, indexed_in, indexed_links, names_in, next_index, saved_entry, entries_behind, entry_behind, Source, fs_tree_items, ino_of, inode_in, kind_in, link_count, object_items, stat_in, InodesAreThere, HasBytes, directories_apart, is_directory_there, kind_is, links_short, names_apart, root_known, entries_apart, is_link, Across, Apart, all_from, all_in, apart_both, apart_climb, apart_flat, apart_from, apart_map, apart_with, good_link, one_object, root_number, link_directory, from_filter, from_flat_map, from_map, head_or_tail, in_filter, in_map, in_flat_map, at_head, in_tail, all_from_contains, is_directory, kind_of_code, Kind, Directory, File, Symlink, Character, Block, Fifo, Socket, Subvolume, root, same_key, IsNamed, IsReachedBy, followed, is_followed, namings, IsDirectory, ObjectKey, Naming, volume_items, accepted_is_small, same_key-self, same_key-true, bit_and, inode_flags}
 use Rattle.std.proofs.Common.{flat_map, Contains, All, AllPairs, is_some, if◌then◌else◌}
 use Rattle.reiser_volume.specs.reiser_volume_objects.Kinds.{kind_of_mode}
 use Rattle.convert_core_laws.proofs.Owned.{IsOf, of_object}
 use Rattle.convert_core_laws.proofs.soundness.Assembling.{entries_are}
 use Rattle.convert_core_laws.proofs.soundness.Distinct.{AreDistinct, none_pass, one_passes}
 use Rattle.convert_core_laws.proofs.soundness.Entered.{IsEntry, IsOfDirectory, by_image, by_link, of_directory}
-use Rattle.convert_core_laws.proofs.soundness.Flags.{inode_reads, inode_there}
-use Rattle.convert_core_laws.proofs.soundness.Inodes.{count_told, each_object, kind_told, made_once, mode_in, names_count, nlink_in, nlink_other, root_kind, tree}
-use Rattle.convert_core_laws.proofs.soundness.Names.{climbs, from_order, is_in, objects, tells_tree}
+use Rattle.convert_core_laws.proofs.soundness.Flags.{flags_are, flags_known, inode_reads, inode_there, link_flags}
+use Rattle.convert_core_laws.proofs.soundness.Inodes.{count_told, some_same, each_object, kind_told, made_once, mode_in, names_count, nlink_in, nlink_other, root_kind, tree}
+use Rattle.convert_core_laws.proofs.soundness.Names.{climbs, from_order, in_order, is_in, objects, tells_tree}
 use Rattle.convert_core_laws.proofs.soundness.Numbers.{inode_range}
 use Rattle.convert_core_laws.proofs.soundness.Objects.{index_some, indexes, link_among, listed, names, s}
 use Rattle.convert_core_laws.proofs.soundness.Telling.{index_by}
@@ -26,6 +26,14 @@ count_some {X} p (y ∷ xs) x h t =
     ⊎_elim
     (λ (same : y ≡ x). let one : cond (p y) 1 0 ≡ 1 = ap {B = ℕ} (λ (b : Bool). cond b 1 0) (ap p same ∙ t) in omega (arith, whole, one))
     (λ (later : Contains xs x). let more = count_some p xs x later t in omega (arith, whole, more)) (head_or_tail y xs x h)
+
+-- each link is one of those with their indexes
+link_entry : (before links : List Naming) (n : Naming) → Contains links n → (e : Link) × Contains (entries_behind before links) e × (e.link ≡ n)
+link_entry before [] n h = absurd (omega (arith, h.1))
+link_entry before (l ∷ links) n h =
+    let rest : List Link = entries_behind (before ++ l ∷ []) links in
+    ⊎_elim (λ (same : l ≡ n). (entry_behind before l, at_head (entry_behind before l) rest, same))
+    (λ (later : Contains links n). let e = link_entry (before ++ l ∷ []) links n later in (e.0, in_tail (entry_behind before l) rest e.0 e.1, e.2)) (head_or_tail l links n h)
 
 -- ---- modes
 
@@ -65,14 +73,17 @@ module _ (image : Image) (m : Making) (made : IsMaking image m) where
 
   -- ---- the links of an object
 
-  link_of : (steps : ℕ) (key : ObjectKey) → IsReachedBy (followed (volume_items image)) steps key → key ≢ root → (l : Naming) × Contains src.links l × (l.target ≡ key)
-  link_of zero key reached other = absurd (other reached)
-  link_of (suc steps) key reached other =
+  reached_link : (steps : ℕ) (key : ObjectKey) (reached : IsReachedBy (followed (volume_items image)) (suc steps) key) → Contains src.links reached.0
+  reached_link steps key reached =
       let n : Naming = reached.0 in
       let kept = from_filter is_followed (namings (volume_items image)) n reached.1 in
       let has : of.opened.are_links.has n.dir ≡ true = (of.opened.are_links.exact n.dir).1 (steps, reached.3) in
       let visible : Contains of.opened.visible n = subst (λ (ns : List Naming). Contains ns n) (sym of.opened.are_links.are_visible) (in_filter (λ (x : Naming). of.opened.are_links.has x.dir) (namings (volume_items image)) n kept.0 has) in
-      (n, subst (λ (ns : List Naming). Contains ns n) (sym of.opened.are_links.are_links) (in_filter is_followed of.opened.visible n visible kept.1), reached.2)
+      subst (λ (ns : List Naming). Contains ns n) (sym of.opened.are_links.are_links) (in_filter is_followed of.opened.visible n visible kept.1)
+
+  link_of : (steps : ℕ) (key : ObjectKey) → IsReachedBy (followed (volume_items image)) steps key → key ≢ root → (l : Naming) × Contains src.links l × (l.target ≡ key)
+  link_of zero key reached other = absurd (other reached)
+  link_of (suc steps) key reached other = (reached.0, reached_link steps key reached, reached.2)
 
   -- each object but the root has one
   link_to : (key : ObjectKey) → Contains all key → key ≢ root → (l : Naming) × Contains src.links l × (l.target ≡ key)
@@ -291,7 +302,65 @@ module _ (image : Image) (m : Making) (made : IsMaking image m) where
           generation = (omega (arith, generation), omega (arith, transid));
           links = nlink_in src key ∙ links.0;
           orphan = λ none. absurd (omega (arith, none, some));
+          flags = subst (λ (n : ℕ). bit_and n other_flags ≡ 0) (sym (flags_are src key)) (flags_known src.datasum src.flags (stat_in src key) (kind_in src key));
+          symlink = λ is. subst (λ (n : ℕ). bit_and n (INODE_IMMUTABLE + INODE_APPEND) ≡ 0) (sym (flags_are src key))
+              (subst (λ (k : Kind). bit_and (inode_flags src.datasum src.flags (stat_in src key) k) (INODE_IMMUTABLE + INODE_APPEND) ≡ 0) (sym (some_same (kind_in src key) Symlink (sym (kind_told image m made key among) ∙ is)))
+              (link_flags src.datasum src.flags (stat_in src key)));
         }
+
+    entries_told : index_entries (tree image m made nodes) ≡ flat_map (indexes image m made) (objects image m made)
+    entries_told = entries_are (tree image m made nodes) (flat_map (indexes image m made) (objects image m made)) (flat_map (names image m made) (objects image m made)) (tells_tree image m made)
+
+    -- ---- what stands above an object
+
+    -- the link of a directory is an entry
+    entry_there : (l : Naming) → Contains src.links l → (e : IndexEntry) × Contains (index_entries (tree image m made nodes)) e × (names_inode_item e ≡ true) × (e.entry.dir ≡ ino_of src l.dir) × (e.entry.location.objectid ≡ ino_of src l.target)
+    entry_there l h =
+        let of_link = link_entry [] src.links l h in
+        let f : Link = of_link.0 in
+        let x : Indexed = indexed (kind_in src) src.keys f in
+        let within : Contains (names_in src.links l.dir) f = in_filter (λ (g : Link). same_key g.link.dir l.dir) (indexed_links src.links) f of_link.1 (ap (λ (n : Naming). same_key n.dir l.dir) of_link.2 ∙ same_key-self l.dir) in
+        let in_list : Contains (listed image m made l.dir Directory) x =
+        Contains-append_left (map (indexed (kind_in src) src.keys) (names_in src.links l.dir)) (if same_key l.dir root then (next_index src.links l.dir, saved_entry) ∷ [] else []) x
+        (in_map (indexed (kind_in src) src.keys) (names_in src.links l.dir) f within) in
+        let in_own : Contains (listed image m made l.dir (kind_in src l.dir)) x =
+        subst (λ (kind : Kind). Contains (listed image m made l.dir kind) x) (sym (link_directory m.volume image m.options m.plan m.pieces of l h)) in_list in
+        let known : Contains all l.dir = (good_link m.volume image m.options m.plan m.pieces of l h).dir_known in (
+          index_by (ino_of src l.dir) x,
+          subst (λ (es : List IndexEntry). Contains es (index_by (ino_of src l.dir) x)) (sym entries_told)
+              (in_flat_map (indexes image m made) (objects image m made) l.dir (index_by (ino_of src l.dir) x) (in_order image m made l.dir known) (in_map (index_by (ino_of src l.dir)) (listed image m made l.dir (kind_in src l.dir)) x in_own)),
+          refl,
+          refl,
+          ap (λ (n : Naming). ino_of src n.target) of_link.2,
+        )
+
+    root_end : ComesToEnd (tree image m made nodes) (ino_of src root)
+    root_end = unnamed (ino_of src root) (λ e h to_inode same. named_root e (of_directory image m made e (subst (λ (es : List IndexEntry). Contains es e) entries_told h)) to_inode same)
+      where
+        named_root : (e : IndexEntry) (o : IsOfDirectory image m made e) → names_inode_item e ≡ true → e.entry.location.objectid ≡ ino_of src root → ⊥
+        named_root e o to_inode same = by o.entry
+          where
+            by : IsEntry image m made o.key o.x → ⊥
+            by (by_link f h is) =
+                let target : ObjectKey = f.link.target in
+                let number : ino_of src target ≡ e.entry.location.objectid = ap (λ (y : Indexed). y.1.location.objectid) is ∙ ap (λ (y : IndexEntry). y.entry.location.objectid) o.is in
+                let good = good_link m.volume image m.options m.plan m.pieces of f.link (link_among src.links f (is_in image m made o.key f h).entry) in
+                good.not_root (one_object m.volume image m.options m.plan m.pieces of target root good.target_known (root_known m.volume image of.accepted of.opened) (number ∙ same))
+            by (by_image at is) =
+                true≢false (sym to_inode ∙ (sym (ap names_inode_item o.is) ∙ sym (ap (λ (y : Indexed). names_inode_item (index_by (ino_of src o.key) y)) is)))
+
+    comes_to_end : (steps : ℕ) (key : ObjectKey) → IsReachedBy (followed (volume_items image)) steps key → ComesToEnd (tree image m made nodes) (ino_of src key)
+    comes_to_end zero key reached = subst (λ (k : ObjectKey). ComesToEnd (tree image m made nodes) (ino_of src k)) (sym reached) root_end
+    comes_to_end (suc steps) key reached =
+        let l : Naming = reached.0 in
+        let e = entry_there l (reached_link steps key reached) in
+        let above : ComesToEnd (tree image m made nodes) e.0.entry.dir = subst (λ (n : ℕ). ComesToEnd (tree image m made nodes) n) (sym e.3) (comes_to_end steps l.dir reached.3) in
+        subst (λ (n : ℕ). ComesToEnd (tree image m made nodes) n) (e.4 ∙ ap (ino_of src) reached.2) (below e.0 e.1 e.2 above)
+
+    all_end : (ino : ℕ) → HasKind (tree image m made nodes) ino Directory → ComesToEnd (tree image m made nodes) ino
+    all_end ino has =
+        each_object image m made nodes there bytes (λ n inode. ComesToEnd (tree image m made nodes) n)
+        (λ key among. let named : IsNamed (volume_items image) key = (of.opened.are_keys.exact key).0 among in comes_to_end named.0 key named.1) ino has.1.body has.0 has.1.there has.1.reads
 
     -- ---- the whole tree
 
@@ -312,7 +381,7 @@ module _ (image : Image) (m : Making) (made : IsMaking image m) where
     pub file_inodes : AreInodes sup (tree image m made nodes)
     file_inodes =
         let index_all : List IndexEntry = flat_map (indexes image m made) (objects image m made) in
-        let are : index_entries (tree image m made nodes) ≡ index_all = entries_are (tree image m made nodes) index_all (flat_map (names image m made) (objects image m made)) (tells_tree image m made) in
+        let are : index_entries (tree image m made nodes) ≡ index_all = entries_told in
         record {
           root =
               subst (λ (n : ℕ). HasKind (tree image m made nodes) n Directory) (root_number m.volume image m.options m.plan m.pieces of)
@@ -321,4 +390,5 @@ module _ (image : Image) (m : Making) (made : IsMaking image m) where
           once = subst (AllPairs Differ) (sym are) (pairs_from Differ index_all all_differ);
           inodes = λ ino inode has. each_object image m made nodes there bytes (KeepsInode sup (tree image m made nodes)) keeps ino has.body inode has.there has.reads;
           owned = all_from_contains (λ (i : Item). is_orphan i ≡ false → IsOwned (tree image m made nodes) i) (fs_tree_items src) (λ i h plain. owned_by i h);
+          above = all_end;
         }

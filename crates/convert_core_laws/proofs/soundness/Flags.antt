@@ -1,5 +1,5 @@
 -- The inodes of a converted volume: where they stand, and whether their data has checksums.
-use Rattle.convert_core_laws.proofs.Imports.{◌≡◌, ◌≤◌, ◌<◌, ℕ, ◌+◌, ◌*◌, ◌%◌, ◌^◌, Bool, true, false, not, ◌&&◌, List, [], ◌∷◌, ◌++◌, filter, map, Some, refl, sym, ap, subst, ◌∙◌, ⊎_elim, arith, Contains, if◌then◌else◌, w64, option_and_then, Less, cases_Bool, eq-eqb, ne_eqb, not_from_false, fits_signed_from_abs, map-append, Contains-append_left, Contains-append_right, INODE_APPEND, INODE_IMMUTABLE, INODE_NOATIME, INODE_NODATASUM, INODE_NODUMP, INODE_SYNC, FIRST_FREE_OBJECTID, IMAGE_MODE, keys, in_filter, in_flat_map, Image, inode_bytes, inode_layout, inode_of, stamp_layout, Inode, inodes_read_back, Item, keys_of, ascends, has_no_sums, TreeItem, bare_item, HasPieces, made_from, two_cases, extents_at, piece_bytes, pieces_of_volume, source_block, if_set, inode_flags, image_entries, image_flags, image_head, image_items, image_name, root_directory_items, Source, content_items, inode_in, kind_in, name_items, ino_of, object_items, stat_in, fs_tree_items, InodesAreThere, is_file, is_symlink, Kind, File, inode_item, inode_made, ref_item, stamp_of, contains_head, contains_tail, root, same_key, ObjectKey, ObjectStat, same_key-true, by_inode, flag, Volume, HasBytes, item_cmp, Rise, Options, Piece, Plan}
+use Rattle.convert_core_laws.proofs.Imports.{◌≡◌, ◌≤◌, ◌<◌, ℕ, ◌+◌, ◌*◌, ◌%◌, ◌^◌, Bool, true, false, not, ◌&&◌, List, [], ◌∷◌, ◌++◌, filter, map, Some, refl, sym, ap, subst, ◌∙◌, ⊎_elim, arith, ◌==◌, Contains, if◌then◌else◌, bit_and, w64, option_and_then, Less, cases_Bool, eq-eqb, ne_eqb, not_from_false, and_parts, eqb-true, fits_signed_from_abs, map-append, Contains-append_left, Contains-append_right, INODE_APPEND, INODE_IMMUTABLE, INODE_NOATIME, INODE_NODATASUM, INODE_NODUMP, INODE_SYNC, FIRST_FREE_OBJECTID, IMAGE_MODE, keys, in_filter, in_flat_map, Image, inode_bytes, inode_layout, inode_of, stamp_layout, Inode, inodes_read_back, Item, keys_of, ascends, has_no_sums, other_flags, TreeItem, bare_item, HasPieces, made_from, two_cases, extents_at, piece_bytes, pieces_of_volume, source_block, if_set, inode_flags, image_entries, image_flags, image_head, image_items, image_name, root_directory_items, Source, content_items, inode_in, kind_in, name_items, ino_of, object_items, stat_in, fs_tree_items, InodesAreThere, is_file, is_symlink, Kind, File, Symlink, inode_item, inode_made, ref_item, stamp_of, contains_head, contains_tail, root, same_key, ObjectKey, ObjectStat, same_key-true, by_inode, flag, Volume, HasBytes, item_cmp, Rise, Options, Piece, Plan}
 use Rattle.std.proofs.Common.{pos}
 use Rattle.btr_reader.proofs.btr_node.Ascending.{second_ascends}
 use Rattle.convert_trees_laws.proofs.Exact.{inodes_are_read}
@@ -29,9 +29,51 @@ low_bit datasum flags stat kind =
     sum_even (if_set (is_file kind && not datasum) INODE_NODATASUM) (if_set (flag flags stat 3) INODE_SYNC) (if_set (not (is_symlink kind) && flag flags stat 4) INODE_IMMUTABLE) (if_set (not (is_symlink kind) && flag flags stat 5) INODE_APPEND) (if_set (flag flags stat 6) INODE_NODUMP) (if_set (flag flags stat 7) INODE_NOATIME)
     (at_most (is_file kind && not datasum)) (even (flag flags stat 3) INODE_SYNC refl) (even (not (is_symlink kind) && flag flags stat 4) INODE_IMMUTABLE refl) (even (not (is_symlink kind) && flag flags stat 5) INODE_APPEND refl) (even (flag flags stat 6) INODE_NODUMP refl) (even (flag flags stat 7) INODE_NOATIME refl)
 
-flags_are : (s : Source) (key : ObjectKey) → (inode_in s key).flags ≡ inode_flags s.datasum s.flags (stat_in s key) (kind_in s key)
+pub flags_are : (s : Source) (key : ObjectKey) → (inode_in s key).flags ≡ inode_flags s.datasum s.flags (stat_in s key) (kind_in s key)
 unfolding inode_in
 flags_are s key = refl
+
+-- ---- flags that Linux knows
+
+-- what holds of both holds of each
+both : (p : Bool → Bool) → (p true && p false) ≡ true → (b : Bool) → p b ≡ true
+both p t true = (and_parts (p true) (p false) t).0
+both p t false = (and_parts (p true) (p false) t).1
+
+abbrev flag_sum : Bool → Bool → Bool → Bool → Bool → Bool → ℕ
+flag_sum a b c d e f = if_set a INODE_NODATASUM + (if_set b INODE_SYNC + (if_set c INODE_IMMUTABLE + (if_set d INODE_APPEND + (if_set e INODE_NODUMP + if_set f INODE_NOATIME))))
+
+-- all sums of such flags have no bit of a mask, which is seen from each of the sums
+abbrev all_of : (Bool → Bool) → Bool
+all_of p = p true && p false
+
+apart_from : (mask : ℕ) (a b c d e f : Bool) → all_of (λ a. all_of (λ b. all_of (λ c. all_of (λ d. all_of (λ e. all_of (λ f. bit_and (flag_sum a b c d e f) mask == 0)))))) ≡ true → bit_and (flag_sum a b c d e f) mask ≡ 0
+apart_from mask a b c d e f t =
+    let test : Bool → Bool → Bool → Bool → Bool → Bool → Bool = λ a b c d e f. bit_and (flag_sum a b c d e f) mask == 0 in
+    eqb-true (bit_and (flag_sum a b c d e f) mask) 0
+    (both (test a b c d e)
+    (both (λ e. all_of (test a b c d e))
+    (both (λ d. all_of (λ e. all_of (test a b c d e)))
+    (both (λ c. all_of (λ d. all_of (λ e. all_of (test a b c d e))))
+    (both (λ b. all_of (λ c. all_of (λ d. all_of (λ e. all_of (test a b c d e))))) (both (λ a. all_of (λ b. all_of (λ c. all_of (λ d. all_of (λ e. all_of (test a b c d e)))))) t a) b) c) d) e) f)
+
+pub flags_known : (datasum : Bool) (flags : ℕ) (stat : ObjectStat) (kind : Kind) → bit_and (inode_flags datasum flags stat kind) other_flags ≡ 0
+flags_known datasum flags stat kind =
+    apart_from other_flags (is_file kind && not datasum) (flag flags stat 3) (not (is_symlink kind) && flag flags stat 4) (not (is_symlink kind) && flag flags stat 5) (flag flags stat 6) (flag flags stat 7) refl
+
+-- a symlink is neither immutable nor append-only
+pub link_flags : (datasum : Bool) (flags : ℕ) (stat : ObjectStat) → bit_and (inode_flags datasum flags stat Symlink) (INODE_IMMUTABLE + INODE_APPEND) ≡ 0
+link_flags datasum flags stat = by (flag flags stat 3) (flag flags stat 6) (flag flags stat 7)
+  where
+    by : (b e f : Bool) → bit_and (flag_sum false b false false e f) (INODE_IMMUTABLE + INODE_APPEND) ≡ 0
+    by true true true = refl
+    by true true false = refl
+    by true false true = refl
+    by true false false = refl
+    by false true true = refl
+    by false true false = refl
+    by false false true = refl
+    by false false false = refl
 
 -- the lowest flag is that of data without checksums
 pub flag_bit : (s : Source) (key : ObjectKey) → (inode_in s key).flags % 2 ≡ if_set (is_file (kind_in s key) && not s.datasum) INODE_NODATASUM

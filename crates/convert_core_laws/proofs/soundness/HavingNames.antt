@@ -1,5 +1,6 @@
 -- The names of a converted volume are sound.
-use Rattle.convert_core_laws.proofs.Imports.{◌≤◌, ◌<◌, ℕ, ◌-◌, ◌^◌, List, [], ◌∷◌, filter, refl, sym, subst, arith, is_some, AllByRecursion, All-cons, All-nil, Contains-permutation, CONV_IMAGE_SUBVOL, DATA_RELOC_TREE, FS_TREE, Image, Ids, IsNodeSize, AreExtents, HaveExtents, AreInodes, HaveInodes, AreTreeNames, HaveNames, Recount, TreeOn, IsMaking, Making, HasPieces, file_tree_items, image_tree_items, root_tree_items, TreeRoots, blocks_few, NewIdsFit, IsNewVolume, map_for, super_for, piece_bytes, pieces_of_volume, source_block, relocation_items, FilesAreHeld, InodesAreThere, ImageKeysAscend, from_filter, HasBytes, all_from, TreeNode, Options, Piece, recount_for, tree_for, ConvertedFileExtentsAreSound, ConvertedInodesAreSound, ConvertedNamesAreSound, Files, SavedImage, Relocation}
+use Rattle.convert_core_laws.proofs.Imports.{◌≤◌, ◌<◌, ℕ, ◌^◌, List, [], ◌∷◌, filter, refl, sym, subst, arith, get_or, is_some, All, AllByRecursion, All-cons, All-nil, Contains-permutation, CONV_IMAGE_SUBVOL, DATA_RELOC_TREE, FS_TREE, Image, Ids, IsNodeSize, AreExtents, AreInodes, AreTreeNames, Recount, TreeOn, IsMaking, Making, HasPieces, file_tree_items, image_tree_items, root_tree_items, TreeRoots, blocks_few, NewIdsFit, IsNewVolume, map_for, super_for, piece_bytes, pieces_of_volume, source_block, relocation_items, FilesAreHeld, InodesAreThere, ImageKeysAscend, from_filter, HasBytes, all_from, TreeNode, Options, Piece, recount_for, tree_for, ConvertedFileExtentsAreSound, ConvertedInodesAreSound, ConvertedNamesAreSound, Files, SavedImage, Relocation, KeepsRootRefs}
+use Rattle.btr_check_rules.specs.Recount.{file_trees}
 use Rattle.convert_core_laws.proofs.reading.SavedExtents.{AreSources, sources_bytes}
 use Rattle.convert_core_laws.proofs.reading.SavedPieces.{are_sources}
 use Rattle.convert_core_laws.proofs.soundness.Recounting.{generation_is, volume_for, without_holes}
@@ -9,8 +10,10 @@ use Rattle.convert_core_laws.proofs.soundness.Flags.{image_extents_ascend}
 use Rattle.convert_core_laws.proofs.soundness.Entered.{file_names}
 use Rattle.convert_core_laws.proofs.soundness.FileExtents.{file_extents, relocation_extents, saved_extents}
 use Rattle.convert_core_laws.proofs.soundness.FileInodes.{file_inodes}
+use Rattle.convert_core_laws.proofs.soundness.KeptFiles.{extents_kept, inodes_kept, names_kept}
 use Rattle.convert_core_laws.proofs.soundness.NameLists.{grouped_all}
 use Rattle.convert_core_laws.proofs.soundness.Saved.{IsLow, own_is, saved_inodes, saved_names}
+use Rattle.convert_core_laws.proofs.soundness.SavedRefs.{file_refs, image_named, other_refs}
 use Rattle.convert_core_laws.proofs.soundness.Small.{relocation_inodes, relocation_names}
 
 module _ (o : Options) (ids : Ids) (now : ℕ) (image other : Image) (m : Making) (r : TreeRoots) (nodes : List TreeNode) (v : IsNewVolume o ids now image other m r nodes) (held : FilesAreHeld) (rising : ImageKeysAscend) (are_there : InodesAreThere) (now_low : now < 2 ^ 63) (bytes : HasBytes image) where
@@ -62,19 +65,30 @@ module _ (o : Options) (ids : Ids) (now : ℕ) (image other : Image) (m : Making
   abbrev relocation : TreeOn
   relocation = tree_for other (super_for m r nodes) DATA_RELOC_TREE (r.tree Relocation) (relocation_items m.now)
 
-  pub have_names : HaveNames k
+  pub have_names : All roots (file_trees k)
   have_names =
       All-cons roots files (saved ∷ (relocation ∷ [])) (file_names image m making files.nodes r held are_there bytes)
       (All-cons roots saved (relocation ∷ [])
       (saved_names m.volume.sup.blocks m.now m.pieces m.options.datasum (blocks_few m.volume image m.options m.plan m.pieces of) image_bytes made_low parts_low saved.nodes (root_tree_items m r))
       (All-cons roots relocation [] (relocation_names m.now made_low relocation.nodes (root_tree_items m r)) (All-nil roots)))
 
+  -- ---- what the root tree tells of them
+
+  abbrev refs : TreeOn → Type 0
+  refs t = (a : ℕ) → KeepsRootRefs k t a
+
+  pub have_refs : All refs (file_trees k)
+  have_refs =
+      All-cons refs files (saved ∷ (relocation ∷ [])) (file_refs image other m making r nodes files.nodes)
+      (All-cons refs saved (relocation ∷ []) (other_refs image other m making r nodes saved refl (λ sub high. image_named image other m making r nodes))
+      (All-cons refs relocation [] (other_refs image other m making r nodes relocation refl (λ sub high. absurd (cc sub))) (All-nil refs)))
+
   -- ---- their inodes
 
   abbrev inodes : TreeOn → Type 0
   inodes = AreInodes (super_for m r nodes)
 
-  pub have_inodes : HaveInodes k
+  pub have_inodes : All inodes (file_trees k)
   have_inodes =
       All-cons inodes files (saved ∷ (relocation ∷ [])) (file_inodes image m making (super_for m r nodes) files.nodes are_there bytes)
       (All-cons inodes saved (relocation ∷ [])
@@ -89,7 +103,7 @@ module _ (o : Options) (ids : Ids) (now : ℕ) (image other : Image) (m : Making
   abbrev extents : TreeOn → Type 0
   extents = AreExtents (super_for m r nodes)
 
-  pub have_extents : HaveExtents k
+  pub have_extents : All extents (file_trees k)
   have_extents =
       let full = without_holes m r nodes in
       All-cons extents files (saved ∷ (relocation ∷ [])) (file_extents image m making (super_for m r nodes) newest full files.nodes held are_there bytes)
@@ -100,12 +114,19 @@ module _ (o : Options) (ids : Ids) (now : ℕ) (image other : Image) (m : Making
 
 pub converted_names_are_sound : NewIdsFit → FilesAreHeld → ImageKeysAscend → InodesAreThere → ConvertedNamesAreSound
 converted_names_are_sound ids_fit held rising are_there = λ o ids now image other m r nodes is size low are has bytes.
-    have_names o ids now image other m r nodes (volume_for ids_fit o ids now image other m r nodes is size are has) held rising are_there low bytes
+    let v = volume_for ids_fit o ids now image other m r nodes is size are has in
+    let k : Recount = recount_for image other m r nodes in
+    λ i d h. names_kept k (get_or (file_trees k) i d) (have_names o ids now image other m r nodes v held rising are_there low bytes i d h) (have_inodes o ids now image other m r nodes v held rising are_there low bytes i d h)
+    (have_refs o ids now image other m r nodes v held rising are_there low bytes i d h)
 
 pub converted_inodes_are_sound : NewIdsFit → FilesAreHeld → ImageKeysAscend → InodesAreThere → ConvertedInodesAreSound
 converted_inodes_are_sound ids_fit held rising are_there = λ o ids now image other m r nodes is size low are has bytes.
-    have_inodes o ids now image other m r nodes (volume_for ids_fit o ids now image other m r nodes is size are has) held rising are_there low bytes
+    let v = volume_for ids_fit o ids now image other m r nodes is size are has in
+    let k : Recount = recount_for image other m r nodes in
+    λ i d h. inodes_kept k (get_or (file_trees k) i d) (have_names o ids now image other m r nodes v held rising are_there low bytes i d h) (have_inodes o ids now image other m r nodes v held rising are_there low bytes i d h)
 
 pub converted_file_extents_are_sound : NewIdsFit → FilesAreHeld → ImageKeysAscend → InodesAreThere → ConvertedFileExtentsAreSound
 converted_file_extents_are_sound ids_fit held rising are_there = λ o ids now image other m r nodes is size low are has bytes.
-    have_extents o ids now image other m r nodes (volume_for ids_fit o ids now image other m r nodes is size are has) held rising are_there low bytes
+    let v = volume_for ids_fit o ids now image other m r nodes is size are has in
+    let k : Recount = recount_for image other m r nodes in
+    λ i d h. extents_kept k (get_or (file_trees k) i d) (have_extents o ids now image other m r nodes v held rising are_there low bytes i d h)

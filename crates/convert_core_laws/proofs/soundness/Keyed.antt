@@ -1,5 +1,5 @@
 -- A use of data has the key of the file extent that tells it, so no use is told twice.
-use Rattle.convert_core_laws.proofs.Imports.{◌≡◌, ◌≢◌, ◌<◌, ℕ, ◌-◌, ◌*◌, ◌^◌, eqb, Bool, true, false, List, [], ◌∷◌, filter, get_or, Option, Some, None, refl, sym, ap, subst, ◌∙◌, ⊎_elim, arith, All, AllPairs, Contains, if◌then◌else◌, ordering_reverse, Ordering, Less, Equal, Greater, All-cons, All-contains, Contains-append_cases, Contains-get_or, AllPairs-cons, EXTENT_DATA, CONV_IMAGE_SUBVOL, FS_TREE, from_map, in_filter, in_flat_map, Image, Ids, is_hole, ContentValue, FileExtentValue, Inline, Prealloc, Regular, file_extent_of, make_key, Key, Item, IsNodeSize, DataUse, Recount, TreeOn, all_trees, data_uses, use_by, use_in, uses_in, IsMaking, Making, HasPieces, file_tree_items, image_tree_items, TreeRoots, named_extents, IsNewVolume, extents_at, file_block, piece_bytes, pieces_of_volume, source_block, image_head, image_items, ImageKeysAscend, file_keys_ascend, extent_item, regular_extent, contains_cases, item_cmp, TreeNode, Rise, ascends_rise, item_total, Options, Piece, recount_for, NewTree, Files, SavedImage}
+use Rattle.convert_core_laws.proofs.Imports.{◌≡◌, ◌≢◌, ◌<◌, ℕ, ◌*◌, ◌^◌, eqb, Bool, true, false, List, [], ◌∷◌, filter, get_or, Option, Some, None, refl, sym, ap, subst, ◌∙◌, ⊎_elim, arith, All, AllPairs, Contains, if◌then◌else◌, ordering_reverse, Ordering, Less, Equal, Greater, All-cons, All-contains, Contains-append_cases, Contains-get_or, AllPairs-cons, EXTENT_DATA, CONV_IMAGE_SUBVOL, FS_TREE, from_map, in_filter, in_flat_map, Image, Ids, is_hole, ContentValue, FileExtentValue, Inline, Prealloc, Regular, file_extent_of, make_key, Key, Item, IsNodeSize, DataUse, Recount, TreeOn, all_trees, data_uses, use_by, use_in, uses_in, IsMaking, Making, HasPieces, file_tree_items, image_tree_items, TreeRoots, named_extents, IsNewVolume, extents_at, file_block, piece_bytes, pieces_of_volume, source_block, image_head, image_items, ImageKeysAscend, file_keys_ascend, extent_item, regular_extent, contains_cases, item_cmp, TreeNode, Rise, ascends_rise, item_total, Options, Piece, recount_for, NewTree, Files, SavedImage}
 use Rattle.btr_check_rules.specs.Recount.{use_of}
 use Rattle.convert_core_laws.proofs.reading.SavedPieces.{member}
 use Rattle.convert_core_laws.proofs.soundness.AllUses.{HasUses, from_is, has_uses, none_used, of_files, of_image, of_none, source_low, uses_are}
@@ -17,27 +17,27 @@ use_tree : (tree : ℕ) (i : Item) (o : Option FileExtentValue) (u : DataUse) �
 use_tree tree i None u h = absurd (omega (arith, h.1))
 use_tree tree i (Some e) u h = by e.content h
   where
-    by : (c : ContentValue) → Contains (use_by tree i c) u → u.tree ≡ tree
+    of_range : (b : Bool) (x : DataUse) → x.tree ≡ tree → Contains (if b then [] else x ∷ []) u → u.tree ≡ tree
+    of_range true x is l = absurd (omega (arith, l.1))
+    of_range false x is l = ⊎_elim (λ (e : x ≡ u). sym (ap (λ (y : DataUse). y.tree) e) ∙ is) (λ (none : Contains [] u). absurd (omega (arith, none.1))) (contains_cases u x [] l)
+
+    by : (c : ContentValue) → Contains (use_by tree i e.compression c) u → u.tree ≡ tree
     by (Inline bytes) k = absurd (omega (arith, k.1))
-    by (Prealloc d) k = absurd (omega (arith, k.1))
-    by (Regular d) k = of_range (is_hole d) k
-      where
-        of_range : (b : Bool) → Contains (if b then [] else use_of tree i d ∷ []) u → u.tree ≡ tree
-        of_range true l = absurd (omega (arith, l.1))
-        of_range false l = ⊎_elim (λ (e : use_of tree i d ≡ u). sym (ap (λ (x : DataUse). x.tree) e)) (λ (none : Contains [] u). absurd (omega (arith, none.1))) (contains_cases u (use_of tree i d) [] l)
+    by (Prealloc d) k = of_range (is_hole d) (use_of tree i e.compression false d) refl k
+    by (Regular d) k = of_range (is_hole d) (use_of tree i e.compression true d) refl k
 
 one_use : (tree : ℕ) (i : Item) (o : Option FileExtentValue) → AreDistinct (use_in tree i o)
 one_use tree i None = distinct_nil [] (λ u h. omega (arith, h.1))
 one_use tree i (Some e) = by e.content
   where
-    by : (c : ContentValue) → AreDistinct (use_by tree i c)
+    of_range : (b : Bool) (x : DataUse) → AreDistinct (if b then [] else x ∷ [])
+    of_range true x = distinct_nil [] (λ u h. omega (arith, h.1))
+    of_range false x = distinct_one x
+
+    by : (c : ContentValue) → AreDistinct (use_by tree i e.compression c)
     by (Inline bytes) = distinct_nil [] (λ u h. omega (arith, h.1))
-    by (Prealloc d) = distinct_nil [] (λ u h. omega (arith, h.1))
-    by (Regular d) = of_range (is_hole d)
-      where
-        of_range : (b : Bool) → AreDistinct (if b then [] else use_of tree i d ∷ [])
-        of_range true = distinct_nil [] (λ u h. omega (arith, h.1))
-        of_range false = distinct_one (use_of tree i d)
+    by (Prealloc d) = of_range (is_hole d) (use_of tree i e.compression false d)
+    by (Regular d) = of_range (is_hole d) (use_of tree i e.compression true d)
 
 pub uses_tree : (t : TreeOn) (u : DataUse) → Contains (uses_in t) u → u.tree ≡ t.number
 uses_tree t u h = let at = uses_from t u h in use_tree t.number at.0 (file_extent_of at.0.1) u at.3

@@ -1,6 +1,7 @@
 -- The nodes of a converted volume lie at their slots.
-use Rattle.convert_core_laws.proofs.Imports.{◌≡◌, ◌≢◌, ℕ, suc, ◌+◌, ◌-◌, List, [], ◌∷◌, length, take, drop, refl, sym, subst, arith, All, Contains, IsPermutation, All-append, All-contains, All-contains_itself, All-drop, All-map, All-nil, All-take, All-permutation, IsPermutation-sym, CHUNK_TREE, EXTENT_TREE, ROOT_TREE, Image, Ids, Item, chunk_map, Recount, TreeOn, all_trees, Super, pointer_to, GivesItself, IsSameBy, packed_leaves, tree_levels, level_pointers, lengths_of, pointers_to, Root, agree, TreeEvent, nodes_in, walk_events, identity, MapRange, Form, NodePointer, Making, chunk_slots, new_ids, slots, TreesStand, extents_from, form, root_from, root_tree_items, TreeRoots, IsNewVolume, super_for, all_from_contains, chunk_items, extent_items, TreeNode, TreeStands, pointer_to_root, Options, recount_for, tree_for, tree_number, NewTree}
+use Rattle.convert_core_laws.proofs.Imports.{◌≡◌, ◌≢◌, ℕ, suc, ◌+◌, List, [], ◌∷◌, length, take, drop, refl, sym, subst, arith, All, Contains, IsPermutation, All-append, All-contains, All-contains_itself, All-drop, All-map, All-nil, All-take, All-permutation, IsPermutation-sym, CHUNK_TREE, EXTENT_TREE, ROOT_TREE, Image, Ids, Item, chunk_map, Recount, TreeOn, all_trees, Super, pointer_to, GivesItself, IsSameBy, packed_leaves, tree_levels, level_pointers, lengths_of, pointers_to, Root, agree, TreeEvent, nodes_in, walk_events, identity, MapRange, Form, NodePointer, Making, chunk_slots, new_ids, slots, TreesStand, extents_from, form, root_from, root_tree_items, TreeRoots, IsNewVolume, super_for, all_from_contains, chunk_items, extent_items, TreeNode, TreeStands, pointer_to_root, Options, recount_for, tree_for, tree_number, NewTree, HasLinuxForm}
 use Rattle.convert_core.specs.convert_steps.Standing.{items_of}
+use Rattle.convert_core.proofs.btr_tree.LinuxForm.{have_form}
 use Rattle.convert_core_laws.proofs.reading.Opening.{maps_chunks}
 use Rattle.convert_core_laws.proofs.soundness.Recounting.{form_is}
 use Rattle.convert_core_laws.proofs.soundness.Trees.{map_is}
@@ -31,6 +32,17 @@ met image form owner list items root ranges stands gives =
     let same : IsSameBy image ranges identity form (pointer_to_root root) owner = agree image ranges form (pointer_to_root root) owner all in
     subst (λ (es : List TreeEvent). IsPermutation (nodes_in es) (packed_at form.nodesize list items)) (sym same.events) stands.nodes_are
 
+-- and what it meets has the form that Linux wants
+pub all_in_form : (image : Image) (form : Form) (owner : ℕ) (list : List ℕ) (items : List Item) (root : Root) (ranges : List MapRange) → TreeStands image form owner list items root → All (GivesItself ranges form.nodesize) list
+    → All (HasLinuxForm image ranges form.nodesize) (nodes_in (walk_events image ranges form (pointer_to_root root) owner))
+all_in_form image form owner list items root ranges stands gives =
+    let own : List NodePointer = nodes_in (walk_events image identity form (pointer_to_root root) owner) in
+    let all : All (λ p. GivesItself ranges form.nodesize p.address) own =
+    All-permutation (λ (p : NodePointer). GivesItself ranges form.nodesize p.address) (packed_at form.nodesize list items) own (IsPermutation-sym own (packed_at form.nodesize list items) stands.nodes_are)
+    (level_all (GivesItself ranges form.nodesize) 1 0 0 list (tree_levels form.nodesize (length (packed_leaves form.nodesize (lengths_of items)))) gives) in
+    let same : IsSameBy image ranges identity form (pointer_to_root root) owner = agree image ranges form (pointer_to_root root) owner all in
+    have_form image ranges form owner stands.whole.0 (pointer_to_root root) (same.whole items stands.whole.0 stands.items_are stands.whole.1)
+
 module _ (o : Options) (ids : Ids) (now : ℕ) (image other : Image) (m : Making) (r : TreeRoots) (nodes : List TreeNode) (v : IsNewVolume o ids now image other m r nodes) where
   abbrev stand : TreesStand image other other m r nodes
   stand = v.new.stands.trees
@@ -52,6 +64,13 @@ module _ (o : Options) (ids : Ids) (now : ℕ) (image other : Image) (m : Making
   at_list list number items root stands gives =
       subst (λ (f : Form). IsPermutation (nodes_in (walk_events other own f (pointer_to_root root) number)) (packed_at m.options.nodesize list items)) (sym (form_is m r nodes))
       (met other (form m) number list items root own stands gives)
+
+  abbrev pub AreInForm : TreeOn → Type 0
+  AreInForm t = All (HasLinuxForm other own m.options.nodesize) t.nodes
+
+  in_form_at : (list : List ℕ) (number : ℕ) (items : List Item) (root : Root) → TreeStands other (form m) number list items root → All (GivesItself own m.options.nodesize) list → AreInForm (tree_for other (super_for m r nodes) number root items)
+  in_form_at list number items root stands gives =
+      subst (λ (f : Form). All (HasLinuxForm other own m.options.nodesize) (nodes_in (walk_events other own f (pointer_to_root root) number))) (sym (form_is m r nodes)) (all_in_form other (form m) number list items root own stands gives)
 
   chunk_give : All (GivesItself own m.options.nodesize) (chunk_slots m)
   chunk_give =
@@ -80,6 +99,14 @@ module _ (o : Options) (ids : Ids) (now : ℕ) (image other : Image) (m : Making
   tree_at t =
       let at = tree_stands image other m r nodes other stand t in
       at_list (drop at.first (slots m)) (tree_number t) (items_of image other m t) (r.tree t) at.stands (later_give at.first)
+
+  -- the nodes of all trees have the form that Linux wants
+  pub forms : All AreInForm (all_trees k)
+  forms =
+      trees_all image other m r nodes AreInForm (in_form_at (chunk_slots m) CHUNK_TREE (chunk_items (new_ids m) m.volume.sup.blocks m.chunks) r.chunk stand.chunk chunk_give)
+      (in_form_at (take r.root.nodes (drop (root_from r) (slots m))) ROOT_TREE (root_tree_items m r) r.root stand.root (All-take (GivesItself own m.options.nodesize) r.root.nodes (drop (root_from r) (slots m)) (later_give (root_from r))))
+      (in_form_at (drop (extents_from r) (slots m)) EXTENT_TREE (extent_items m.chunks m.pieces nodes m.options.nodesize) r.extents stand.extents (later_give (extents_from r)))
+      (λ t. let at = tree_stands image other m r nodes other stand t in in_form_at (drop at.first (slots m)) (tree_number t) (items_of image other m t) (r.tree t) at.stands (later_give at.first))
 
   -- ---- where a node lies
 

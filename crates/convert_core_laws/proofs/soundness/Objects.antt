@@ -5,9 +5,9 @@ use Rattle.convert_core_laws.proofs.Holding.{StaysInTree, stays}
 use Rattle.convert_core_laws.proofs.Pieces.{all_of_inode}
 use Rattle.convert_core_laws.proofs.ByteReading.{inline_read, regular_read}
 use Rattle.convert_core_laws.proofs.soundness.Uses.{piece_small}
-use Rattle.convert_core_laws.proofs.soundness.Numbers.{inode_low}
+use Rattle.convert_core_laws.proofs.soundness.Numbers.{inode_low, inode_range}
 use Rattle.convert_core_laws.proofs.soundness.Assembling.{Tells, entry_part, tells_of}
-use Rattle.convert_core_laws.proofs.soundness.Fits.{entry_fits, saved_fits}
+use Rattle.convert_core_laws.proofs.soundness.Fits.{entry_fits, is_entry, saved_fits, saved_is_entry}
 use Rattle.convert_core_laws.proofs.soundness.NameLists.{grouped_all, mapped_flat}
 use Rattle.convert_core_laws.proofs.soundness.Telling.{FitsEntry, FitsFar, FitsRef, Told, entry_by, index_by, mapped_twice, told_append, told_entries, told_extent, told_fars, told_inode, told_none, told_ref, told_refs}
 
@@ -127,12 +127,12 @@ module _ (image : Image) (m : Making) (made : IsMaking image m) where
         (all_mapped (FitsEntry n) (indexed (kind_in s) s.keys) (names_in s.links key)
         (all_from (λ (e : Link). FitsEntry n (indexed (kind_in s) s.keys e)) (names_in s.links key) (λ e h. record {
           fits = entry_fits (ino_of s e.link.target) (kind_in s e.link.target) e.link.name (inode_low all e.link.target few) (short e (from_filter (λ (f : Link). same_key f.link.dir key) (indexed_links s.links) e h).0);
-          empty = refl;
+          entry = (let range = inode_range all e.link.target few in let low = range.0 in let high = range.1 in is_entry (ino_of s e.link.target) (kind_in s e.link.target) e.link.name low (omega (arith, high)));
         })))
         (saved (same_key key root))
       where
         saved : (b : Bool) → AllByRecursion (FitsEntry (ino_of s key)) (if b then (next_index s.links key, saved_entry) ∷ [] else [])
-        saved true = (record { fits = saved_fits; empty = refl }, tt)
+        saved true = (record { fits = saved_fits; entry = saved_is_entry }, tt)
         saved false = tt
 
     -- ---- contents

@@ -1,5 +1,5 @@
 -- The references of a converted volume are sound: its extent tree is the recount of all nodes and of all uses of data.
-use Rattle.convert_core_laws.proofs.Imports.{◌≡◌, ◌≢◌, ◌⊎◌, ◌≤◌, ◌<◌, ℕ, ◌+◌, ◌-◌, ◌*◌, ◌%◌, ◌^◌, inl, inr, Bool, true, false, List, [], ◌∷◌, length, map, Option, Some, None, refl, sym, ap, subst, ◌∙◌, ⊎_elim, true≢false, arith, AllByRecursion, All, AllPairs, Contains, if◌then◌else◌, is_some, option_map_or, Equal, eq-eqb, All-contains, All-map, EXTENT_FLAG_DATA, EXTENT_FLAG_TREE_BLOCK, BLOCK_GROUP_ITEM, EXTENT_ITEM, METADATA_ITEM, CONV_IMAGE_SUBVOL, EXTENT_TREE, FS_TREE, from_map, in_map, keys, Image, Ids, make_key, Key, Item, IsNodeSize, DataUse, Recount, TreeOn, all_trees, data_uses, recounted_items, AreReferences, FitFeatures, HasKey, HasRefs, IsDataItem, IsNodeItem, IsWhole, StandsBefore, is_group, FitsInline, InlineRef, TreeBlock, NodePointer, IsMaking, Making, HasPieces, made_from, TreeRoots, well, NewIdsFit, IsNewVolume, all_at, two_cases, file_block, source_block, ino_of, FilesAreHeld, ImageKeysAscend, all_from_contains, accepted_is_small, data_ref, extent_body, extent_items, group_item, hash_of_ref, image_refs, node_item, owner_refs, piece_item, put_refs, used_in, item_cmp, merged, TreeNode, all-merge, append-nil, PlannedChunk, Options, Piece, recount_for, ConvertedReferencesAreSound}
+use Rattle.convert_core_laws.proofs.Imports.{◌≡◌, ◌≢◌, ◌⊎◌, ◌≤◌, ◌<◌, ℕ, ◌+◌, ◌*◌, ◌%◌, ◌^◌, inl, inr, Bool, true, false, List, [], ◌∷◌, length, map, Option, Some, None, refl, sym, ap, subst, ◌∙◌, ⊎_elim, true≢false, arith, ◌-◌, AllByRecursion, sum_by, All, AllPairs, Contains, if◌then◌else◌, is_some, option_map_or, Equal, eq-eqb, All-contains, All-map, EXTENT_FLAG_DATA, EXTENT_FLAG_TREE_BLOCK, BLOCK_GROUP_ITEM, EXTENT_ITEM, METADATA_ITEM, CONV_IMAGE_SUBVOL, EXTENT_TREE, FS_TREE, from_map, in_map, keys, Image, Ids, make_key, Key, Item, IsNodeSize, DataUse, Recount, TreeOn, all_trees, data_uses, recounted_items, EachAt, HasItem, object_of, FitFeatures, HasRefs, KeepsReferences, IsDataItem, IsNodeItem, IsWhole, StandsBefore, is_group, FitsInline, ref_uses, InlineRef, TreeBlock, NodePointer, IsMaking, Making, HasPieces, made_from, TreeRoots, well, NewIdsFit, IsNewVolume, all_at, two_cases, file_block, source_block, ino_of, FilesAreHeld, ImageKeysAscend, all_from_contains, accepted_is_small, data_ref, extent_body, extent_items, group_item, image_refs, node_item, owner_refs, piece_item, put_refs, used_in, place_of_ref, item_cmp, merged, TreeNode, all-merge, append-nil, PlannedChunk, Options, Piece, recount_for, ConvertedReferencesAreSound, each_at}
 use Rattle.std.specs.Prelude.{nat_lt}
 use Rattle.convert_core_laws.proofs.soundness.AllUses.{from_is, source_low, uses_are}
 use Rattle.convert_core_laws.proofs.soundness.Nodes.{LiesAt, node_lies, of_chunks, of_others}
@@ -85,7 +85,7 @@ module _ (o : Options) (ids : Ids) (now : ℕ) (image other : Image) (m : Making
       (λ x l e. let at = from_map node_item nodes x l in kinds_apart x.0 (piece_item p).0 (λ same. let is : x.0.kind ≡ METADATA_ITEM = sym (ap (λ (i : Item). i.0.kind) at.2) in omega (arith, same, is)) e) (in_map piece_item m.pieces p h))
 
   -- the body of an extent, as the volume has it
-  refs_made : (flags : ℕ) (refs : List InlineRef) → flags < 2 ^ 64 → length refs < 2 ^ 64 → AllByRecursion FitsInline refs → AllPairs StandsBefore refs → HasRefs k.super.generation (extent_body flags refs) flags (length refs) refs
+  refs_made : (flags : ℕ) (refs : List InlineRef) → flags < 2 ^ 64 → sum_by ref_uses refs < 2 ^ 64 → AllByRecursion FitsInline refs → AllPairs StandsBefore refs → HasRefs k.super.generation (extent_body flags refs) flags (sum_by ref_uses refs) refs
   refs_made flags refs low few fits order = let newest = generation_is m r nodes in has_refs k.super.generation flags refs (omega (arith, newest)) low few fits order
 
   -- ---- nodes
@@ -103,7 +103,7 @@ module _ (o : Options) (ids : Ids) (now : ℕ) (image other : Image) (m : Making
       subst (λ (y : TreeNode). IsNodeItem k (node_item y)) (sym is.is)
       (is.tree, is.pointer, is.there, is.met, refl, refs_made EXTENT_FLAG_TREE_BLOCK (TreeBlock is.tree.number ∷ []) (omega arith) (omega arith) (node_fits is.tree.number low, tt) (one_alone (TreeBlock is.tree.number)))
 
-  node_key : (t : TreeOn) (p : NodePointer) → Contains (all_trees k) t → Contains t.nodes p → HasKey items (record { objectid = p.address; kind = METADATA_ITEM; offset = p.level })
+  node_key : (t : TreeOn) (p : NodePointer) → Contains (all_trees k) t → Contains t.nodes p → HasItem items p.address METADATA_ITEM p.level
   node_key t p h l =
       let told : IsTold o ids now image other m r nodes v p = all_met o ids now image other m r nodes v t p h l in
       let key : (node_item told.node).0 ≡ record { objectid = p.address; kind = METADATA_ITEM; offset = p.level } =
@@ -205,7 +205,7 @@ module _ (o : Options) (ids : Ids) (now : ℕ) (image other : Image) (m : Making
       by u (of_file inode block own e) = absurd (no_value (inode, block) p.owner none own)
       by u (of_image block also e) = image_same p b u block from also e
 
-  by_both : (p : Piece) → Contains m.pieces p → (w : ℕ × ℕ) (b : ℕ) → p.owner ≡ Some w → p.from ≡ Some b → (t : Bool) → nat_lt (hash_of_ref (data_ref FS_TREE w.0 w.1)) (hash_of_ref (data_ref CONV_IMAGE_SUBVOL 257 b)) ≡ t
+  by_both : (p : Piece) → Contains m.pieces p → (w : ℕ × ℕ) (b : ℕ) → p.owner ≡ Some w → p.from ≡ Some b → (t : Bool) → nat_lt (place_of_ref (data_ref FS_TREE w.0 w.1)) (place_of_ref (data_ref CONV_IMAGE_SUBVOL 257 b)) ≡ t
       → IsDataItem k (key_of_piece p, extent_body EXTENT_FLAG_DATA (if t then data_ref CONV_IMAGE_SUBVOL 257 b ∷ (data_ref FS_TREE w.0 w.1 ∷ []) else data_ref FS_TREE w.0 w.1 ∷ (data_ref CONV_IMAGE_SUBVOL 257 b ∷ [])))
   by_both p h w b own from = ordered
     where
@@ -228,16 +228,16 @@ module _ (o : Options) (ids : Ids) (now : ℕ) (image other : Image) (m : Making
       by u (of_file inode block also e) = inl (file_same p w u inode block own also e)
       by u (of_image block also e) = inr (image_same p b u block from also e)
 
-      ordered : (t : Bool) → nat_lt (hash_of_ref (data_ref FS_TREE w.0 w.1)) (hash_of_ref (data_ref CONV_IMAGE_SUBVOL 257 b)) ≡ t → IsDataItem k (key_of_piece p, extent_body EXTENT_FLAG_DATA (if t then data_ref CONV_IMAGE_SUBVOL 257 b ∷ (data_ref FS_TREE w.0 w.1 ∷ []) else data_ref FS_TREE w.0 w.1 ∷ (data_ref CONV_IMAGE_SUBVOL 257 b ∷ [])))
+      ordered : (t : Bool) → nat_lt (place_of_ref (data_ref FS_TREE w.0 w.1)) (place_of_ref (data_ref CONV_IMAGE_SUBVOL 257 b)) ≡ t → IsDataItem k (key_of_piece p, extent_body EXTENT_FLAG_DATA (if t then data_ref CONV_IMAGE_SUBVOL 257 b ∷ (data_ref FS_TREE w.0 w.1 ∷ []) else data_ref FS_TREE w.0 w.1 ∷ (data_ref CONV_IMAGE_SUBVOL 257 b ∷ [])))
       ordered true is =
           two_refs k once (key_of_piece p, extent_body EXTENT_FLAG_DATA (data_ref CONV_IMAGE_SUBVOL 257 b ∷ (data_ref FS_TREE w.0 w.1 ∷ []))) (use_at CONV_IMAGE_SUBVOL 257 b p) (use_at FS_TREE w.0 w.1 p) theirs ours refl refl (λ e. omega (arith, e)) refl
           (refs_made EXTENT_FLAG_DATA (data_ref CONV_IMAGE_SUBVOL 257 b ∷ (data_ref FS_TREE w.0 w.1 ∷ [])) (omega arith) (omega arith) (image_fits, (file_fits, tt))
-          (two_ordered (data_ref CONV_IMAGE_SUBVOL 257 b) (data_ref FS_TREE w.0 w.1) (inr (refl, hash_above (hash_of_ref (data_ref FS_TREE w.0 w.1)) (hash_of_ref (data_ref CONV_IMAGE_SUBVOL 257 b)) is))))
+          (two_ordered (data_ref CONV_IMAGE_SUBVOL 257 b) (data_ref FS_TREE w.0 w.1) (inr (refl, hash_above (place_of_ref (data_ref FS_TREE w.0 w.1)) (place_of_ref (data_ref CONV_IMAGE_SUBVOL 257 b)) is))))
           (λ u l start length. ⊎_elim (λ x. inr x) (λ y. inl y) (by u (range_use p h u l start)))
       ordered false is =
           two_refs k once (key_of_piece p, extent_body EXTENT_FLAG_DATA (data_ref FS_TREE w.0 w.1 ∷ (data_ref CONV_IMAGE_SUBVOL 257 b ∷ []))) (use_at FS_TREE w.0 w.1 p) (use_at CONV_IMAGE_SUBVOL 257 b p) ours theirs refl refl (λ e. omega (arith, e)) refl
           (refs_made EXTENT_FLAG_DATA (data_ref FS_TREE w.0 w.1 ∷ (data_ref CONV_IMAGE_SUBVOL 257 b ∷ [])) (omega arith) (omega arith) (file_fits, (image_fits, tt))
-          (two_ordered (data_ref FS_TREE w.0 w.1) (data_ref CONV_IMAGE_SUBVOL 257 b) (inr (refl, hash_below (hash_of_ref (data_ref FS_TREE w.0 w.1)) (hash_of_ref (data_ref CONV_IMAGE_SUBVOL 257 b)) is)))) (λ u l start length. by u (range_use p h u l start))
+          (two_ordered (data_ref FS_TREE w.0 w.1) (data_ref CONV_IMAGE_SUBVOL 257 b) (inr (refl, hash_below (place_of_ref (data_ref FS_TREE w.0 w.1)) (place_of_ref (data_ref CONV_IMAGE_SUBVOL 257 b)) is)))) (λ u l start length. by u (range_use p h u l start))
 
   piece_is : (p : Piece) → Contains m.pieces p → IsDataItem k (piece_item p)
   piece_is p h = by p.owner p.from refl refl
@@ -246,17 +246,17 @@ module _ (o : Options) (ids : Ids) (now : ℕ) (image other : Image) (m : Making
       by None None own from = let at = owned image m making fit held p h from in absurd (no_value (at.0, at.1) p.owner own at.2)
       by (Some w) None own from = by_owner p h w own from
       by None (Some b) own from = by_from p h b from own
-      by (Some w) (Some b) own from = by_both p h w b own from (nat_lt (hash_of_ref (data_ref FS_TREE w.0 w.1)) (hash_of_ref (data_ref CONV_IMAGE_SUBVOL 257 b))) refl
+      by (Some w) (Some b) own from = by_both p h w b own from (nat_lt (place_of_ref (data_ref FS_TREE w.0 w.1)) (place_of_ref (data_ref CONV_IMAGE_SUBVOL 257 b))) refl
 
-  data_key : (u : DataUse) → Contains (data_uses k) u → HasKey items (record { objectid = u.start; kind = EXTENT_ITEM; offset = u.length })
+  data_key : (u : DataUse) → Contains (data_uses k) u → HasItem items u.start EXTENT_ITEM u.length
   data_key u h = by (uses_are image m making fit other r nodes u h)
     where
-      at : (p : Piece) → Contains m.pieces p → u.start ≡ 4096 * p.place → u.length ≡ 4096 * p.count → HasKey items (record { objectid = u.start; kind = EXTENT_ITEM; offset = u.length })
+      at : (p : Piece) → Contains m.pieces p → u.start ≡ 4096 * p.place → u.length ≡ 4096 * p.count → HasItem items u.start EXTENT_ITEM u.length
       at p l start long =
           let key : key_of_piece p ≡ record { objectid = u.start; kind = EXTENT_ITEM; offset = u.length } = ap (λ (a : ℕ). make_key a EXTENT_ITEM (4096 * p.count)) (sym start) ∙ ap (λ (n : ℕ). make_key u.start EXTENT_ITEM n) (sym long) in
           ((piece_item p).1, subst (λ (x : Key). Contains items (x, (piece_item p).1)) key (piece_there p l))
 
-      by : IsUse m u → HasKey items (record { objectid = u.start; kind = EXTENT_ITEM; offset = u.length })
+      by : IsUse m u → HasItem items u.start EXTENT_ITEM u.length
       by (by_file p inode block l own e) = at p l (ap (λ (x : DataUse). x.start) e) (ap (λ (x : DataUse). x.length) e)
       by (by_image p block l from e) = at p l (ap (λ (x : DataUse). x.start) e) (ap (λ (x : DataUse). x.length) e)
 
@@ -290,21 +290,36 @@ module _ (o : Options) (ids : Ids) (now : ℕ) (image other : Image) (m : Making
           let some = all_at (λ (x : Piece). 1 ≤ x.count) m.pieces p (well m.volume image m.options m.plan m.pieces of).apart.some l in
           subst IsWhole is (record { start = omega arith; range = λ e. (omega arith, λ none. omega (arith, none, some)) })
 
-  fit_features : FitFeatures k
-  fit_features = record {
+  fit_features : (a : ℕ) → FitFeatures k a
+  fit_features a = record {
     skinny = λ off. absurd (true≢false (sym (with_skinny m r nodes) ∙ off));
     extended = λ off. absurd (true≢false (sym (with_extended m r nodes) ∙ off));
   }
 
-  pub references : AreReferences k
-  references = record {
-    each = λ i h. each_item i (subst (λ (l : List Item). Contains l i) items_are h);
-    nodes = λ t p h l. subst (λ (is : List Item). HasKey is (record { objectid = p.address; kind = METADATA_ITEM; offset = p.level })) (sym items_are) (node_key t p h l);
-    data_ = λ u h. subst (λ (is : List Item). HasKey is (record { objectid = u.start; kind = EXTENT_ITEM; offset = u.length })) (sym items_are) (data_key u h);
-    whole = λ i h. is_whole i (subst (λ (l : List Item). Contains l i) items_are h);
-    features = fit_features;
+  -- ---- the part
+
+  -- an item of the extent tree that is no block group
+  abbrev IsRight : Item → Type 0
+  IsRight i = is_group i ≡ false → (IsNodeItem k i ⊎ IsDataItem k i) × IsWhole i
+
+  abbrev HasNode : NodePointer → Type 0
+  HasNode p = HasItem (recounted_items k EXTENT_TREE) p.address METADATA_ITEM p.level
+
+  abbrev HasRange : DataUse → Type 0
+  HasRange u = HasItem (recounted_items k EXTENT_TREE) u.start EXTENT_ITEM u.length
+
+  pub keeps : (a : ℕ) → KeepsReferences k a
+  keeps a = record {
+    each = each_at object_of a IsRight (recounted_items k EXTENT_TREE)
+        (subst (All IsRight) (sym items_are) (all_from_contains IsRight items (λ i h off. (each_item i h off, is_whole i h off))));
+    nodes = all_from_contains (λ (t : TreeOn). EachAt (λ (p : NodePointer). p.address) a HasNode t.nodes) (all_trees k) (λ t h.
+        each_at (λ (p : NodePointer). p.address) a HasNode t.nodes
+        (all_from_contains HasNode t.nodes (λ p l. subst (λ (is : List Item). HasItem is p.address METADATA_ITEM p.level) (sym items_are) (node_key t p h l))));
+    data_ = each_at (λ (u : DataUse). u.start) a HasRange (data_uses k)
+        (all_from_contains HasRange (data_uses k) (λ u h. subst (λ (is : List Item). HasItem is u.start EXTENT_ITEM u.length) (sym items_are) (data_key u h)));
+    features = fit_features a;
   }
 
 pub converted_references_are_sound : NewIdsFit → FilesAreHeld → ImageKeysAscend → ConvertedReferencesAreSound
 converted_references_are_sound ids_fit held rising = λ o ids now image other m r nodes is size low are has bytes.
-    references o ids now image other m r nodes (volume_for ids_fit o ids now image other m r nodes is size are has) held rising
+    keeps o ids now image other m r nodes (volume_for ids_fit o ids now image other m r nodes is size are has) held rising

@@ -1,6 +1,5 @@
 -- Checksums of blocks one behind the other, and the items that have at most so many of them each.
-use Rattle.convert_core_laws.proofs.Imports.{◌≡◌, ◌≤◌, ◌<◌, ℕ, zero, suc, ◌+◌, ◌-◌, ◌*◌, ◌/◌, min, List, ◌++◌, length, length-append, map, take, drop, get_or, refl, sym, ap, ◌∙◌, arith, AllPairs, Contains, div_ceil, flat_map, range_with_len, mul-suc, mul-zero, drop-append-add, take_at, get_or-range_with_len, length-range_with_len, SumKind, Crc32c, Sha256, pairs_map, from_map, in_map, contains_range, range_contains}
-use Rattle.convert_core.specs.unit_plan.Sums.{sums_in_item}
+use Rattle.convert_core_laws.proofs.Imports.{◌≡◌, ◌≤◌, ◌<◌, ℕ, zero, suc, ◌+◌, ◌-◌, ◌*◌, ◌/◌, min, List, ◌++◌, length, length-append, map, take, drop, get_or, sym, ap, ◌∙◌, arith, AllPairs, Contains, div_ceil, flat_map, range_with_len, mul-suc, mul-zero, drop-append-add, take_at, get_or-range_with_len, length-range_with_len, SumKind, Crc32c, Sha256, pairs_map, from_map, in_map, contains_range, range_contains, sums_in_item}
 
 module _ (width : ℕ) (f : ℕ → List ℕ) (wide : (b : ℕ) → length (f b) ≡ width) where
   abbrev pub row : ℕ → ℕ → List ℕ
@@ -36,6 +35,11 @@ part_inside : (sums : SumKind) (count i : ℕ) → i < div_ceil count (sums_in_i
 part_inside Crc32c count i inside = omega (arith, inside)
 part_inside Sha256 count i inside = omega (arith, inside)
 
+-- it has a block, and no more than an item has checksums
+part_size : (sums : SumKind) (count i : ℕ) → i < div_ceil count (sums_in_item sums) → (1 ≤ min (sums_in_item sums) (count - sums_in_item sums * i)) × (min (sums_in_item sums) (count - sums_in_item sums * i) ≤ sums_in_item sums)
+part_size Crc32c count i inside = (omega (arith, inside), omega arith)
+part_size Sha256 count i inside = (omega (arith, inside), omega arith)
+
 -- a block lies in the part of its number
 record IsPartOf (sums : SumKind) (count k i : ℕ) : Type 0 where
   there : i < div_ceil count (sums_in_item sums)
@@ -66,6 +70,8 @@ module _ {X : Type 0} (sums : SumKind) (item : ℕ → ℕ → X) where
     pub is : x ≡ item at long
     pub low : first ≤ at
     pub high : at + long ≤ last
+    pub some : 1 ≤ long
+    pub few : long ≤ sums_in_item sums
 
   pub runs_parts : (first count : ℕ) (x : X) → Contains (runs first count) x → IsPart first (first + count) x
   runs_parts first count x h =
@@ -73,7 +79,8 @@ module _ {X : Type 0} (sums : SumKind) (item : ℕ → ℕ → X) where
       let of = from_map (part first count) (range_with_len 0 (div_ceil count n)) x h in
       let inside = (range_contains 0 (div_ceil count n) of.0 of.1).1 in
       let ends = part_inside sums count of.0 (omega (arith, inside)) in
-      record { at = first + n * of.0; long = min n (count - n * of.0); is = sym of.2; low = omega arith; high = omega (arith, ends) }
+      let size = part_size sums count of.0 (omega (arith, inside)) in
+      record { at = first + n * of.0; long = min n (count - n * of.0); is = sym of.2; low = omega arith; high = omega (arith, ends); some = size.0; few = size.1 }
 
   -- an element is of this block
   pub record Covers (b : ℕ) (xs : List X) : Type 0 where

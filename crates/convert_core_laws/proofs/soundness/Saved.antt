@@ -1,10 +1,10 @@
 -- The names of the tree of the saved image.
-use Rattle.convert_core_laws.proofs.Imports.{◌≡◌, ◌≤◌, ◌<◌, ◌⊎◌, inl, inr, ℕ, ◌+◌, ◌*◌, ◌^◌, Bool, true, false, List, [], ◌∷◌, ◌++◌, map, Some, refl, sym, ap, subst, ◌∙◌, ⊎_elim, true≢false, arith, AllByRecursion, All-cons, All-from_recursion, All-nil, filter-append, IsPermutation-refl, INODE_ITEM, CONV_IMAGE_SUBVOL, FIRST_FREE_OBJECTID, inode_bytes, inode_of, InodeRefValue, inode_ref_head, make_key, Inode, Item, AreInodes, HasKind, IsDirEntry, IsOwned, KeepsInode, SameName, is_orphan, AreTreeNames, BackName, IndexEntry, IsInode, IsThere, index_entries, inode_nbytes, names_inode_item, own_name, ref_name_count, TreeOn, NodePointer, Super, extents_at, piece_bytes, pieces_of_volume, source_block, entry_items, entry_to, root_ref, image_entries, image_head, image_items, image_name, root_directory_items, all_append, all_mapped, all_true, sum_mapped, Directory, File, extent_item, regular_extent, inode_item, ref_item, at_head, head_or_tail, all_in, Piece}
-use Rattle.std.proofs.Common.{sum_by, All, AllPairs, Contains}
+use Rattle.convert_core_laws.proofs.Imports.{◌≡◌, ◌≤◌, ◌<◌, ◌⊎◌, inl, inr, ℕ, ◌+◌, ◌*◌, ◌^◌, Bool, true, false, List, [], ◌∷◌, ◌++◌, map, Some, refl, sym, ap, subst, ◌∙◌, ⊎_elim, true≢false, arith, ◌≢◌, AllByRecursion, All-cons, All-from_recursion, All-nil, filter-append, IsPermutation-refl, INODE_ITEM, CONV_IMAGE_SUBVOL, FIRST_FREE_OBJECTID, inode_bytes, inode_of, InodeRefValue, inode_ref_head, make_key, Inode, Item, AreInodes, IsDirEntry, IsOwned, KeepsInode, SameName, AreTreeNames, IsInode, HasKind, is_orphan, inode_nbytes, ref_name_count, other_flags, ComesToEnd, below, unnamed, BackName, IndexEntry, IsThere, index_entries, names_inode_item, own_name, TreeOn, NodePointer, Super, extents_at, piece_bytes, pieces_of_volume, source_block, entry_items, entry_to, root_ref, image_entries, image_head, image_items, image_name, root_directory_items, all_append, all_mapped, all_true, sum_mapped, Directory, File, extent_item, regular_extent, inode_item, ref_item, at_head, head_or_tail, all_in, Piece, cases_eq}
+use Rattle.std.proofs.Common.{sum_by, All, AllPairs, Contains, bit_and}
 use Rattle.convert_core_laws.proofs.ByteReading.{filter_all, filter_none, is_extent, regular_read}
 use Rattle.convert_core_laws.proofs.soundness.Flags.{image_inode, image_inode_reads, image_inode_there}
 use Rattle.convert_core_laws.proofs.soundness.Assembling.{Tells, count_is, entries_are, have_names, tells_of}
-use Rattle.convert_core_laws.proofs.soundness.Fits.{entry_fits}
+use Rattle.convert_core_laws.proofs.soundness.Fits.{entry_fits, is_entry}
 use Rattle.convert_core_laws.proofs.soundness.Inodes.{bytes_are, piece_adds, sum_on}
 use Rattle.convert_core_laws.proofs.soundness.Small.{root_inode, root_inode_keeps, root_inode_told, root_reads, root_told, some_inode}
 use Rattle.convert_core_laws.proofs.soundness.Telling.{FitsEntry, Told, hash_entries, index_by, told_append, told_extent, told_inode, told_none, told_ref}
@@ -18,7 +18,7 @@ unfolding inode_ref_head
 image_ref_fits = ((tt, omega arith), omega arith)
 
 image_entry_fits : AllByRecursion (FitsEntry FIRST_FREE_OBJECTID) image_entries
-image_entry_fits = (record { fits = entry_fits 257 File image_name (omega arith) (omega arith); empty = refl }, tt)
+image_entry_fits = (record { fits = entry_fits 257 File image_name (omega arith) (omega arith); entry = is_entry 257 File image_name (omega arith) (omega arith) }, tt)
 
 abbrev image_index : IndexEntry
 image_index = index_by FIRST_FREE_OBJECTID (2, entry_to 257 File image_name)
@@ -159,7 +159,19 @@ module _ (blocks now : ℕ) (pieces : List Piece) (datasum : Bool) (few : blocks
     own_keeps : (sup : Super) → KeepsInode sup saved 257 own
     own_keeps sup =
         let count : ref_name_count saved 257 ≡ 1 = count_is saved indexes names tells 257 in
-        record { kind = refl; bits = omega arith; generation = (omega arith, omega arith); links = sym count; orphan = λ none. absurd (omega (arith, none, count)) }
+        record {
+          kind = refl;
+          bits = omega arith;
+          generation = (omega arith, omega arith);
+          links = sym count;
+          orphan = λ none. absurd (omega (arith, none, count));
+          flags = own_flags datasum;
+          symlink = λ is. absurd (cc is);
+        }
+      where
+        own_flags : (b : Bool) → bit_and (image_inode blocks pieces b now).flags other_flags ≡ 0
+        own_flags true = refl
+        own_flags false = refl
 
     entry_keeps : IsDirEntry saved image_index
     entry_keeps = record {
@@ -187,6 +199,24 @@ module _ (blocks now : ℕ) (pieces : List Piece) (datasum : Bool) (few : blocks
         ((λ plain. top _ _ _), ((λ plain. top _ _ _), ((λ plain. top _ _ _), ((λ plain. top _ _ _), ((λ plain. image _ _ _), ((λ plain. image _ _ _), tt))))))
         (all_mapped OwnedOrOrphan (λ (p : Piece). extent_item 257 (source_block p) (regular_extent p.place p.count)) parts (all_true _ parts (λ p plain. image _ _ _)))
 
+    -- ---- what stands above an inode
+
+    only_index : (e : IndexEntry) → Contains (index_entries saved) e → image_index ≡ e
+    only_index e h =
+        ⊎_elim (λ (is : image_index ≡ e). is) (λ (none : Contains [] e). absurd (omega (arith, none.1)))
+        (head_or_tail image_index [] e (subst (λ (l : List IndexEntry). Contains l e) (entries_are saved indexes names tells) h))
+
+    no_name : (ino : ℕ) → ino ≢ 257 → ComesToEnd saved ino
+    no_name ino apart = unnamed ino (λ e h to_inode same. let number : 257 ≡ e.entry.location.objectid = ap (λ (x : IndexEntry). x.entry.location.objectid) (only_index e h) in apart (omega (arith, number, same)))
+
+    ends : (ino : ℕ) → ComesToEnd saved ino
+    ends ino =
+        ⊎_elim
+        (λ (is : ino ≡ 257).
+        subst (λ (n : ℕ). ComesToEnd saved n) (sym is)
+        (below image_index (subst (λ (l : List IndexEntry). Contains l image_index) (sym (entries_are saved indexes names tells)) (at_head image_index [])) refl (no_name 256 (λ e. omega (arith, e)))))
+        (λ (apart : ino ≢ 257). no_name ino apart) (cases_eq ino 257)
+
     pub saved_inodes : (sup : Super) → AreInodes sup saved
     saved_inodes sup =
         let are : index_entries saved ≡ indexes = entries_are saved indexes names tells in
@@ -206,4 +236,5 @@ module _ (blocks now : ℕ) (pieces : List Piece) (datasum : Bool) (few : blocks
               subst (KeepsInode sup saved ino) same (subst (λ (k : ℕ). KeepsInode sup saved k own) number (own_keeps sup)))
               (all_in IsOne (image_items blocks pieces datasum now) (make_key ino INODE_ITEM 0, has.body) ones has.there refl);
           owned = All-from_recursion OwnedOrOrphan (image_items blocks pieces datasum now) all_owned;
+          above = λ ino has. ends ino;
         }

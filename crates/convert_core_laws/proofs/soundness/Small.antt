@@ -1,5 +1,5 @@
 -- The names of the image's tree and of the relocation tree.
-use Rattle.convert_core_laws.proofs.Imports.{◌≡◌, ◌<◌, ℕ, ◌-◌, ◌*◌, ◌^◌, ◌==◌, Bool, true, false, List, [], ◌∷◌, length, map, filter, count_by, Some, refl, sym, ap, subst, ◌∙◌, ⊎_elim, arith, AllByRecursion, All-from_recursion, All-nil, IsPermutation-refl, INODE_ITEM, DATA_RELOC_TREE, FIRST_FREE_OBJECTID, DIRECTORY_MODE, inode_bytes, inode_layout, inode_of, make_key, Inode, inodes_read_back, Item, AreTreeNames, BackName, IndexEntry, IsInode, IsThere, index_entries, inode_nbytes, own_name, ref_name_count, AreInodes, IsDirEntry, IsOwned, KeepsInode, SameName, is_orphan, TreeOn, NodePointer, Super, Indexed, entry_items, letters, root_ref, relocation_items, root_directory_items, sum_mapped, inode_item, inode_made, at_head, from_map, head_or_tail}
+use Rattle.convert_core_laws.proofs.Imports.{◌≡◌, ◌<◌, ℕ, ◌*◌, ◌^◌, ◌==◌, Bool, true, false, List, [], ◌∷◌, length, map, filter, count_by, Some, refl, sym, ap, subst, ◌∙◌, ⊎_elim, arith, AllByRecursion, All-from_recursion, All-nil, IsPermutation-refl, INODE_ITEM, DATA_RELOC_TREE, FIRST_FREE_OBJECTID, DIRECTORY_MODE, inode_bytes, inode_layout, inode_of, make_key, Inode, inodes_read_back, Item, AreTreeNames, IsInode, AreInodes, IsDirEntry, IsOwned, KeepsInode, SameName, BackName, IndexEntry, IsThere, index_entries, own_name, inode_nbytes, ref_name_count, is_orphan, unnamed, TreeOn, NodePointer, Super, Indexed, entry_items, letters, root_ref, relocation_items, root_directory_items, sum_mapped, inode_item, inode_made, at_head, from_map, head_or_tail}
 use Rattle.std.proofs.Common.{sum_by, All, AllPairs, Contains}
 use Rattle.convert_core_laws.proofs.soundness.Flags.{stamp_fits}
 use Rattle.convert_core_laws.proofs.soundness.Assembling.{Tells, count_is, entries_are, have_names, size_is, tells_of}
@@ -48,7 +48,15 @@ pub root_inode_keeps : (now : ℕ) (list : List Indexed) (sup : Super) (t : Tree
     → KeepsInode sup t FIRST_FREE_OBJECTID (root_inode now list)
 root_inode_keeps now list sup t names tells one =
     let count : ref_name_count t FIRST_FREE_OBJECTID ≡ 1 = count_is t (map (index_by FIRST_FREE_OBJECTID) list) names tells FIRST_FREE_OBJECTID ∙ one in
-    record { kind = refl; bits = omega arith; generation = (omega arith, omega arith); links = sym count; orphan = λ none. absurd (omega (arith, none, count)) }
+    record {
+      kind = refl;
+      bits = omega arith;
+      generation = (omega arith, omega arith);
+      links = sym count;
+      orphan = λ none. absurd (omega (arith, none, count));
+      flags = refl;
+      symlink = λ is. refl;
+    }
 
 -- ---- the relocation tree
 
@@ -106,4 +114,5 @@ module _ (now : ℕ) (low : now < 2 ^ 63) (nodes : List NodePointer) (roots : Li
             let same : root_inode now [] ≡ inode = some_inode (root_inode now []) inode (sym (root_reads now [] low (omega arith)) ∙ (ap (λ (i : Item). inode_of i.1) is ∙ has.reads)) in
             subst (KeepsInode sup relocation ino) same (subst (λ (k : ℕ). KeepsInode sup relocation k (root_inode now [])) number (root_inode_keeps now [] sup relocation (own_name ∷ []) relocation_tells refl));
         owned = relocation_owned;
+        above = λ ino has. unnamed ino (λ e h to_inode same. absurd (let among = subst (λ (l : List IndexEntry). Contains l e) none h in omega (arith, among.1)));
       }

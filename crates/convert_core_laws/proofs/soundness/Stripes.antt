@@ -1,6 +1,6 @@
 -- The chunks of a converted volume lie apart, and its device extents are their stripes.
-use Rattle.convert_core_laws.proofs.Imports.{◌≡◌, ◌≤◌, ℕ, ◌+◌, ◌*◌, ◌^◌, inl, inr, Bool, true, false, not, List, map, filter, get_or, refl, sym, ap, subst, ◌∙◌, ⊎_elim, arith, eqb, All, AllPairs, Contains, cases_Bool, not_from_false, append-nil, All-map, Contains-append_cases, Contains-append_left, Contains-append_right, AllPairs-filter, DEV_EXTENT, Image, Ids, Item, AreStripes, IsChunkOn, IsExtentOf, dev_extents, Recount, dev_extents_read_back, Device, ChunkAt, IsMaking, Making, new_ids, TreeRoots, blocks_few, is_system_role, NewIdsFit, IsNewVolume, boot_part, chunk_at, other_part, super_for, all_at, pairs_append, pairs_map, two_cases, from_filter, from_map, in_filter, in_map, all_from_contains, dev_extent_body, dev_extent_item, device_items, AreIds, TreeNode, chunk_ends, IsChunk, role_of, usable_end, PlannedChunk, Options, ConvertedChunksAreSound, recount_for}
-use Rattle.btr_check_rules.specs.Groups.{Apart}
+use Rattle.convert_core_laws.proofs.Imports.{◌≡◌, ◌≤◌, ℕ, ◌+◌, ◌*◌, ◌^◌, inl, inr, Bool, true, false, not, List, [], ◌∷◌, map, filter, get_or, refl, sym, ap, subst, ◌∙◌, ⊎_elim, arith, eqb, All, AllPairs, Contains, cases_Bool, not_from_false, append-nil, All-map, Contains-append_cases, Contains-append_left, Contains-append_right, All-cons, All-nil, AllPairs-filter, flat_map, DEV_EXTENT, Image, Ids, Item, IsChunkOn, IsExtentOf, dev_extents, chunk_span, IsChunkTreeItem, IsOfChunk, IsStripe, KeepsChunks, stripe_spans, stripes_of, Recount, Span, dev_extents_read_back, Device, ChunkAt, IsMaking, Making, new_ids, TreeRoots, blocks_few, is_system_role, NewIdsFit, IsNewVolume, boot_part, chunk_at, other_part, super_for, all_at, pairs_append, pairs_map, two_cases, from_filter, from_map, in_filter, in_map, at_head, all_from_contains, dev_extent_body, chunk_item, dev_extent_item, device_items, AreIds, TreeNode, chunk_ends, IsChunk, role_of, usable_end, PlannedChunk, Options, ConvertedChunksAreSound, recount_for, each_at, pairs_at, Stripe}
+use Rattle.btr_check_rules.specs.Groups.{Apart, HasExtents}
 use Rattle.btr_reader.specs.btr_space_items.DevExtent.{dev_extent_layout}
 use Rattle.convert_core_laws.proofs.soundness.Lists.{filter_all}
 use Rattle.convert_core_laws.proofs.soundness.Recounting.{device_is, in_parts, total_is, volume_for}
@@ -10,8 +10,12 @@ use Rattle.convert_core_laws.proofs.soundness.Recounting.{device_is, in_parts, t
 abbrev IsBelow : PlannedChunk → PlannedChunk → Type 0
 IsBelow c d = c.start + c.length ≤ d.start
 
+-- where a chunk lies, by its addresses and on the device
+abbrev span_for : PlannedChunk → Span
+span_for c = record { start = 4096 * c.start; length = 4096 * c.length }
+
 abbrev AreApart : PlannedChunk → PlannedChunk → Type 0
-AreApart c d = Apart (4096 * c.start) (4096 * c.length) (4096 * d.start) (4096 * d.length)
+AreApart c d = Apart (span_for c) (span_for d)
 
 below_apart : (c d : PlannedChunk) → IsBelow c d → AreApart c d
 below_apart c d low = inl (omega (arith, low))
@@ -51,9 +55,14 @@ parts_apart cs ascend =
     differ true t f = cc f
     differ false t f = cc t
 
+-- a chunk has one stripe
+spans_are : (ids : Ids) (cs : List PlannedChunk) → flat_map stripe_spans (map (chunk_at ids) cs) ≡ map span_for cs
+spans_are ids [] = refl
+spans_are ids (c ∷ cs) = ap (λ (l : List Span). span_for c ∷ l) (spans_are ids cs)
+
 -- ---- device extents
 
-extent_is : (ids : Ids) (c : PlannedChunk) → AreIds ids → c.start + c.length ≤ 2 ^ 29 → IsExtentOf (chunk_at ids c) (dev_extent_item ids c)
+extent_is : (ids : Ids) (c : PlannedChunk) → AreIds ids → c.start + c.length ≤ 2 ^ 29 → IsExtentOf (chunk_at ids c) (chunk_at ids c).chunk.stripe (dev_extent_item ids c)
 unfolding dev_extent_layout
 extent_is ids c are small = record {
   key = refl;
@@ -81,7 +90,7 @@ module _ (o : Options) (ids : Ids) (now : ℕ) (image other : Image) (m : Making
       let few = blocks_few m.volume image m.options m.plan m.pieces making.has_pieces in
       omega (arith, end, few)
 
-  is_extent : (c : PlannedChunk) → Contains m.chunks c → IsExtentOf (chunk_at (new_ids m) c) (dev_extent_item (new_ids m) c)
+  is_extent : (c : PlannedChunk) → Contains m.chunks c → IsExtentOf (chunk_at (new_ids m) c) (chunk_at (new_ids m) c).chunk.stripe (dev_extent_item (new_ids m) c)
   is_extent c h = extent_is (new_ids m) c v.ids_ (small c h)
 
   pub chunk_there : (c : PlannedChunk) → Contains m.chunks c → Contains k.chunks (chunk_at (new_ids m) c)
@@ -91,9 +100,9 @@ module _ (o : Options) (ids : Ids) (now : ℕ) (image other : Image) (m : Making
   pub chunk_from : (c : ChunkAt) → Contains k.chunks c → (d : PlannedChunk) × Contains m.chunks d × (chunk_at (new_ids m) d ≡ c)
   chunk_from c h = let at = from_map (chunk_at (new_ids m)) (in_parts m.chunks) c h in (at.0, from_parts m.chunks at.0 at.1, at.2)
 
-  apart_as_read : AllPairs (λ (c d : ChunkAt). Apart c.logical c.chunk.length d.logical d.chunk.length) k.chunks
-  apart_as_read =
-      pairs_map (λ (c d : ChunkAt). Apart c.logical c.chunk.length d.logical d.chunk.length) (chunk_at (new_ids m)) (in_parts m.chunks) (parts_apart m.chunks making.chunks_are.ascending)
+  -- the stripe of a chunk is its only one
+  only_stripe : (P : Stripe → Type 0) (c : PlannedChunk) → P (chunk_at (new_ids m) c).chunk.stripe → All P (stripes_of (chunk_at (new_ids m) c))
+  only_stripe P c is = All-cons P (chunk_at (new_ids m) c).chunk.stripe [] is (All-nil P)
 
   -- ---- each chunk is valid
 
@@ -104,15 +113,15 @@ module _ (o : Options) (ids : Ids) (now : ℕ) (image other : Image) (m : Making
       let total = total_is m r nodes in
       record {
         sectors = refl;
-        stripes = refl;
+        stripe_len = refl;
         some = λ e. omega (arith, e, some);
         whole = (omega arith, omega arith);
-        stripe = record {
+        ends = (let few = small c h in omega (arith, few));
+        stripes = only_stripe (IsStripe (super_for m r nodes) (chunk_at (new_ids m) c).chunk.length) c (record {
           device = (ap (λ (d : Device). d.devid) (sym (device_is m r nodes)), ap (λ (d : Device). d.uuid) (sym (device_is m r nodes)));
           start = omega arith;
           inside = omega (arith, end, total);
-        };
-        mirror = λ stripe e. absurd (cc e);
+        });
       }
 
   all_valid : All (IsChunkOn (super_for m r nodes)) k.chunks
@@ -120,23 +129,40 @@ module _ (o : Options) (ids : Ids) (now : ℕ) (image other : Image) (m : Making
       all_from_contains (IsChunkOn (super_for m r nodes)) k.chunks
       (λ c h. let at = chunk_from c h in subst (IsChunkOn (super_for m r nodes)) at.2 (is_valid at.0 at.1))
 
-  pub stripes : AreStripes k
-  stripes = record {
-    valid = all_valid;
-    logical = apart_as_read;
-    physical =
-        pairs_map (λ (c d : ChunkAt). Apart c.chunk.stripe.offset c.chunk.length d.chunk.stripe.offset d.chunk.length) (chunk_at (new_ids m)) (in_parts m.chunks) (parts_apart m.chunks making.chunks_are.ascending);
-    each = subst (All (λ i. (c : ChunkAt) × Contains k.chunks c × IsExtentOf c i)) (sym extents_are)
-        (All-map (λ i. (c : ChunkAt) × Contains k.chunks c × IsExtentOf c i) (dev_extent_item (new_ids m)) m.chunks
-        (all_from_contains (λ (c : PlannedChunk). (d : ChunkAt) × Contains k.chunks d × IsExtentOf d (dev_extent_item (new_ids m) c)) m.chunks (λ c h. (chunk_at (new_ids m) c, chunk_there c h, is_extent c h))));
-    whole = all_from_contains (λ (c : ChunkAt). (i : Item) × Contains (dev_extents k) i × IsExtentOf c i) k.chunks (λ c h.
-        let at = chunk_from c h in (
-          dev_extent_item (new_ids m) at.0,
-          subst (λ (l : List Item). Contains l (dev_extent_item (new_ids m) at.0)) (sym extents_are) (in_map (dev_extent_item (new_ids m)) m.chunks at.0 at.1),
-          subst (λ (d : ChunkAt). IsExtentOf d (dev_extent_item (new_ids m) at.0)) at.2 (is_extent at.0 at.1),
-        ));
+  -- ---- the part
+
+  of_chunk : (c : PlannedChunk) → Contains m.chunks c → IsOfChunk k.chunks (dev_extent_item (new_ids m) c)
+  of_chunk c h = (chunk_at (new_ids m) c, (chunk_at (new_ids m) c).chunk.stripe, chunk_there c h, at_head (chunk_at (new_ids m) c).chunk.stripe [], is_extent c h)
+
+  abbrev HasOwn : ChunkAt → Type 0
+  HasOwn = HasExtents (dev_extents k)
+
+  has_own : (c : PlannedChunk) → Contains m.chunks c → HasOwn (chunk_at (new_ids m) c)
+  has_own c h =
+      only_stripe (λ s. (i : Item) × Contains (dev_extents k) i × IsExtentOf (chunk_at (new_ids m) c) s i) c
+      (dev_extent_item (new_ids m) c, subst (λ (l : List Item). Contains l (dev_extent_item (new_ids m) c)) (sym extents_are) (in_map (dev_extent_item (new_ids m)) m.chunks c h), is_extent c h)
+
+  -- the items of the chunk tree
+  keys_are : All IsChunkTreeItem k.chunk_tree.items
+  keys_are = All-cons IsChunkTreeItem _ (map (chunk_item (new_ids m)) m.chunks) (inl refl) (All-map IsChunkTreeItem (chunk_item (new_ids m)) m.chunks (λ i d h. inr refl))
+
+  pub keeps : (a : ℕ) → KeepsChunks k a
+  keeps a = record {
+    apart = record {
+      valid = each_at (λ (c : ChunkAt). c.logical) a (IsChunkOn k.super) k.chunks all_valid;
+      logical = pairs_at (λ (s : Span). s.start) a Apart (map chunk_span k.chunks)
+          (pairs_map Apart chunk_span k.chunks (pairs_map (λ (c d : ChunkAt). Apart (chunk_span c) (chunk_span d)) (chunk_at (new_ids m)) (in_parts m.chunks) (parts_apart m.chunks making.chunks_are.ascending)));
+      physical = pairs_at (λ (s : Span). s.start) a Apart (flat_map stripe_spans k.chunks)
+          (subst (AllPairs Apart) (sym (spans_are (new_ids m) (in_parts m.chunks))) (pairs_map Apart span_for (in_parts m.chunks) (parts_apart m.chunks making.chunks_are.ascending)));
+    };
+    keys = each_at (λ (i : Item). i.0.offset) a IsChunkTreeItem k.chunk_tree.items keys_are;
+    extents = record {
+      each = each_at (λ (i : Item). i.0.offset) a (IsOfChunk k.chunks) (dev_extents k)
+          (subst (All (IsOfChunk k.chunks)) (sym extents_are) (All-map (IsOfChunk k.chunks) (dev_extent_item (new_ids m)) m.chunks (all_from_contains (λ (c : PlannedChunk). IsOfChunk k.chunks (dev_extent_item (new_ids m) c)) m.chunks of_chunk)));
+      whole = each_at (λ (c : ChunkAt). c.logical) a HasOwn k.chunks (all_from_contains HasOwn k.chunks (λ c h. let at = chunk_from c h in subst HasOwn at.2 (has_own at.0 at.1)));
+    };
   }
 
 pub converted_chunks_are_sound : NewIdsFit → ConvertedChunksAreSound
 converted_chunks_are_sound fit = λ o ids now image other m r nodes is size low are has bytes.
-    stripes o ids now image other m r nodes (volume_for fit o ids now image other m r nodes is size are has)
+    keeps o ids now image other m r nodes (volume_for fit o ids now image other m r nodes is size are has)

@@ -1,6 +1,5 @@
 -- The items of the checksum tree: checksums of the blocks of pieces, each block once.
-use Rattle.convert_core_laws.proofs.Imports.{◌≡◌, ◌≤◌, ◌<◌, ℕ, ◌+◌, ◌*◌, ◌/◌, ◌%◌, List, length, take, drop, get_or, refl, sym, subst, arith, AllPairs, Contains, from_flat_map, in_flat_map, Image, block_at, Item, IsSumItem, sum_count, SumKind, Crc32c, Sha256, block_sum, run_items, sum_items, sums_item, Piece}
-use Rattle.btr_reader.specs.csum_kinds.Kind.{kind_width}
+use Rattle.convert_core_laws.proofs.Imports.{◌≡◌, ◌≤◌, ◌<◌, ℕ, ◌+◌, ◌*◌, ◌/◌, ◌%◌, List, length, take, drop, get_or, refl, sym, subst, arith, AllPairs, Contains, from_flat_map, in_flat_map, Image, block_at, Item, IsSumItem, sum_count, most_sums, SumKind, Crc32c, Sha256, block_sum, run_items, sum_items, sums_item, Piece, kind_width, sums_in_item}
 use Rattle.btr_reader.proofs.csum_kinds.Widths.{length-sum}
 use Rattle.convert_core_laws.proofs.soundness.Distinct.{pairs_flat}
 use Rattle.convert_core_laws.proofs.soundness.Runs.{Covers, IsPart, row_at, row_long, runs_apart, runs_cover, runs_parts}
@@ -17,10 +16,17 @@ sums_whole Sha256 n long is = (omega (arith, is), omega (arith, is))
 pub count_of : (sums : SumKind) (image : Image) (first n : ℕ) → sum_count sums (sums_item sums image first n) ≡ n
 count_of sums image first n = (sums_whole sums n _ (row_long (kind_width sums) (block_sum sums image) (block_wide sums image) first n)).0
 
-pub form_of_item : (sums : SumKind) (image : Image) (first n : ℕ) → IsSumItem sums (sums_item sums image first n)
-form_of_item sums image first n =
+-- no more than fit into a node
+few_sums : (sums : SumKind) (nodesize n : ℕ) → 4096 ≤ nodesize → n ≤ sums_in_item sums → n ≤ most_sums nodesize sums
+few_sums Crc32c nodesize n big few = omega (arith, big, few)
+few_sums Sha256 nodesize n big few = omega (arith, big, few)
+
+pub form_of_item : (nodesize : ℕ) (sums : SumKind) (image : Image) (first n : ℕ) → 4096 ≤ nodesize → 1 ≤ n → n ≤ sums_in_item sums → IsSumItem nodesize sums (sums_item sums image first n)
+form_of_item nodesize sums image first n big some few =
     let whole = sums_whole sums n _ (row_long (kind_width sums) (block_sum sums image) (block_wide sums image) first n) in
-    record { objectid = refl; kind = refl; start = omega arith; whole = whole.1 }
+    let count = whole.0 in
+    let most = few_sums sums nodesize n big few in
+    record { objectid = refl; kind = refl; start = omega arith; whole = whole.1; count = (omega (arith, count, some), omega (arith, count, most)) }
 
 -- checksum number k of an item
 pub sum_of : (sums : SumKind) (image : Image) (first n k : ℕ) → k < n → take (kind_width sums) (drop (kind_width sums * k) (sums_item sums image first n).1) ≡ block_sum sums image (first + k)

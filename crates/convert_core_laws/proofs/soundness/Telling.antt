@@ -1,5 +1,5 @@
 -- What lists of items tell of names, by their parts.
-use Rattle.convert_core_laws.proofs.Imports.{◌≡◌, ℕ, ◌==◌, Bool, true, false, List, [], ◌∷◌, ◌++◌, map, Option, Some, refl, sym, ap, subst, ◌∙◌, nat_lt, arith, All, IsTrue, is_some, AllByRecursion, eqb-true, append-nil, All-from_recursion, DIR_INDEX, DIR_ITEM, EXTENT_DATA, INODE_EXTREF, INODE_ITEM, INODE_REF, extref_hash, name_hash, DirEntryValue, dir_entry_bytes, dir_entry_head, dir_items_of, ExtrefValue, extref_bytes, extref_head, extrefs_of, FileExtentValue, file_extent_bytes, file_extent_of, inode_of, InodeRefValue, inode_ref_bytes, inode_ref_head, inode_refs_of, make_key, Inode, dir_items_read_back, extrefs_read_back, inode_refs_read_back, Item, BackName, NamedEntry, IndexEntry, entry_of, or_none, Indexed, entry_items, all_append, all_mapped, extent_item, grouped, in_group, inode_item, ref_item}
+use Rattle.convert_core_laws.proofs.Imports.{◌≡◌, ℕ, ◌==◌, Bool, true, false, List, [], ◌∷◌, ◌++◌, map, Option, Some, refl, sym, ap, subst, ◌∙◌, nat_lt, arith, is_some, AllByRecursion, eqb-true, append-nil, All-from_recursion, DIR_INDEX, DIR_ITEM, INODE_EXTREF, INODE_REF, extref_hash, name_hash, DirEntryValue, dir_entry_bytes, dir_entry_head, dir_items_of, ExtrefValue, extref_bytes, extref_head, extrefs_of, FileExtentValue, file_extent_bytes, file_extent_of, InodeRefValue, inode_ref_bytes, inode_ref_head, inode_refs_of, make_key, Inode, dir_items_read_back, extrefs_read_back, inode_refs_read_back, Item, BackName, NamedEntry, IndexEntry, entry_of, or_none, IsEntry, IsOnForm, Indexed, entry_items, all_append, all_mapped, extent_item, grouped, in_group, inode_item, ref_item}
 use Rattle.std.proofs.Common.{flat_map, if◌then◌else◌}
 use Rattle.btr_reader.specs.btr_keys.Repeated.{RecordsReadBack}
 use Rattle.convert_trees_laws.proofs.InodeRead.{inode_read}
@@ -21,15 +21,6 @@ far_of i = map (λ (e : ExtrefValue). record { inode = i.0.objectid; dir = e.par
 
 abbrev pub if_kind : {X : Type 0} → ℕ → (Item → List X) → Item → List X
 if_kind kind f i = if i.0.kind == kind then f i else []
-
--- the body is on the form of the item's kind
-pub record IsOnForm (i : Item) : Type 0 where
-  pub inode : i.0.kind ≡ INODE_ITEM → IsTrue (is_some (inode_of i.1))
-  pub refs : i.0.kind ≡ INODE_REF → IsTrue (is_some (inode_refs_of i.1))
-  pub extrefs : i.0.kind ≡ INODE_EXTREF → (es : List ExtrefValue) × (extrefs_of i.1 ≡ Some es) × All (λ e. extref_hash e.parent e.name ≡ i.0.offset) es
-  pub hashed : i.0.kind ≡ DIR_ITEM → (es : List DirEntryValue) × (dir_items_of i.1 ≡ Some es) × All (λ e. (name_hash e.name ≡ i.0.offset) × (e.data_length ≡ 0)) es
-  pub indexed : i.0.kind ≡ DIR_INDEX → (e : DirEntryValue) × (dir_items_of i.1 ≡ Some (e ∷ [])) × (e.data_length ≡ 0)
-  pub extent : i.0.kind ≡ EXTENT_DATA → IsTrue (is_some (file_extent_of i.1))
 
 -- What items tell: entries by their hashes, entries by their indexes, and the names of inode refs and extrefs.
 pub record Told (items : List Item) (hashed : List NamedEntry) (indexed : List IndexEntry) (refs fars : List BackName) : Type 0 where
@@ -64,9 +55,11 @@ told_inode n inode = record {
   far_is = refl;
   forms = (
     record {
-      inode = λ e. ap is_some (inode_read inode).read;
+      kind = refl;
+      inode = λ e. (refl, ap is_some (inode_read inode).read);
       refs = λ e. absurd (omega (arith, e));
       extrefs = λ e. absurd (omega (arith, e));
+      attributes = λ e. absurd (omega (arith, e));
       hashed = λ e. absurd (omega (arith, e));
       indexed = λ e. absurd (omega (arith, e));
       extent = λ e. absurd (omega (arith, e));
@@ -83,9 +76,11 @@ told_extent n block extent read = record {
   far_is = refl;
   forms = (
     record {
+      kind = refl;
       inode = λ e. absurd (omega (arith, e));
       refs = λ e. absurd (omega (arith, e));
       extrefs = λ e. absurd (omega (arith, e));
+      attributes = λ e. absurd (omega (arith, e));
       hashed = λ e. absurd (omega (arith, e));
       indexed = λ e. absurd (omega (arith, e));
       extent = λ e. ap is_some read;
@@ -160,9 +155,11 @@ told_ref n parent value fits =
       far_is = refl;
       forms = (
         record {
+          kind = refl;
           inode = λ e. absurd (omega (arith, e));
           refs = λ e. ap is_some read;
           extrefs = λ e. absurd (omega (arith, e));
+          attributes = λ e. absurd (omega (arith, e));
           hashed = λ e. absurd (omega (arith, e));
           indexed = λ e. absurd (omega (arith, e));
           extent = λ e. absurd (omega (arith, e));
@@ -197,9 +194,11 @@ module _ {A : Type 0} (n : ℕ) (number : A → ℕ) (value : A → InodeRefValu
         far_is = refl;
         forms = (
           record {
+            kind = refl;
             inode = λ e. absurd (omega (arith, e));
             refs = λ e. ap is_some read;
             extrefs = λ e. absurd (omega (arith, e));
+            attributes = λ e. absurd (omega (arith, e));
             hashed = λ e. absurd (omega (arith, e));
             indexed = λ e. absurd (omega (arith, e));
             extent = λ e. absurd (omega (arith, e));
@@ -242,6 +241,7 @@ module _ {A : Type 0} (n : ℕ) (value : A → ExtrefValue) where
         far_is = append-nil (far_of (far_group g)) ∙ (ap (λ (r : Option (List ExtrefValue)). map as_name (or_none r)) read ∙ mapped_twice value as_name g.1);
         forms = (
           record {
+            kind = refl;
             inode = λ e. absurd (omega (arith, e));
             refs = λ e. absurd (omega (arith, e));
             extrefs = λ e. (
@@ -250,6 +250,7 @@ module _ {A : Type 0} (n : ℕ) (value : A → ExtrefValue) where
               All-from_recursion (λ (v : ExtrefValue). extref_hash v.parent v.name ≡ g.0) (map value g.1)
                   (all_mapped (λ (v : ExtrefValue). extref_hash v.parent v.name ≡ g.0) value g.1 (weaker (λ (x : A). (hash_of x ≡ g.0) × FitsFar x) (λ (x : A). hash_of x ≡ g.0) g.1 (λ x h. h.0) of.each)),
             );
+            attributes = λ e. absurd (omega (arith, e));
             hashed = λ e. absurd (omega (arith, e));
             indexed = λ e. absurd (omega (arith, e));
             extent = λ e. absurd (omega (arith, e));
@@ -274,10 +275,10 @@ module _ (n : ℕ) where
   abbrev pub index_by : Indexed → IndexEntry
   index_by e = record { entry = entry_by e; index = e.0 }
 
-  -- it fits, and has no data
+  -- it fits, and is on the form of entries
   pub record FitsEntry (e : Indexed) : Type 0 where
     pub fits : dir_entry_head.fits e.1
-    pub empty : e.1.data_length ≡ 0
+    pub entry : IsEntry e.1
 
   abbrev hash_by : Indexed → ℕ
   hash_by e = name_hash e.1.name
@@ -300,15 +301,17 @@ module _ (n : ℕ) where
         far_is = refl;
         forms = (
           record {
+            kind = refl;
             inode = λ e. absurd (omega (arith, e));
             refs = λ e. absurd (omega (arith, e));
             extrefs = λ e. absurd (omega (arith, e));
+            attributes = λ e. absurd (omega (arith, e));
             hashed = λ e. (
               map value g.1,
               read,
-              All-from_recursion (λ (v : DirEntryValue). (name_hash v.name ≡ g.0) × (v.data_length ≡ 0)) (map value g.1)
-                  (all_mapped (λ (v : DirEntryValue). (name_hash v.name ≡ g.0) × (v.data_length ≡ 0)) value g.1
-                  (weaker (λ (x : Indexed). (hash_by x ≡ g.0) × FitsEntry x) (λ (x : Indexed). (hash_by x ≡ g.0) × (x.1.data_length ≡ 0)) g.1 (λ x h. (h.0, h.1.empty)) of.each)),
+              All-from_recursion (λ (v : DirEntryValue). (name_hash v.name ≡ g.0) × IsEntry v) (map value g.1)
+                  (all_mapped (λ (v : DirEntryValue). (name_hash v.name ≡ g.0) × IsEntry v) value g.1
+                  (weaker (λ (x : Indexed). (hash_by x ≡ g.0) × FitsEntry x) (λ (x : Indexed). (hash_by x ≡ g.0) × IsEntry x.1) g.1 (λ x h. (h.0, h.1.entry)) of.each)),
             );
             indexed = λ e. absurd (omega (arith, e));
             extent = λ e. absurd (omega (arith, e));
@@ -331,11 +334,13 @@ module _ (n : ℕ) where
         far_is = refl;
         forms = (
           record {
+            kind = refl;
             inode = λ k. absurd (omega (arith, k));
             refs = λ k. absurd (omega (arith, k));
             extrefs = λ k. absurd (omega (arith, k));
+            attributes = λ k. absurd (omega (arith, k));
             hashed = λ k. absurd (omega (arith, k));
-            indexed = λ k. (e.1, read, of.empty);
+            indexed = λ k. (e.1, read, of.entry);
             extent = λ k. absurd (omega (arith, k));
           },
           tt,

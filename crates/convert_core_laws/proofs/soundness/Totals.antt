@@ -1,5 +1,5 @@
 -- The totals of a converted volume are the sums.
-use Rattle.convert_core_laws.proofs.Imports.{◌≡◌, ◌≤◌, ◌<◌, ℕ, ◌*◌, ◌^◌, true, false, List, [], ◌∷◌, map, filter, Option, Some, refl, sym, ap, subst, ◌∙◌, arith, eqb, sum_by, option_map_or, append-nil, All-map, sum_by-cons, BLOCK_GROUP_ITEM, DEV_ITEM, DEV_ITEMS_OBJECTID, FIRST_CHUNK_TREE_OBJECTID, Image, Ids, Item, AreTotals, TellsDevice, group_used, groups, Recount, device_bytes, device_layout, device_of, BlockGroup, Device, block_groups_read_back, devices_read_back, make_key, ChunkAt, IsMaking, Making, new_ids, TreeRoots, blocks_few, is_system_role, NewIdsFit, IsNewVolume, chunk_at, sum_mapped, chunk_item, chunk_kind, device_body, extent_items, group_item, node_item, piece_item, used_in, item_cmp, merged, AreIds, TreeNode, chunk_blocks_fit, all-merge, PlannedChunk, Role, System, Metadata, Data, Options, ConvertedTotalsAreSound, recount_for}
+use Rattle.convert_core_laws.proofs.Imports.{◌≡◌, ◌≤◌, ◌<◌, ℕ, ◌*◌, ◌^◌, true, false, List, [], ◌∷◌, length, map, filter, Option, Some, refl, sym, ap, subst, ◌∙◌, arith, eqb, sum_by, option_map_or, append-nil, All-map, sum_by-cons, BLOCK_GROUP_ITEM, DEV_ITEM, DEV_ITEMS_OBJECTID, FIRST_CHUNK_TREE_OBJECTID, Image, Ids, Item, AreTotals, TellsDevice, dev_items, group_used, groups, stripe_bytes, stripes_of, Recount, device_bytes, device_layout, device_of, BlockGroup, Device, block_groups_read_back, devices_read_back, make_key, ChunkAt, IsMaking, Making, new_ids, TreeRoots, blocks_few, is_system_role, NewIdsFit, IsNewVolume, chunk_at, sum_mapped, chunk_item, chunk_kind, device_body, extent_items, group_item, node_item, piece_item, used_in, item_cmp, merged, AreIds, TreeNode, chunk_blocks_fit, all-merge, PlannedChunk, Role, System, Metadata, Data, Options, ConvertedTotalsAreSound, recount_for}
 use Rattle.btr_reader.specs.btr_space_items.BlockGroup.{block_group_layout, block_group_of}
 use Rattle.convert_core_laws.proofs.reading.Numbers.{used_small}
 use Rattle.convert_core_laws.proofs.reading.Superblock.{size}
@@ -50,10 +50,17 @@ bytes_of : (ids : Ids) (cs : List PlannedChunk) → sum_by (λ c. (chunk_at ids 
 bytes_of ids [] = refl
 bytes_of ids (c ∷ cs) = omega (arith, sum_by-cons (λ (d : PlannedChunk). (chunk_at ids d).chunk.length) c cs, sum_by-cons (λ (d : PlannedChunk). d.length) c cs, bytes_of ids cs)
 
-pub chunk_bytes_are : (ids : Ids) (cs : List PlannedChunk) → sum_by (λ (c : ChunkAt). c.chunk.length) (map (chunk_at ids) (in_parts cs)) ≡ 4096 * sum_by (λ c. c.length) cs
+-- a chunk has one stripe
+stripes_add : (ids : Ids) (cs : List PlannedChunk) → stripe_bytes (map (chunk_at ids) cs) ≡ sum_by (λ (c : ChunkAt). c.chunk.length) (map (chunk_at ids) cs)
+stripes_add ids [] = refl
+stripes_add ids (c ∷ cs) =
+    omega (arith, sum_by-cons (λ (d : ChunkAt). d.chunk.length * length (stripes_of d)) (chunk_at ids c) (map (chunk_at ids) cs), sum_by-cons (λ (d : ChunkAt). d.chunk.length) (chunk_at ids c) (map (chunk_at ids) cs), stripes_add ids cs)
+
+pub chunk_bytes_are : (ids : Ids) (cs : List PlannedChunk) → stripe_bytes (map (chunk_at ids) (in_parts cs)) ≡ 4096 * sum_by (λ c. c.length) cs
 chunk_bytes_are ids cs =
-    sum_mapped (chunk_at ids) (λ (c : ChunkAt). c.chunk.length) (in_parts cs)
-    ∙ (sum_parts (λ (c : PlannedChunk). is_system_role c.role) (λ (c : PlannedChunk). (chunk_at ids c).chunk.length) cs ∙ bytes_of ids cs)
+    stripes_add ids (in_parts cs)
+    ∙ (sum_mapped (chunk_at ids) (λ (c : ChunkAt). c.chunk.length) (in_parts cs)
+    ∙ (sum_parts (λ (c : PlannedChunk). is_system_role c.role) (λ (c : PlannedChunk). (chunk_at ids c).chunk.length) cs ∙ bytes_of ids cs))
 
 device_reads : (ids : Ids) (blocks : ℕ) (chunks : List PlannedChunk) → AreIds ids → blocks ≤ 2 ^ 29 → sum_by (λ c. c.length) chunks ≤ blocks → device_of (device_bytes (device_body ids blocks chunks)) ≡ Some (device_body ids blocks chunks)
 unfolding device_layout
@@ -68,10 +75,10 @@ module _ (o : Options) (ids : Ids) (now : ℕ) (image other : Image) (m : Making
   abbrev k : Recount
   k = recount_for image other m r nodes
 
-  tells : TellsDevice k (device_body (new_ids m) m.volume.sup.blocks m.chunks)
+  tells : TellsDevice k.super k.chunks (device_body (new_ids m) m.volume.sup.blocks m.chunks)
   tells = record { fsid = sym (fsid_is m r nodes); total = sym (total_is m r nodes); used = sym (chunk_bytes_are (new_ids m) m.chunks) }
 
-  pub totals : AreTotals k
+  pub totals : AreTotals k.super k.chunks (groups k) (dev_items k)
   totals = record {
     used =
         used_is m r nodes
@@ -79,7 +86,7 @@ module _ (o : Options) (ids : Ids) (now : ℕ) (image other : Image) (m : Making
         ∙ (sum_mapped (group_of m nodes) group_used m.chunks
         ∙ sum_is (used_in m.pieces nodes m.options.nodesize) (group_of m nodes) m.chunks (used_small image m making (size o ids now image other m r nodes v) other r nodes v.new.stands.trees)
         (λ c small. group_tells (used_in m.pieces nodes m.options.nodesize c) c small)));
-    device = subst (λ (d : Device). TellsDevice k d) (sym (device_is m r nodes)) tells;
+    device = subst (λ (d : Device). TellsDevice k.super k.chunks d) (sym (device_is m r nodes)) tells;
     one = (
       (make_key DEV_ITEMS_OBJECTID DEV_ITEM 1, device_bytes (device_body (new_ids m) m.volume.sup.blocks m.chunks)),
       filter_on (λ (i : Item). eqb i.0.kind DEV_ITEM) _ (map (chunk_item (new_ids m)) m.chunks) refl
@@ -96,4 +103,4 @@ module _ (o : Options) (ids : Ids) (now : ℕ) (image other : Image) (m : Making
 
 pub converted_totals_are_sound : NewIdsFit → ConvertedTotalsAreSound
 converted_totals_are_sound fit = λ o ids now image other m r nodes is size low are has bytes.
-    totals o ids now image other m r nodes (volume_for fit o ids now image other m r nodes is size are has)
+    λ a at. totals o ids now image other m r nodes (volume_for fit o ids now image other m r nodes is size are has)

@@ -1,12 +1,14 @@
--- Each tree of a converted volume is there, and its bootstrap array holds the system chunks.
-use Rattle.convert_core_laws.proofs.Imports.{◌≡◌, ◌≤◌, ◌<◌, ℕ, ◌+◌, ◌-◌, eqb, Bool, true, false, not, List, ◌++◌, map, refl, sym, ap, subst, ◌∙◌, ⊎_elim, arith, All, AllPairs, Contains, list_any, map-append, Contains-append_cases, All-map, CHUNK_TREE, ROOT_TREE, from_filter, from_map, in_filter, in_map, Image, Ids, has_root, Item, system_kind, IsBtrfsOpened, boot_chunks, boot_list, chunk_map, chunk_tree, form_of, root_tree, ChunkAt, IsRooted, IsTreeOn, Recount, TreeOn, chunks_on, root_items_on, AreTrees, KeepTreeRules, Super, GivesItself, Root, nodes_in, walk_events, IsTree, MapRange, Form, NodePointer, IsMaking, Making, chunk_slots, new_ids, saved_index, TreesStand, form, TreeRoots, named_trees, is_system_role, new_super, MapsChunks, IsNewVolume, ReadsTree, ReadsTrees, boot_part, chunk_at, map_for, other_part, super_for, two_cases, all_from_contains, chunk_items, chunk_kind, TreeNode, pointer_to_root, IsChunk, role_of, usable_end, PlannedChunk, Role, System, Metadata, Data, Options, all_at, recount_for, tree_for, trees_for, named_on, numbers_ascend, pairs_of}
+-- The recount of a converted volume: each tree is there. Its bootstrap array has the system chunks.
+use Rattle.convert_core_laws.proofs.Imports.{◌≡◌, ◌≤◌, ◌<◌, ℕ, ◌+◌, eqb, Bool, true, false, List, ◌++◌, map, refl, sym, ap, subst, ◌∙◌, ⊎_elim, arith, cond, filter, Option, Some, ◌∷◌, ◌||◌, [], ◌^◌, ◌*◌, ap₂, All, AllPairs, Contains, flat_map, map-append, All-map, All-head, All-tail, All-cons, CHUNK_TREE, ROOT_TREE, EXTENT_TREE, from_filter, in_filter, Image, Ids, Item, boot_chunks, boot_list, chunk_map, chunk_tree, form_of, root_tree, ChunkAt, Recount, TreeOn, chunks_on, RootOn, all_roots, recount, recount_by, recount_of, root_by, roots_in, tree_on, NewIdsFit, ConvertedVolumesAreRecounted, chunk_made, contains_cases, contains_head, contains_tail, all_from_contains, chunk_item, chunk_items, chunk_kind, Super, GivesItself, Root, nodes_in, walk_events, IsTree, tree_refusals, MapRange, Form, NodePointer, IsMaking, Making, chunk_slots, new_ids, TreesStand, form, TreeRoots, named_trees, NamedTree, extents_from, root_tree_items, is_system_role, new_super, MapsChunks, IsNewVolume, ReadsTrees, boot_part, chunk_at, map_for, other_part, super_for, two_cases, TreeNode, pointer_to_root, IsChunk, role_of, usable_end, PlannedChunk, Role, System, Metadata, Data, Options, all_at, recount_for, tree_for, trees_for, named_on, numbers_ascend, pairs_of, IsArray, chunk_by, is_system, system_chunks, is_chunk_key, placed_chunk, extent_items, tree_number, tree_root_item, pointer_of}
+use Rattle.convert_core.specs.convert_steps.Standing.{items_of}
+use Rattle.convert_core_laws.proofs.reading.Chunks.{all_fit}
 use Rattle.convert_core_laws.proofs.reading.Opening.{maps_chunks, opened}
-use Rattle.convert_core_laws.proofs.reading.Reading.{all_read}
+use Rattle.convert_core_laws.proofs.reading.Named.{every_named, tree_stands}
+use Rattle.convert_core_laws.proofs.reading.Reading.{all_read, own_super_is, root_leads}
 use Rattle.convert_core_laws.proofs.reading.Stood.{IsRead, read_by}
 use Rattle.convert_core_laws.proofs.soundness.ChunkList.{Known, chunks_added}
-use Rattle.convert_core_laws.proofs.soundness.Recounting.{form_is}
+use Rattle.convert_core_laws.proofs.soundness.Recounting.{form_is, volume_for}
 use Rattle.convert_core_laws.proofs.soundness.Stripes.{small}
-use Rattle.convert_core_laws.proofs.reading.Rooted.{numbers_named}
 
 module _ (m : Making) (r : TreeRoots) (nodes : List TreeNode) where
   chunk_root_is : (chunk_tree (super_for m r nodes)).root ≡ pointer_to_root r.chunk
@@ -39,50 +41,79 @@ module _ (o : Options) (ids : Ids) (now : ℕ) (image other : Image) (m : Making
   pub map_is : chunk_map other (super_for m r nodes) ≡ map_for m.chunks
   map_is = maps.map_is
 
-  opens : IsBtrfsOpened other (super_for m r nodes) (chunk_map other (super_for m r nodes))
-  opens = let is = opened o ids now image other m r nodes v in record { sound = is.sound; super = is.super; map_is = refl }
-
   reads : ReadsTrees image other (super_for m r nodes) (chunk_map other (super_for m r nodes)) m r nodes
   reads = subst (λ (rs : List MapRange). ReadsTrees image other (super_for m r nodes) rs m r nodes) (sym map_is) (all_read o ids now image other m r nodes v)
 
-  rooted_at : (number : ℕ) (root : Root) (items : List Item) → ReadsTree other (super_for m r nodes) (chunk_map other (super_for m r nodes)) number root items → IsRooted other (super_for m r nodes) (tree_for other (super_for m r nodes) number root items)
-  rooted_at number root items tree = record {
-    item = tree.item;
-    pointer = pointer_to_root root;
-    last = tree.has_item;
-    pointer_is = tree.leads;
-    tree = record { items_are = record { sound = tree.sound; items_are = tree.items_are }; nodes_are = refl };
-  }
+  -- ---- each tree is read
 
-  chunk_tree_on : IsTreeOn other (super_for m r nodes) (chunk_tree (super_for m r nodes)).root k.chunk_tree
-  chunk_tree_on =
+  abbrev IsReadAs : ℕ → Root → List Item → Type 0
+  IsReadAs number root items = IsTree other own (form_of s) (pointer_to_root root) number items
+
+  chunk_read : IsReadAs CHUNK_TREE r.chunk (chunk_items (new_ids m) m.volume.sup.blocks m.chunks)
+  chunk_read =
       let gives : All (GivesItself own m.options.nodesize) (chunk_slots m) =
       all_from_contains (GivesItself own m.options.nodesize) (chunk_slots m) (λ a h. subst (λ (rs : List MapRange). GivesItself rs m.options.nodesize a) (sym map_is) (maps.own.chunk_nodes a h)) in
       let read : IsRead other own (form m) (pointer_to_root r.chunk) CHUNK_TREE (chunk_items (new_ids m) m.volume.sup.blocks m.chunks) =
       read_by other (form m) CHUNK_TREE (chunk_slots m) (chunk_items (new_ids m) m.volume.sup.blocks m.chunks) r.chunk stand.chunk own gives in
       let is : IsTree other own (form m) (pointer_to_root r.chunk) CHUNK_TREE (chunk_items (new_ids m) m.volume.sup.blocks m.chunks) = record { sound = read.sound; items_are = read.items_are } in
-      let here : IsTree other own (form_of s) (pointer_to_root r.chunk) CHUNK_TREE (chunk_items (new_ids m) m.volume.sup.blocks m.chunks) =
-      subst (λ (f : Form). IsTree other own f (pointer_to_root r.chunk) CHUNK_TREE (chunk_items (new_ids m) m.volume.sup.blocks m.chunks)) (sym (form_is m r nodes)) is in
-      subst (λ (p : NodePointer). IsTreeOn other s p k.chunk_tree) (sym (chunk_root_is m r nodes)) (record { items_are = here; nodes_are = refl })
+      subst (λ (f : Form). IsTree other own f (pointer_to_root r.chunk) CHUNK_TREE (chunk_items (new_ids m) m.volume.sup.blocks m.chunks)) (sym (form_is m r nodes)) is
 
-  root_tree_on : IsTreeOn other (super_for m r nodes) (root_tree (super_for m r nodes)).root k.root_tree
-  root_tree_on = record {
-    items_are = record { sound = reads.roots_sound; items_are = reads.roots_are };
-    nodes_are = ap (λ (p : NodePointer). nodes_in (walk_events other own (form_of s) p ROOT_TREE)) (root_root_is m r nodes);
-  }
+  root_read : IsReadAs ROOT_TREE r.root (root_tree_items m r)
+  root_read =
+      subst (λ (p : NodePointer). IsTree other own (form_of s) p ROOT_TREE (root_tree_items m r)) (root_root_is m r nodes) (record { sound = reads.roots_sound; items_are = reads.roots_are })
+
+  abbrev NamedIsRead : NamedTree → Type 0
+  NamedIsRead t = IsReadAs t.number t.root t.items
+
+  each_read : All NamedIsRead (named_trees image other m r nodes)
+  each_read = λ i d h. let tree = reads.each i d h in record { sound = tree.sound; items_are = tree.items_are }
+
+  -- what is read is what was written
+  tree_is : (number : ℕ) (root : Root) (items : List Item) → IsReadAs number root items → tree_on other (super_for m r nodes) number (pointer_to_root root) ≡ tree_for other (super_for m r nodes) number root items
+  tree_is number root items is =
+      ap (λ (xs : List Item). let t : TreeOn = record { number = number; nodes = nodes_in (walk_events other own (form_of s) (pointer_to_root root) number); items = xs } in t) is.items_are
+
+  -- ---- the roots
+
+  abbrev root_for : NamedTree → RootOn
+  root_for t = record { number = t.number; pointer = pointer_to_root t.root }
+
+  abbrev root_item_for : NamedTree → Item
+  root_item_for t = tree_root_item (new_ids m) m.options.nodesize (record { tree = t.number; root = t.root })
+
+  abbrev Leads : NamedTree → Type 0
+  Leads t = pointer_of (root_item_for t).1 ≡ Some (pointer_to_root t.root)
+
+  all_lead : All Leads (named_trees image other m r nodes)
+  all_lead =
+      every_named image other m r nodes Leads
+      (root_leads o ids now image other m r nodes v EXTENT_TREE (extents_from r) r.extents (extent_items m.chunks m.pieces nodes m.options.nodesize) stand.extents)
+      (λ t. let at = tree_stands image other m r nodes other stand t in root_leads o ids now image other m r nodes v (tree_number t) at.first (r.tree t) (items_of image other m t) at.stands)
+
+  pointed : (ts : List NamedTree) → All Leads ts → flat_map (λ (i : Item). root_by i (pointer_of i.1)) (map root_item_for ts) ≡ map root_for ts
+  pointed [] all = refl
+  pointed (t ∷ ts) all =
+      ap (λ (p : Option NodePointer). root_by (root_item_for t) p ++ flat_map (λ (i : Item). root_by i (pointer_of i.1)) (map root_item_for ts)) (All-head Leads t ts all)
+      ∙ ap (λ (l : List RootOn). root_for t ∷ l) (pointed ts (All-tail Leads t ts all))
+
+  roots_are : roots_in (root_tree_items m r) ≡ map root_for (named_trees image other m r nodes)
+  roots_are = pointed (named_trees image other m r nodes) all_lead
+
+  abbrev tree_of_root : RootOn → TreeOn
+  tree_of_root x = tree_on other (super_for m r nodes) x.number x.pointer
+
+  trees_of : (ts : List NamedTree) → All NamedIsRead ts → map tree_of_root (map root_for ts) ≡ map (named_on other (super_for m r nodes)) ts
+  trees_of [] all = refl
+  trees_of (t ∷ ts) all = ap₂ (λ (u : TreeOn) (us : List TreeOn). u ∷ us) (tree_is t.number t.root t.items (All-head NamedIsRead t ts all)) (trees_of ts (All-tail NamedIsRead t ts all))
 
   abbrev others : List TreeOn
   others = trees_for image other m r nodes s
 
-  all_rooted : All (IsRooted other (super_for m r nodes)) others
-  all_rooted =
-      All-map (IsRooted other s) (named_on other s) (named_trees image other m r nodes) (λ i d h. rooted_at _ _ _ (reads.each i d h))
+  others_are : map tree_of_root (roots_in (root_tree_items m r)) ≡ others
+  others_are = ap (map tree_of_root) roots_are ∙ trees_of (named_trees image other m r nodes) each_read
 
   pub all_once : AllPairs (λ t u. t.number < u.number) others
   all_once = pairs_of (λ (t : TreeOn). t.number) others numbers_ascend
-
-  all_named : (number : ℕ) → list_any (λ (t : TreeOn). eqb t.number number) others ≡ has_root (root_items_on other (super_for m r nodes)) number
-  all_named number = numbers_named r (saved_index m) (new_ids m) m.now m.options.nodesize (root_items_on other s) reads.roots_are number
 
   -- ---- the chunks
 
@@ -119,34 +150,68 @@ module _ (o : Options) (ids : Ids) (now : ℕ) (image other : Image) (m : Making
       ∙ sym (ap (λ (l : List ChunkAt). chunks_on l (chunk_items (new_ids m) m.volume.sup.blocks m.chunks)) booted
       ∙ chunks_added (new_ids m) (boot_part m.chunks) v.ids_.device m.volume.sup.blocks m.chunks known)
 
-  -- a system chunk is one of the array
-  system_booted : (c : ChunkAt) → Contains k.chunks c → c.chunk.kind ≡ system_kind → Contains (boot_list (boot_chunks (super_for m r nodes))) c
-  system_booted c h is =
-      let at = from_map (chunk_at (new_ids m)) (boot_part m.chunks ++ other_part m.chunks) c h in
-      subst (λ (l : List ChunkAt). Contains l c) (sym booted)
-      (subst (λ (x : ChunkAt). Contains (map (chunk_at (new_ids m)) (boot_part m.chunks)) x) at.2
-      (in_map (chunk_at (new_ids m)) (boot_part m.chunks) at.0
-      (⊎_elim (λ (first : Contains (boot_part m.chunks) at.0). first)
-      (λ (second : Contains (other_part m.chunks) at.0).
-      absurd (no_system at.0.role (from_filter (λ (d : PlannedChunk). not (is_system_role d.role)) m.chunks at.0 second).1 (ap (λ (x : ChunkAt). x.chunk.kind) at.2 ∙ is)))
-      (Contains-append_cases (boot_part m.chunks) (other_part m.chunks) at.0 at.1))))
-    where
-      no_system : (role : Role) → not (is_system_role role) ≡ true → chunk_kind role ≡ 2 → ⊥
-      no_system System t e = cc t
-      no_system Metadata t e = omega (arith, e)
-      no_system Data t e = omega (arith, e)
+  -- ---- the recount
 
-  pub trees : KeepTreeRules k → AreTrees other k
-  trees rules = record {
-    opened = opens;
-    chunk_number = refl;
-    chunk_tree_is = chunk_tree_on;
-    root_number = refl;
-    root_tree_is = root_tree_on;
-    rooted = all_rooted;
-    once = all_once;
-    each = all_named;
-    chunks_are = chunks_are;
-    boot = system_booted;
-    rules = rules;
-  }
+  pub recount_is : recount other ≡ k
+  recount_is =
+      ap (recount_by other) (own_super_is o ids now image other m r nodes v)
+      ∙ (ap₂ (recount_of other (super_for m r nodes)) (ap (tree_on other (super_for m r nodes) CHUNK_TREE) (chunk_root_is m r nodes) ∙ tree_is CHUNK_TREE r.chunk (chunk_items (new_ids m) m.volume.sup.blocks m.chunks) chunk_read)
+      (ap (tree_on other (super_for m r nodes) ROOT_TREE) (root_root_is m r nodes) ∙ tree_is ROOT_TREE r.root (root_tree_items m r) root_read)
+      ∙ ap₂ (λ (cs : List ChunkAt) (us : List TreeOn). let c : Recount = record { super = super_for m r nodes; chunks = cs; chunk_tree = k.chunk_tree; root_tree = k.root_tree; others = us } in c) (sym chunks_are) others_are)
+
+  -- nothing is wrong with any tree
+  abbrev HasNoFault : RootOn → Type 0
+  HasNoFault x = tree_refusals other own (form_of s) x.pointer x.number ≡ []
+
+  pub no_faults : All HasNoFault (all_roots k)
+  no_faults =
+      All-cons HasNoFault (record { number = CHUNK_TREE; pointer = (chunk_tree s).root }) (record { number = ROOT_TREE; pointer = (root_tree s).root } ∷ roots_in (root_tree_items m r))
+      (subst (λ (p : NodePointer). tree_refusals other own (form_of s) p CHUNK_TREE ≡ []) (sym (chunk_root_is m r nodes)) chunk_read.sound)
+      (All-cons HasNoFault (record { number = ROOT_TREE; pointer = (root_tree s).root }) (roots_in (root_tree_items m r)) reads.roots_sound
+      (subst (All HasNoFault) (sym roots_are) (All-map HasNoFault root_for (named_trees image other m r nodes) (λ i d h. (each_read i d h).sound))))
+
+  -- ---- the bootstrap array
+
+  -- an item of the chunk tree is read as the chunk of the plan
+  abbrev read_chunk : Item → List ChunkAt
+  read_chunk i = chunk_by (placed_chunk i.0.offset i.1)
+
+  abbrev is_chunk_item : Item → Bool
+  is_chunk_item i = is_chunk_key i.0
+
+  all_placed : (cs : List PlannedChunk) → ((c : PlannedChunk) → Contains cs c → c.start + c.length ≤ 2 ^ 29) → flat_map read_chunk (filter is_chunk_item (map (chunk_item (new_ids m)) cs)) ≡ map (chunk_at (new_ids m)) cs
+  all_placed [] few = refl
+  all_placed (c ∷ cs) few =
+      let fits = all_fit (new_ids m) (c ∷ []) v.ids_.device (λ d h. ⊎_elim (λ (same : c ≡ d). subst (λ (e : PlannedChunk). e.start + e.length ≤ 2 ^ 29) same (few c (contains_head c cs))) (λ (none : Contains [] d). absurd (omega (arith, none.1))) (contains_cases d c [] h)) in
+      let here : placed_chunk (4096 * c.start) (chunk_item (new_ids m) c).1 ≡ Some (chunk_at (new_ids m) c) = chunk_made (chunk_at (new_ids m) c) fits.0 in
+      ap (λ (o : Option ChunkAt). chunk_by o ++ flat_map read_chunk (filter is_chunk_item (map (chunk_item (new_ids m)) cs))) here
+      ∙ ap (λ (l : List ChunkAt). chunk_at (new_ids m) c ∷ l) (all_placed cs (λ d h. few d (contains_tail d c cs h)))
+
+  by_role : (role : Role) → (eqb (chunk_kind role) 2 || eqb (chunk_kind role) 34) ≡ is_system_role role
+  by_role System = refl
+  by_role Metadata = refl
+  by_role Data = refl
+
+  system_kept : (cs : List PlannedChunk) → filter is_system (map (chunk_at (new_ids m)) cs) ≡ map (chunk_at (new_ids m)) (boot_part cs)
+  system_kept [] = refl
+  system_kept (c ∷ cs) =
+      let rest : List ChunkAt = filter is_system (map (chunk_at (new_ids m)) cs) in
+      ap (λ (b : Bool). cond b (chunk_at (new_ids m) c ∷ rest) rest) (by_role c.role) ∙ by (is_system_role c.role) (system_kept cs)
+    where
+      by : (b : Bool) → filter is_system (map (chunk_at (new_ids m)) cs) ≡ map (chunk_at (new_ids m)) (boot_part cs)
+          → cond b (chunk_at (new_ids m) c ∷ filter is_system (map (chunk_at (new_ids m)) cs)) (filter is_system (map (chunk_at (new_ids m)) cs)) ≡ map (chunk_at (new_ids m)) (cond b (c ∷ boot_part cs) (boot_part cs))
+      by true e = ap (λ (l : List ChunkAt). chunk_at (new_ids m) c ∷ l) e
+      by false e = e
+
+  pub array : IsArray k
+  array =
+      let told : system_chunks k.chunk_tree.items ≡ map (chunk_at (new_ids m)) (boot_part m.chunks) =
+      ap (filter is_system) (all_placed m.chunks (small o ids now image other m r nodes v)) ∙ system_kept m.chunks in
+      λ c. (
+        λ h. subst (λ (l : List ChunkAt). Contains l c) (booted ∙ sym told) h,
+        λ h. subst (λ (l : List ChunkAt). Contains l c) (told ∙ sym booted) h,
+      )
+
+pub converted_volumes_are_recounted : NewIdsFit → ConvertedVolumesAreRecounted
+converted_volumes_are_recounted fit = λ o ids now image other m r nodes is size low are has bytes.
+    let v = volume_for fit o ids now image other m r nodes is size are has in ((opened o ids now image other m r nodes v).sound, recount_is o ids now image other m r nodes v)

@@ -1,5 +1,5 @@
 -- No extent of a converted volume touches a reserved block.
-use Rattle.convert_core_laws.proofs.Imports.{◌≡◌, ◌≤◌, ◌<◌, ℕ, ◌+◌, ◌*◌, ◌/◌, ◌%◌, ◌^◌, Bool, List, ◌++◌, length, map, Some, refl, sym, ap, subst, ◌∙◌, ⊎_elim, arith, Contains, map-map, IsReserved, Image, Ids, IsNodeSize, range_of, AreUnreserved, IsExtent, a_node, some_data, Recount, Span, IsInNode, IsInSlots, place, MapRange, NodePointer, IsMaking, Making, chunk_slots, new_ids, slots, TreeRoots, metadata_free, system_free, piece_apart, slot_unit, NewIdsFit, IsNewVolume, boot_part, chunk_at, other_part, any_from, used_of, TreeNode, blocks_are, node_places, places_in, Options, Piece, from_flat_map, from_map, ConvertedReservedAreSound, recount_for}
+use Rattle.convert_core_laws.proofs.Imports.{◌≡◌, ◌≤◌, ◌<◌, ℕ, ◌+◌, ◌*◌, ◌/◌, ◌%◌, ◌^◌, Bool, true, false, List, [], ◌∷◌, ◌++◌, length, map, Option, Some, None, refl, sym, ap, subst, ◌∙◌, ⊎_elim, arith, Contains, if◌then◌else◌, map-map, IsReserved, Image, Ids, IsNodeSize, range_of, KeepsReserved, IsExtent, a_node, some_data, map_of, Recount, Span, IsInNode, IsInSlots, holds, place, second_place, MapRange, PlannedChunk, NodePointer, IsMaking, Making, chunk_slots, new_ids, slots, TreeRoots, metadata_free, system_free, piece_apart, slot_unit, NewIdsFit, IsNewVolume, boot_part, chunk_at, other_part, any_from, used_of, TreeNode, blocks_are, node_places, places_in, Options, Piece, from_flat_map, from_map, ConvertedReservedAreSound, recount_for}
 use Rattle.convert_core_laws.proofs.reading.Mapped.{in_parts, itself}
 use Rattle.convert_core_laws.proofs.reading.Places.{HasBlock, chunk_slot_block, piece_block, slot_block}
 use Rattle.convert_core_laws.proofs.reading.Superblock.{size}
@@ -126,13 +126,32 @@ module _ (o : Options) (ids : Ids) (now : ℕ) (image other : Image) (m : Making
   blocks_total : (super_total : ℕ) → super_total ≡ 4096 * m.volume.sup.blocks → super_total / 4096 ≡ length used
   blocks_total n is = let same = blocks_are image m making in omega (arith, is, same)
 
-  pub unreserved : AreUnreserved k
+  -- no block of an extent is reserved
+  pub unreserved : (span : Span) (kind a p : ℕ) → IsExtent k span kind → span.start ≤ a → a < span.start + span.length → place (map_of k) a ≡ Some p → ¬ IsReserved (p / 4096) (k.super.total_bytes / 4096)
   unreserved = λ span kind a p extent low high found reserved.
       let is : IsGood (a / 4096) = good span kind a extent low high in
       let same : a ≡ p = some_same a p (sym (means_itself a is.has) ∙ found) in
       let count : k.super.total_bytes / 4096 ≡ length used = blocks_total k.super.total_bytes (total_is m r nodes) in
       is.free (subst (λ (n : ℕ). IsReserved (a / 4096) n) count (subst (λ (x : ℕ). IsReserved (x / 4096) (k.super.total_bytes / 4096)) (sym same) reserved))
 
+  -- and no chunk has a second copy
+  pub keeps : (at : ℕ) → KeepsReserved k at
+  keeps at = record {
+    first = λ span kind a p here extent low high found. unreserved span kind a p extent low high found;
+    second = λ span kind a p here extent low high found reserved. no_copy (in_plan m.chunks) a p found;
+  }
+    where
+      in_plan : List PlannedChunk → List PlannedChunk
+      in_plan cs = boot_part cs ++ other_part cs
+
+      none_by : (b : Bool) (rest : Option ℕ) (p : ℕ) → (rest ≡ Some p → ⊥) → (if b then None else rest) ≡ Some p → ⊥
+      none_by true rest p later found = cc found
+      none_by false rest p later found = later found
+
+      no_copy : (cs : List PlannedChunk) (a p : ℕ) → second_place (map range_of (map (chunk_at (new_ids m)) cs)) a ≡ Some p → ⊥
+      no_copy [] a p found = cc found
+      no_copy (c ∷ cs) a p found = none_by (holds (range_of (chunk_at (new_ids m) c)) a) (second_place (map range_of (map (chunk_at (new_ids m)) cs)) a) p (no_copy cs a p) found
+
 pub converted_reserved_are_sound : NewIdsFit → ConvertedReservedAreSound
 converted_reserved_are_sound fit = λ o ids now image other m r nodes is size low are has bytes.
-    unreserved o ids now image other m r nodes (volume_for fit o ids now image other m r nodes is size are has)
+    keeps o ids now image other m r nodes (volume_for fit o ids now image other m r nodes is size are has)

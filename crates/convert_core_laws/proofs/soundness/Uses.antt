@@ -8,7 +8,17 @@ use Rattle.convert_core_laws.proofs.Sound.{owner_is}
 
 -- a tree's use of a piece, from a block of a file on
 abbrev pub use_at : ℕ → ℕ → ℕ → Piece → DataUse
-use_at tree inode block p = record { start = 4096 * p.place; length = 4096 * p.count; tree = tree; inode = inode; offset = 4096 * block }
+use_at tree inode block p = record {
+  start = 4096 * p.place;
+  length = 4096 * p.count;
+  tree = tree;
+  inode = inode;
+  offset = 4096 * block;
+  part = 0;
+  part_length = 4096 * p.count;
+  compression = 0;
+  written = true;
+}
 
 -- a use is that of a piece, by a file of tree 5 that owns it, or by the saved image
 pub data IsUse (m : Making) (u : DataUse) : Type 0 where
@@ -70,8 +80,11 @@ module _ (image : Image) (m : Making) (made : IsMaking image m) where
       let no_hole : eqb (4096 * p.place) 0 ≡ false = ne_eqb (4096 * p.place) 0 (λ e. omega (arith, e, high)) in
       let offset : (4096 * block + (2 ^ 64 - 0)) % 2 ^ 64 ≡ 4096 * block = omega (arith, low) in
       ap (use_in tree (extent_item inode block (regular_extent p.place p.count))) (regular_read p.place p.count (omega (arith, end)) (omega (arith, end)))
-      ∙ (ap (λ (b : Bool). if b then [] else record { start = 4096 * p.place; length = 4096 * p.count; tree = tree; inode = inode; offset = (4096 * block + (2 ^ 64 - 0)) % 2 ^ 64 } ∷ []) no_hole
-      ∙ ap (λ (n : ℕ). let u : DataUse = record { start = 4096 * p.place; length = 4096 * p.count; tree = tree; inode = inode; offset = n } in u ∷ []) offset)
+      ∙ (ap (λ (b : Bool). if b then [] else by ((4096 * block + (2 ^ 64 - 0)) % 2 ^ 64) ∷ []) no_hole
+      ∙ ap (λ (n : ℕ). by n ∷ []) offset)
+    where
+      by : ℕ → DataUse
+      by n = record { start = 4096 * p.place; length = 4096 * p.count; tree = tree; inode = inode; offset = n; part = 0; part_length = 4096 * p.count; compression = 0; written = true }
 
   -- ---- the file tree
 

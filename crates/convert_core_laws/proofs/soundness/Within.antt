@@ -1,5 +1,5 @@
 -- Each extent of a converted volume lies in one chunk of its kind.
-use Rattle.convert_core_laws.proofs.Imports.{◌≡◌, ◌≢◌, ◌≤◌, ◌<◌, ℕ, zero, suc, ◌+◌, ◌-◌, ◌*◌, ◌/◌, ◌%◌, inl, inr, Bool, true, false, not, List, [], ◌∷◌, ◌++◌, length, map, take, drop, Some, refl, sym, ap, subst, ◌∙◌, ⊎_elim, arith, Contains, range_with_len, and_from, and_parts, both_ways, cases_Bool, cases_lt, not_from_false, or_left, or_right, Contains-append_cases, list_any-from_Any, Contains-permutation, IsPermutation-sym, take-append_seam, IsReserved, is_reserved, decides_reserved, Image, Ids, IsNodeSize, ChunkAt, ArePlacesApart, IsExtent, LiesIn, Recount, Span, IsMaking, Making, new_ids, HasPieces, TreeRoots, can_move, piece_not_metadata, piece_not_system, sound, stays_or_moves, well, piece_apart, slot_unit, NewIdsFit, IsNewVolume, chunk_at, owner, tails, files_of, IsKeptPiece, LiesInUnit, Owners, copied_pieces, kept_pieces, tail_piece, at_places, blocks_of_units, all_at, any_from, kept_are_maximal, has, IsFreeUnit, contains_cases, contains_head, contains_range, contains_tail, range_contains, from_flat_map, used_of, chunk_kind, TreeNode, chunks_of, holds_data, is_among, is_data, AreChunks, HoldsUnit, IsChunk, is_data_unit, role_of, usable_end, use_of, IsSoundPlan, need, node_places, PlannedChunk, Role, System, Metadata, Data, Options, Piece, among_contains, contains_among, role_is, ConvertedPlacementIsSound, recount_for}
+use Rattle.convert_core_laws.proofs.Imports.{◌≡◌, ◌≢◌, ◌≤◌, ◌<◌, ℕ, zero, suc, ◌+◌, ◌-◌, ◌*◌, ◌/◌, ◌%◌, inl, inr, Bool, true, false, not, List, [], ◌∷◌, ◌++◌, length, map, take, drop, Some, refl, sym, ap, subst, ◌∙◌, ⊎_elim, arith, Contains, range_with_len, flat_map, and_from, and_parts, both_ways, cases_Bool, cases_lt, not_from_false, or_left, or_right, Contains-append_cases, list_any-from_Any, Contains-permutation, IsPermutation-sym, take-append_seam, IsReserved, is_reserved, decides_reserved, Image, Ids, IsNodeSize, ChunkAt, IsExtent, IsUncrossed, KeepsPlacement, LiesIn, kind_alone, Recount, Span, TreeOn, all_trees, data_kind, NodePointer, IsMaking, Making, new_ids, HasPieces, TreeRoots, can_move, piece_not_metadata, piece_not_system, sound, stays_or_moves, well, piece_apart, slot_unit, NewIdsFit, IsNewVolume, chunk_at, owner, tails, files_of, IsKeptPiece, LiesInUnit, Owners, copied_pieces, kept_pieces, tail_piece, at_places, blocks_of_units, all_at, any_from, kept_are_maximal, has, IsFreeUnit, contains_cases, contains_head, contains_range, contains_tail, range_contains, from_flat_map, used_of, chunk_kind, TreeNode, chunks_of, holds_data, is_among, is_data, AreChunks, HoldsUnit, IsChunk, is_data_unit, role_of, usable_end, use_of, IsSoundPlan, need, node_places, PlannedChunk, Role, System, Metadata, Data, Options, Piece, among_contains, contains_among, role_is, ConvertedPlacementIsSound, recount_for, pairs_at}
 use Rattle.convert_core_laws.proofs.soundness.AllUses.{span_of}
 use Rattle.convert_core_laws.proofs.soundness.Apart.{IsAt, a_piece, apart, in_chunk_slots, in_slots, is_at, once, size_some}
 use Rattle.convert_core_laws.proofs.soundness.Recounting.{volume_for}
@@ -23,6 +23,14 @@ one_unit n a fit aligned =
   where
     by : (x : ℕ) → n ≡ x → (a % x ≡ 0 → a + x ≤ 1048576 * (a / 4096 / 256) + 1048576) → a + n ≤ 1048576 * (a / 4096 / 256) + 1048576
     by x e is = subst (λ (y : ℕ). a + y ≤ 1048576 * (a / 4096 / 256) + 1048576) (sym e) (is (subst (λ (y : ℕ). a % y ≡ 0) e aligned))
+
+-- a node of one of the sizes lies between two multiples of 64 KiB
+uncrossed_at : (n a : ℕ) → IsNodeSize n → a % n ≡ 0 → a / 65536 ≡ (a + n - 1) / 65536
+uncrossed_at n a fit aligned =
+    ⊎_elim (λ (e : n ≡ 4096). by 4096 e (λ x. omega (arith, x))) (λ rest. ⊎_elim (λ (e : n ≡ 8192). by 8192 e (λ x. omega (arith, x))) (λ rest'. ⊎_elim (λ (e : n ≡ 16384). by 16384 e (λ x. omega (arith, x))) (λ rest''. ⊎_elim (λ (e : n ≡ 32768). by 32768 e (λ x. omega (arith, x))) (λ (e : n ≡ 65536). by 65536 e (λ x. omega (arith, x))) rest'') rest') rest) fit
+  where
+    by : (x : ℕ) → n ≡ x → (a % x ≡ 0 → a / 65536 ≡ (a + x - 1) / 65536) → a / 65536 ≡ (a + n - 1) / 65536
+    by x e is = subst (λ (y : ℕ). a / 65536 ≡ (a + y - 1) / 65536) (sym e) (is (subst (λ (y : ℕ). a % y ≡ 0) e aligned))
 
 -- what got a place lies in a block of the units
 moved_place : (old : List Piece) (places : List ℕ) (q : Piece) → Contains (at_places old places) q → Contains places q.place
@@ -108,6 +116,10 @@ module _ (o : Options) (ids : Ids) (now : ℕ) (image other : Image) (m : Making
       let t : is_among m.plan.system u ≡ true = contains_among m.plan.system u h in
       let is : use_of used m.plan u ≡ Some System = rw t refl in
       role_by_use u (not_first u free) ∙ is
+
+  -- there is a system chunk for each of its units
+  pub system_there : (u : ℕ) → Contains m.plan.system u → (c : PlannedChunk) × Contains m.chunks c × (c.role ≡ System)
+  system_there u h = let at : HasChunk System u = unit_chunk System u (system_role u h) in (at.chunk, at.among, at.role_is_)
 
   metadata_role : (u : ℕ) → Contains m.plan.metadata u → role_of m.plan whole u ≡ Some Metadata
   metadata_role u h =
@@ -264,9 +276,40 @@ module _ (o : Options) (ids : Ids) (now : ℕ) (image other : Image) (m : Making
       by (in_slots a h e kind_is) = node_inside m.plan.metadata a span kind Metadata h e kind_is metadata_role (λ u l. all_at (IsFreeUnit used) m.plan.metadata u plan_sound.metadata.free l)
       by (a_piece p h e kind_is) = any_piece p span kind h e kind_is
 
-  pub placement : ArePlacesApart k
-  placement = record { apart = apart o ids now image other m r nodes v; nodes = once o ids now image other m r nodes v; within = within }
+  -- no chunk is in two copies
+  alone : (span : Span) (kind : ℕ) → IsExtent k span kind → kind_alone kind ≡ kind
+  alone span kind is = by (is_at o ids now image other m r nodes v span kind is)
+    where
+      same : (x : ℕ) → kind ≡ x → kind_alone x ≡ x → kind_alone kind ≡ kind
+      same x is_x own = subst (λ (y : ℕ). kind_alone y ≡ y) (sym is_x) own
+
+      by : IsAt o ids now image other m r nodes v span kind → kind_alone kind ≡ kind
+      by (in_chunk_slots a h e kind_is) = same 2 kind_is refl
+      by (in_slots a h e kind_is) = same 4 kind_is refl
+      by (a_piece p h e kind_is) = same 1 kind_is refl
+
+  within_alone : (span : Span) (kind : ℕ) → IsExtent k span kind → (c : ChunkAt) × Contains k.chunks c × LiesIn c span × (kind_alone c.chunk.kind ≡ kind)
+  within_alone span kind is = let at = within span kind is in (at.0, at.1, at.2, ap kind_alone at.3 ∙ alone span kind is)
+
+  uncrossed : (span : Span) (kind : ℕ) → IsExtent k span kind → kind ≢ data_kind → IsUncrossed span
+  uncrossed span kind is no_data = by (is_at o ids now image other m r nodes v span kind is)
+    where
+      at_slot : (units : List ℕ) (a : ℕ) → Contains (node_places n units) a → span ≡ record { start = a; length = n } → IsUncrossed span
+      at_slot units a h e = subst IsUncrossed (sym e) (uncrossed_at n a fit (place_aligned n fit units a h))
+
+      by : IsAt o ids now image other m r nodes v span kind → IsUncrossed span
+      by (in_chunk_slots a h e kind_is) = at_slot m.plan.system a h e
+      by (in_slots a h e kind_is) = at_slot m.plan.metadata a h e
+      by (a_piece p h e kind_is) = absurd (no_data kind_is)
+
+  pub keeps : (at : ℕ) → KeepsPlacement k at
+  keeps at = record {
+    apart = λ a b kind other_kind here is also. apart o ids now image other m r nodes v a b kind other_kind is also;
+    nodes = pairs_at (λ (p : NodePointer). p.address) at (λ p q. p.address ≢ q.address) (flat_map (λ (t : TreeOn). t.nodes) (all_trees k)) (once o ids now image other m r nodes v);
+    within = λ span kind here is. within_alone span kind is;
+    uncrossed = λ span kind here is no_data. uncrossed span kind is no_data;
+  }
 
 pub converted_placement_is_sound : NewIdsFit → ConvertedPlacementIsSound
 converted_placement_is_sound fit = λ o ids now image other m r nodes is size low are has bytes.
-    placement o ids now image other m r nodes (volume_for fit o ids now image other m r nodes is size are has)
+    keeps o ids now image other m r nodes (volume_for fit o ids now image other m r nodes is size are has)

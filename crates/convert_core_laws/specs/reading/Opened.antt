@@ -1,5 +1,5 @@
 -- What a converted volume is to whoever opens it.
-use Rattle.std.specs.Prelude.{◌≡◌, All, ◌≤◌, ◌<◌, ℕ, ◌+◌, ◌-◌, ◌*◌, ◌^◌, true, not, List, [], ◌++◌, map, filter, Contains, Some, None}
+use Rattle.std.specs.Prelude.{◌≡◌, All, ◌≤◌, ◌<◌, ℕ, ◌+◌, ◌*◌, true, not, List, [], ◌++◌, map, filter, Contains, Some, None}
 use Rattle.reiser_volume.specs.outside.History.{Image}
 use Rattle.reiser_volume.specs.vol_block.declared.ids.Ids.{Ids}
 use Rattle.btr_reader.specs.btr_node.Leaf.{Item}

@@ -1,5 +1,5 @@
 -- What a recount of a converted volume finds.
-use Rattle.std.specs.Prelude.{ℕ, ◌^◌, ◌-◌, List, ◌++◌, map}
+use Rattle.std.specs.Prelude.{ℕ, List, ◌++◌, map}
 use Rattle.btrfs_format.specs.declared.object.TheConstants.{CHUNK_TREE, ROOT_TREE}
 use Rattle.reiser_volume.specs.outside.History.{Image}
 use Rattle.btr_reader.specs.btr_node.Leaf.{Item}

@@ -60,6 +60,7 @@ fn options_have_their_place_and_form(rt: HostRuntime) -> Result<(), Fail> {
             ("convert --label a --copy-label x", "can't stand beside"),
             ("convert --label a --label b x", "'--label' is given twice."),
             ("convert --frobnicate x", "write './--frobnicate'"),
+            ("trial -1 x", "'-1' is no number of files: it goes from 0"),
         ],
     )
 }
@@ -82,7 +83,10 @@ fn values_are_in_their_range(rt: HostRuntime) -> Result<(), Fail> {
             ),
             ("convert --uuid", "A value is missing behind '--uuid'."),
             ("trial 4001 x", "'4001' is no number of files"),
-            ("trial x 5", "'reiserconv trial 1000 x'"),
+            ("trial x", "'reiserconv trial 1000 x'"),
+            ("trial abc x", "'reiserconv trial 1000 x'"),
+            ("trial x 5", "'reiserconv trial 5 x'"),
+            ("trial x 4001", "'reiserconv trial 1000 4001'"),
         ],
     )
 }

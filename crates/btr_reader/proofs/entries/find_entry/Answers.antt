@@ -10,7 +10,7 @@ loop-walker-init g c = record {
   same = refl;
   tree = c.in_ok-walker.ensures.tree;
   fresh = c.in_ok-walker.ensures.fresh;
-  walks = λ tells. ([], c.in_ok-walker.ensures.walks _ _, refl, refl, none_seen is_root_directory c.new-seen.result c.new-seen.ensures.empty, c.requires.begun);
+  walks = λ tells. ([], c.in_ok-walker.ensures.walks _ _, refl, refl, none_seen is_root_directory c.new-seen.result c.new-seen.ensures.empty, c.requires.begun, c.requires.begun_others);
 }
 
 pub returns-in_err-advance-clause-err : goal.returns-in_err-advance-clause-err
@@ -50,6 +50,7 @@ loop-walker-preserved g c =
             index_right told.0 i told.3 (c.in_ok-first.ensures.ok i key body leaf),
             c.in_ok-first.ensures.seen i told.0 key body leaf told.4,
             c.in_ok-note.ensures c.args.notes.now told.0 i (sym (c.key-in-loop-walker.ensures i came.2)) (sym (c.body-in-loop-walker.ensures i came.2)) (sym (c.leaf-in-loop-walker.ensures i came.2)) told.5,
+            c.in_ok-note-2.ensures c.args.others.now told.0 i (sym (c.key-in-loop-walker-2.ensures i came.2)) (sym (c.body-in-loop-walker-2.ensures i came.2)) (sym (c.leaf-in-loop-walker-2.ensures i came.2)) told.6,
           );
     }
 
@@ -113,3 +114,17 @@ returns-clause-noted g c = λ tells image is.
     let end = rw c.if-branch.false at (c.in_ok-advance.ensures.comes tells here same told.0 told.1) in
     let all : told.0 ≡ found here ranges c.args.tree = end.1.all ∙ ap (λ (t : Tree). found here ranges t) before.tree in
     subst (λ (m : Image). g.N.Notes.holds c.args.notes.now c.loop-walker.notes (found m ranges c.args.tree)) is (subst (g.N.Notes.holds c.args.notes.now c.loop-walker.notes) all told.5)
+
+pub returns-clause-noted_others : goal.returns-clause-noted_others
+returns-clause-noted_others g c = λ tells image is.
+    let before = c.loop-walker.invariant in
+    let here : Image = g.S.BlockSource.blocks c.args.src.now in
+    let ranges : List MapRange = c.args.ranges.now in
+    let told = before.walks tells in
+    let same = g.met.S.BlockSource.kept_blocks c.args.src.now c.loop-walker.src tells before.kept in
+    let end = rw c.if-branch.false at (c.in_ok-advance.ensures.comes tells here same told.0 told.1) in
+    let all : told.0 ≡ found here ranges c.args.tree = end.1.all ∙ ap (λ (t : Tree). found here ranges t) before.tree in
+    subst (λ (m : Image). g.M.Notes.holds c.args.others.now c.loop-walker.others (found m ranges c.args.tree)) is (subst (g.M.Notes.holds c.args.others.now c.loop-walker.others) all told.6)
+
+pub returns-in_err-note-2-clause-kept : goal.returns-in_err-note-2-clause-kept
+returns-in_err-note-2-clause-kept g c = g.met.S.BlockSource.kept_trans _ _ _ c.loop-walker.invariant.kept c.advance.ensures.kept

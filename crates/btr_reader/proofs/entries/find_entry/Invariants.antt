@@ -7,7 +7,7 @@ invariant-loop-walker g l = record {
   same : g.S.BlockSource.faults l.src ≡ g.S.BlockSource.faults l.fn.src;
   tree : l.walker.tree ≡ l.fn.tree;
   fresh : l.walker.spent ≡ false;
-  walks : IsTrue g.S.BlockSource.tells → (given : List TreeItem) × Walks l.walker (g.S.BlockSource.blocks l.fn.src) l.ranges given × (l.first ≡ entry_named (is_called l.name) (dir_indexes given)) × (index_refusals given ≡ []) × HasSeen is_root_directory l.seen (dir_indexes given) × g.N.Notes.holds l.fn.notes l.notes given;
+  walks : IsTrue g.S.BlockSource.tells → (given : List TreeItem) × Walks l.walker (g.S.BlockSource.blocks l.fn.src) l.ranges given × (l.first ≡ entry_named (is_called l.name) (dir_indexes given)) × (index_refusals given ≡ []) × HasSeen is_root_directory l.seen (dir_indexes given) × g.N.Notes.holds l.fn.notes l.notes given × g.M.Notes.holds l.fn.others l.others given;
 }
 
 abbrev pub decreases-loop-walker : goal.decreases-loop-walker

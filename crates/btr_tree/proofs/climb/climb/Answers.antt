@@ -12,7 +12,7 @@ loop-alloc-init g c = record {
   borrow = refl;
   same = refl;
   later = later_none c.args.nodes.now;
-  only = λ tells. writes_none (λ b _. IsInSlots c.args.nodes.now.form.nodesize (take (taken c.args.nodes.now) c.args.nodes.now.slots) b) (g.D.Disk.history c.args.disk.now);
+  only = λ tells. writes_none (λ b _. IsInSlots c.args.nodes.now.form.nodesize (take (taken c.args.nodes.now) c.args.nodes.now.offsets) b) (g.D.Disk.history c.args.disk.now);
   goes =
       climb_begins g.D.BlockSource.tells (reads (g.D.Disk.history c.args.disk.now)) c.args.nodes.now c.args.leaves.items c.requires.some
       (omega (arith, c.args.leaves.ok.0, c.args.leaves.ok.1, c.args.leaves.small)) c.requires.made c.requires.few;

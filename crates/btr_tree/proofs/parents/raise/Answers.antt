@@ -13,7 +13,7 @@ loop-start-init g c = record {
   borrow = refl;
   same = refl;
   later = later_none c.args.nodes.now;
-  only = λ tells. writes_none (λ b _. IsInSlots c.args.nodes.now.form.nodesize (take (taken c.args.nodes.now) c.args.nodes.now.slots) b) (g.D.Disk.history c.args.disk.now);
+  only = λ tells. writes_none (λ b _. IsInSlots c.args.nodes.now.form.nodesize (take (taken c.args.nodes.now) c.args.nodes.now.offsets) b) (g.D.Disk.history c.args.disk.now);
   goes =
       raise_begins g.D.BlockSource.tells (reads (g.D.Disk.history c.args.disk.now)) c.args.nodes.now c.args.children.now c.new-parents.result.items c.args.level
       (omega (arith, c.fan_out-fan_out.ensures.wide, c.fan_out-fan_out.ensures.exact)) c.requires.few c.new-parents.ensures.items;
@@ -62,7 +62,7 @@ loop-start-preserved g c =
       goes =
           raise_goes_on c.children_give_items.ensures g.D.BlockSource.tells (reads (g.D.Disk.history c.args.disk.now)) (reads (g.D.Disk.history c.loop-start.disk)) (reads (g.D.Disk.history c.make_room.new.disk))
           c.args.nodes.now c.loop-start.nodes c.make_room.new.self c.add_parent.new.nodes c.args.children.now c.loop-start.parents.items c.add_parent.new.parents.items part c.args.level start end
-          c.in_ok-add_parent.ensures.made.0 c.requires.size c.requires.slots before.goes c.in_ok-make_room.ensures.goes (omega (arith, c.loop-start-test.true)) end_is some refl long
+          c.in_ok-add_parent.ensures.made.0 before.goes c.in_ok-make_room.ensures.goes (omega (arith, c.loop-start-test.true)) end_is some refl long
           c.in_ok-add_parent.ensures.made.1 c.in_ok-add_parent.ensures.made.2;
     }
 

@@ -9,7 +9,7 @@ invariant-loop-start g l = record {
   borrow : g.D.Disk.borrow l.disk ≡ g.D.Disk.borrow l.initial.disk;
   same : g.D.BlockSource.faults l.disk ≡ g.D.BlockSource.faults l.initial.disk;
   later : IsLater l.initial.nodes l.nodes;
-  only : IsTrue g.D.BlockSource.tells → WritesOnly (λ b _. IsInSlots l.initial.nodes.form.nodesize (take (taken l.nodes) l.initial.nodes.slots) b) (g.D.Disk.history l.initial.disk) (g.D.Disk.history l.disk);
+  only : IsTrue g.D.BlockSource.tells → WritesOnly (λ b _. IsInSlots l.initial.nodes.form.nodesize (take (taken l.nodes) l.initial.nodes.offsets) b) (g.D.Disk.history l.initial.disk) (g.D.Disk.history l.disk);
   goes : Goes g.D.BlockSource.tells (reads (g.D.Disk.history l.initial.disk)) (reads (g.D.Disk.history l.disk)) l.initial.nodes l.nodes (λ m n. IsRaising m l.children l.level n l.parents.items l.start);
 }
 

@@ -7,6 +7,6 @@ invariant-loop-j g l = record {
   size : g.D.BlockSource.size l.disk ≡ g.D.BlockSource.size l.initial.disk;
   borrow : g.D.Disk.borrow l.disk ≡ g.D.Disk.borrow l.initial.disk;
   same : g.D.BlockSource.faults l.disk ≡ g.D.BlockSource.faults l.initial.disk;
-  only : IsTrue g.D.BlockSource.tells → WritesOnly (λ b _. IsInNode (length l.bytes) l.address b) (g.D.Disk.history l.initial.disk) (g.D.Disk.history l.disk);
-  written : IsTrue g.D.BlockSource.tells → HoldBytes (reads (g.D.Disk.history l.disk)) (l.address / 4096) l.j l.bytes;
+  only : IsTrue g.D.BlockSource.tells → WritesOnly (λ b _. IsInNode (length l.bytes) l.offset b) (g.D.Disk.history l.initial.disk) (g.D.Disk.history l.disk);
+  written : IsTrue g.D.BlockSource.tells → HoldBytes (reads (g.D.Disk.history l.disk)) (l.offset / 4096) l.j l.bytes;
 }

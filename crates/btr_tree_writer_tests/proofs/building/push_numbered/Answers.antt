@@ -12,7 +12,7 @@ loop-number-init g c = record {
   going = c.requires.going;
   stands = c.requires.stands;
   holds = c.requires.empty;
-  same = record { form = refl; owner = refl; generation = refl; slots = refl; chunk_tree = refl };
+  same = record { form = refl; owner = refl; generation = refl; slots = refl; offsets = refl; chunk_tree = refl };
   open_ = refl;
   size = refl;
 }
@@ -31,9 +31,9 @@ push-requires-clause-small g c = omega (arith, c.requires.small, ap (λ (f : For
 pub push-requires-clause-in_range : goal.push-requires-clause-in_range
 push-requires-clause-in_range g c =
     let before = c.loop-number.invariant in
-    subst (λ (n : ℕ). All (λ a. a + c.loop-number.tree.made.form.nodesize ≤ 4096 * n) c.loop-number.tree.made.slots) (sym before.size)
-    (subst (λ (s : List ℕ). All (λ a. a + c.loop-number.tree.made.form.nodesize ≤ 4096 * g.D.BlockSource.size c.args.disk.now) s) (sym before.same.slots)
-    (subst (λ (f : Form). All (λ a. a + f.nodesize ≤ 4096 * g.D.BlockSource.size c.args.disk.now) c.args.tree.now.made.slots) (sym before.same.form) c.requires.in_range))
+    subst (λ (n : ℕ). All (λ a. a + c.loop-number.tree.made.form.nodesize ≤ 4096 * n) c.loop-number.tree.made.offsets) (sym before.size)
+    (subst (λ (s : List ℕ). All (λ a. a + c.loop-number.tree.made.form.nodesize ≤ 4096 * g.D.BlockSource.size c.args.disk.now) s) (sym before.same.offsets)
+    (subst (λ (f : Form). All (λ a. a + f.nodesize ≤ 4096 * g.D.BlockSource.size c.args.disk.now) c.args.tree.now.made.offsets) (sym before.same.form) c.requires.in_range))
 
 pub loop-number-preserved : goal.loop-number-preserved
 loop-number-preserved g c =

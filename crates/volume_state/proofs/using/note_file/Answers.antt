@@ -1,4 +1,4 @@
-use Rattle.volume_state.proofs.Imports.{◌≡◌, ℕ, List, [], Result, Option, Err, Ok, inl, refl, sym, ◌∙◌, subst, err_from_is_err_and, BtrAnswer, entry_refusals, root_refusals, FindsSaved, IsAmong, found, wrong, MapRange, Tree, IsMapApart, HoldsExtent, HoldsNodeOf, HoldsPartOf, TellsReserved, among_left}
+use Rattle.volume_state.proofs.Imports.{◌≡◌, ℕ, List, [], Err, inl, refl, sym, ◌∙◌, subst, err_from_is_err_and, BtrAnswer, entry_refusals, root_refusals, FindsSaved, IsAmong, found, wrong, MapRange, IsMapApart, HoldsExtent, HoldsNodeOf, HoldsPartOf, TellsReserved, among_left}
 use Rattle.volume_state.proofs.Telling.{parts_told}
 use Rattle.volume_state.proofs.using.note_file.Goals as goal
 

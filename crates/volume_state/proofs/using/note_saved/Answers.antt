@@ -1,4 +1,4 @@
-use Rattle.volume_state.proofs.Imports.{◌≡◌, ℕ, List, [], Option, refl, sym, ◌∙◌, subst, err_from_is_err_and, entry_refusals, image_refusals_in, root_refusals, saved_refusals, IsAmong, found, wrong, MapRange, Tree, IsMapApart, HoldsExtent, HoldsNodeOf, HoldsPartOf, TellsReserved, among_first, among_left}
+use Rattle.volume_state.proofs.Imports.{◌≡◌, ℕ, List, [], refl, sym, ◌∙◌, subst, err_from_is_err_and, entry_refusals, image_refusals_in, root_refusals, saved_refusals, IsAmong, found, wrong, MapRange, IsMapApart, HoldsExtent, HoldsNodeOf, HoldsPartOf, TellsReserved, among_first, among_left}
 use Rattle.volume_state.proofs.Telling.{parts_told}
 use Rattle.volume_state.proofs.using.note_saved.Goals as goal
 

@@ -1,4 +1,4 @@
-use Rattle.volume_state.proofs.Imports.{◌≡◌, ℕ, List, Option, sym, ◌∙◌, subst, err_from_is_err_and, image_refusals, IsAmong, MapRange, IsMapApart, IsInUse, TellsReserved, among_none, opened_apart}
+use Rattle.volume_state.proofs.Imports.{◌≡◌, List, sym, ◌∙◌, subst, err_from_is_err_and, image_refusals, IsAmong, MapRange, IsMapApart, IsInUse, TellsReserved, among_none, opened_apart}
 use Rattle.volume_state.proofs.InUse.{whole_told}
 use Rattle.volume_state.proofs.using.read_way_for.Goals as goal
 

@@ -1,4 +1,4 @@
-use Rattle.volume_state.proofs.Imports.{sym, subst, err_from_is_err_and, of_disk, RefusesUse}
+use Rattle.volume_state.proofs.Imports.{sym, subst, err_from_is_err_and, RefusesUse}
 use Rattle.volume_state.proofs.InUse.{log_refused, way_refused}
 use Rattle.volume_state.proofs.Telling.{way_among}
 use Rattle.volume_state.proofs.using.reserved_used.Goals as goal

@@ -16,5 +16,5 @@ returns-clause-done c =
     let none : c.seal.new.self.written ≡ 0 = ap (λ (m : Made). m.written) sealed ∙ c.requires.none.1 in
     completed_empty c.leaves_give_items.ensures c.subtrees_are_trees.ensures (all_made b [])
     (record { made = with_written c.seal.new.self []; children = c.self.inside.children.items; hand = c.self.inside.hand; spent = c.self.inside.spent; done = c.self.inside.done })
-    (record { address = a; level = 0; nodes = c.len.result }) a c.requires.size c.requires.slots c.requires.none.0 c.requires.no_items at read (ap (λ (m : Made). with_written m []) sealed) refl refl
+    (record { address = a; level = 0; nodes = c.len.result }) a c.requires.none.0 c.requires.no_items at read (ap (λ (m : Made). with_written m []) sealed) refl refl
     (c.len.ensures ∙ whole_count c.seal.new.self [] (sym none))

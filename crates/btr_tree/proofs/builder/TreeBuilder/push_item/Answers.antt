@@ -9,7 +9,7 @@ seen i = record { made = i.nodes; children = i.children.items; hand = i.hand; sp
 
 pub returns-in_err-make_room-clause-only : goal.returns-in_err-make_room-clause-only
 returns-in_err-make_room-clause-only g c = λ tells.
-    subst (λ (x : Building). WritesOnly (λ b _. IsInSlots x.made.form.nodesize (take (taken c.make_room.new.self) x.made.slots) b) (g.D.Disk.history c.args.disk.now) (g.D.Disk.history c.make_room.new.disk)) c.self.view_is
+    subst (λ (x : Building). WritesOnly (λ b _. IsInSlots x.made.form.nodesize (take (taken c.make_room.new.self) x.made.offsets) b) (g.D.Disk.history c.args.disk.now) (g.D.Disk.history c.make_room.new.disk)) c.self.view_is
     (c.make_room.ensures.only tells)
 
 pub returns-in_err-put-clause-out : goal.returns-in_err-put-clause-out
@@ -24,7 +24,7 @@ returns-in_err-put-clause-out g c = λ items holds is.
 
 pub returns-in_err-put-clause-only : goal.returns-in_err-put-clause-only
 returns-in_err-put-clause-only g c = λ tells.
-    subst (λ (x : Building). WritesOnly (λ b _. IsInSlots x.made.form.nodesize (take (taken c.put.new.self.made) x.made.slots) b) (g.D.Disk.history c.args.disk.now) (g.D.Disk.history c.make_room.new.disk)) c.self.view_is
+    subst (λ (x : Building). WritesOnly (λ b _. IsInSlots x.made.form.nodesize (take (taken c.put.new.self.made) x.made.offsets) b) (g.D.Disk.history c.args.disk.now) (g.D.Disk.history c.make_room.new.disk)) c.self.view_is
     (taken_more c.self.inside.nodes c.make_room.new.self c.put.new.self.made (g.D.Disk.history c.args.disk.now) (g.D.Disk.history c.make_room.new.disk) c.put.ensures.later (c.make_room.ensures.only tells))
 
 pub returns-clause-holds : goal.returns-clause-holds
@@ -56,5 +56,5 @@ returns-clause-fits g c = λ items holds.
 
 pub returns-clause-only : goal.returns-clause-only
 returns-clause-only g c = λ tells.
-    subst (λ (x : Building). WritesOnly (λ b _. IsInSlots x.made.form.nodesize (take (taken c.put.new.self.made) x.made.slots) b) (g.D.Disk.history c.args.disk.now) (g.D.Disk.history c.make_room.new.disk)) c.self.view_is
+    subst (λ (x : Building). WritesOnly (λ b _. IsInSlots x.made.form.nodesize (take (taken c.put.new.self.made) x.made.offsets) b) (g.D.Disk.history c.args.disk.now) (g.D.Disk.history c.make_room.new.disk)) c.self.view_is
     (taken_more c.self.inside.nodes c.make_room.new.self c.put.new.self.made (g.D.Disk.history c.args.disk.now) (g.D.Disk.history c.make_room.new.disk) c.put.ensures.later (c.make_room.ensures.only tells))

@@ -1,4 +1,4 @@
-use Rattle.btr_tree.proofs.Imports.{◌≡◌, List, IsTrue, sym, ap, subst, reads, Item, Made, Goes, IsLater, Building, Holds, HasTree, HasWhole, pushed_on, IsFinished, MeetsNodes, Inside}
+use Rattle.btr_tree.proofs.Imports.{◌≡◌, List, IsTrue, sym, ap, subst, reads, Item, Made, Goes, IsLater, MapsSlots, Building, Holds, HasTree, HasWhole, pushed_on, IsFinished, MeetsNodes, Inside, MapRange}
 use Rattle.btr_tree.proofs.Finishing.{Makes, makes_goes, finished, finished_tree, finished_nodes, finished_whole}
 use Rattle.btr_tree.proofs.Fronts.{TakenOnly, later_then, taken_then}
 use Rattle.btr_tree.proofs.Going.{HasFront, front_told}
@@ -60,19 +60,23 @@ front_before g c tells =
     subst (λ (x : Building). HasFront x (reads (g.D.Disk.history c.args.disk.now)) (pushed_on c.args.self.now (reads (g.D.Disk.history c.args.disk.now)))) (sym c.self.view_is)
     (front_told c.args.self.now (reads (g.D.Disk.history c.args.disk.now)) c.requires.ready (c.requires.stands tells))
 
+maps_here : (g : _) (c : goal.In_ok-flush g) (ranges : List MapRange) → MapsSlots ranges c.args.self.now.made.form.nodesize c.args.self.now.made.slots c.args.self.now.made.offsets
+    → MapsSlots ranges c.self.inside.nodes.form.nodesize c.self.inside.nodes.slots c.self.inside.nodes.offsets
+maps_here g c ranges maps = subst (λ (x : Building). MapsSlots ranges x.made.form.nodesize x.made.slots x.made.offsets) (sym c.self.view_is) maps
+
 pub returns-clause-tree : goal.returns-clause-tree
-returns-clause-tree g c = λ tells.
+returns-clause-tree g c = λ ranges maps tells.
     let items : List Item = pushed_on c.args.self.now (reads (g.D.Disk.history c.args.disk.now)) in
-    subst (λ (x : Building). HasTree (reads (g.D.Disk.history c.flush.new.disk)) x.made c.in_ok-root.root.address c.in_ok-root.root.level items) c.self.view_is
+    subst (λ (x : Building). HasTree (reads (g.D.Disk.history c.flush.new.disk)) ranges x.made c.in_ok-root.root.address c.in_ok-root.root.level items) c.self.view_is
     (finished_tree g.D.BlockSource.tells (reads (g.D.Disk.history c.args.disk.now)) (reads (g.D.Disk.history c.flush.new.disk)) (seen c.self.inside) (seen c.self-2.inside) c.flush.new.self c.in_ok-root.root
-    (goes_all g c) (ap (λ (m : Made). m.nodes) c.in_ok-flush.ensures.flushed) tells items (front_before g c tells))
+    (goes_all g c) (ap (λ (m : Made). m.nodes) c.in_ok-flush.ensures.flushed) ranges (maps_here g c ranges maps) tells items (front_before g c tells))
 
 pub returns-clause-nodes : goal.returns-clause-nodes
-returns-clause-nodes g c = λ tells.
+returns-clause-nodes g c = λ ranges maps tells.
     let items : List Item = pushed_on c.args.self.now (reads (g.D.Disk.history c.args.disk.now)) in
-    subst (λ (x : Building). MeetsNodes (reads (g.D.Disk.history c.flush.new.disk)) x.made c.in_ok-root.root.address c.in_ok-root.root.level items) c.self.view_is
+    subst (λ (x : Building). MeetsNodes (reads (g.D.Disk.history c.flush.new.disk)) ranges x.made c.in_ok-root.root.address c.in_ok-root.root.level items) c.self.view_is
     (finished_nodes g.D.BlockSource.tells (reads (g.D.Disk.history c.args.disk.now)) (reads (g.D.Disk.history c.flush.new.disk)) (seen c.self.inside) (seen c.self-2.inside) c.flush.new.self c.in_ok-root.root
-    (goes_all g c) (ap (λ (m : Made). m.nodes) c.in_ok-flush.ensures.flushed) tells items (front_before g c tells))
+    (goes_all g c) (ap (λ (m : Made). m.nodes) c.in_ok-flush.ensures.flushed) ranges (maps_here g c ranges maps) tells items (front_before g c tells))
 
 pub returns-clause-finished : goal.returns-clause-finished
 returns-clause-finished g c = λ items holds.
@@ -81,8 +85,8 @@ returns-clause-finished g c = λ items holds.
     (goes_all g c) (ap (λ (m : Made). m.nodes) c.in_ok-flush.ensures.flushed) items (subst (λ (x : Building). Holds x items) (sym c.self.view_is) holds))
 
 pub returns-clause-whole : goal.returns-clause-whole
-returns-clause-whole g c = λ tells.
+returns-clause-whole g c = λ ranges maps tells.
     let items : List Item = pushed_on c.args.self.now (reads (g.D.Disk.history c.args.disk.now)) in
-    subst (λ (x : Building). HasWhole (reads (g.D.Disk.history c.flush.new.disk)) x.made c.in_ok-root.root.address c.in_ok-root.root.level) c.self.view_is
+    subst (λ (x : Building). HasWhole (reads (g.D.Disk.history c.flush.new.disk)) ranges x.made c.in_ok-root.root.address c.in_ok-root.root.level) c.self.view_is
     (finished_whole g.D.BlockSource.tells (reads (g.D.Disk.history c.args.disk.now)) (reads (g.D.Disk.history c.flush.new.disk)) (seen c.self.inside) (seen c.self-2.inside) c.flush.new.self c.in_ok-root.root
-    (goes_all g c) (ap (λ (m : Made). m.nodes) c.in_ok-flush.ensures.flushed) tells items (front_before g c tells))
+    (goes_all g c) (ap (λ (m : Made). m.nodes) c.in_ok-flush.ensures.flushed) ranges (maps_here g c ranges maps) tells items (front_before g c tells))

@@ -8,5 +8,5 @@ returns-clause-goes g c =
 
 pub returns-clause-only : goal.returns-clause-only
 returns-clause-only g c = λ tells.
-    subst (λ n. WritesOnly (λ b _. IsInSlots c.args.self.now.form.nodesize (take n c.args.self.now.slots) b) (g.D.Disk.history c.args.disk.now) (g.D.Disk.history c.write.new.disk))
+    subst (λ n. WritesOnly (λ b _. IsInSlots c.args.self.now.form.nodesize (take n c.args.self.now.offsets) b) (g.D.Disk.history c.args.disk.now) (g.D.Disk.history c.write.new.disk))
     (sym (flushed_taken c.args.self.now c.let_go.new.self c.let_go.ensures)) (c.write.ensures.only tells)

@@ -18,6 +18,7 @@ invariant_of-self c =
       same = ap (λ (d : Draft). d.nodesize) is ∙ before.same;
       whole = before.whole;
       few = before.few;
+      as_many = before.as_many;
       small = before.small;
       batch = before.batch;
       room_is = before.room_is;

@@ -13,7 +13,7 @@ invariant_of-self c =
     let n : ℕ = c.self.inside.form.nodesize in
     let nodes : length (pieces_of n c.self.inside.held c.self.inside.bytes.items) ≡ c.self.inside.held = length-pieces_of n c.self.inside.held c.self.inside.bytes.items in
     let held : length (pieces_of n c.self.inside.held c.self.inside.bytes.items) < 16 = omega (arith, c.requires.batch, ap (λ (m : Made). length m.nodes) c.self.view_is) in
-    let count : c.self.inside.written + length (pieces_of n c.self.inside.held c.self.inside.bytes.items) < length c.self.inside.slots =
+    let count : c.self.inside.written + length (pieces_of n c.self.inside.held c.self.inside.bytes.items) < length c.self.inside.slots.addresses =
     omega (arith, c.requires.slot, ap taken c.self.view_is, ap (λ (m : Made). length m.slots) c.self.view_is) in
     record {
       size = c.self.invariant.size;
@@ -23,6 +23,7 @@ invariant_of-self c =
           ∙ (length-append c.self.inside.bytes.items (node_bytes c.self.inside.writer)
           ∙ omega (arith, c.self.invariant.whole, c.self.invariant.same, c.append_node.ensures.read.size, one_more n c.self.inside.held));
       few = omega (arith, count, nodes);
+      as_many = c.self.invariant.as_many;
       small = c.self.invariant.small;
       batch = omega (arith, held, nodes);
       room_is = omega (arith, c.self.invariant.room_is, c.append_node.ensures.room);
@@ -37,7 +38,8 @@ returns-clause-made c =
       owner = c.self.inside.owner;
       generation = c.self.inside.generation;
       chunk_tree = c.self.inside.chunk_tree;
-      slots = c.self.inside.slots;
+      slots = c.self.inside.slots.addresses;
+      offsets = c.self.inside.slots.offsets;
       written = c.self.inside.written;
       nodes = nodes;
       draft = draft;

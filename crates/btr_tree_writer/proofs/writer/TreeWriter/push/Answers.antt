@@ -3,7 +3,7 @@ use Rattle.btr_tree_writer.proofs.Pushing.{last_pushed, held_order, must_follow,
 use Rattle.btr_tree_writer.proofs.writer.TreeWriter.push.Goals as goal
 
 pub returns-then-not-fits-clause-misfit : goal.returns-then-not-fits-clause-misfit
-returns-then-not-fits-clause-misfit g c = λ form owner slots items rest w is writable.
+returns-then-not-fits-clause-misfit g c = λ form generation owner slots items rest w is writable.
     let above = must_follow items rest (c.args.key, c.args.body.now) writable.order in
     let short = must_be_short form.nodesize items rest (c.args.key, c.args.body.now) writable.short in
     not_both c.fits.result c.if-not-fits.true
@@ -11,25 +11,25 @@ returns-then-not-fits-clause-misfit g c = λ form owner slots items rest w is wr
 
 pub push-requires-clause-order : goal.push-requires-clause-order
 push-requires-clause-order g c =
-    let w = c.requires.ready.4 in
+    let w = c.requires.ready.5 in
     let made = c.args.self.now.builder.made in
     let fits = c.fits.ensures.0 c.if-not-fits.false in
     held_order (flat_map items_in (w.holds.front ++ made.nodes)) made.draft.items c.args.key w.holds.standing.order
     (subst (λ (k : Option Key). IsAbove k c.args.key) (w.last_is ∙ ap last_key (sym w.holds.pushed_is)) fits.0)
 
 pub returns-in_err-push-clause-misfit : goal.returns-in_err-push-clause-misfit
-returns-in_err-push-clause-misfit g c = λ form owner slots items rest w is.
+returns-in_err-push-clause-misfit g c = λ form generation owner slots items rest w is.
     let item : Item = (c.args.key, c.args.body.now) in
     let out = c.in_err-push.ensures.out items w.holds (ap (λ (a : TreeAnswer). Err a) (misfit_back c.from_residual.result c.in_err-push.field-0.0 c.from_residual.ensures.1 is)) in
-    too_few form.nodesize slots items rest item (subst (λ (f : Form). IsNodeSize f.nodesize) w.form_is w.holds.standing.nodesize)
-    (subst (λ (f : Form). length slots < leaves_of f.nodesize (items ++ item ∷ [])) w.form_is
+    too_few form.nodesize slots.addresses items rest item (subst (λ (f : Form). IsNodeSize f.nodesize) w.form_is w.holds.standing.nodesize)
+    (subst (λ (f : Form). length slots.addresses < leaves_of f.nodesize (items ++ item ∷ [])) w.form_is
     (subst (λ (s : List ℕ). length s < leaves_of c.args.self.now.builder.made.form.nodesize (items ++ item ∷ [])) w.slots_are out))
 
 pub returns-in_err-push-clause-only : goal.returns-in_err-push-clause-only
 returns-in_err-push-clause-only g c = λ tells. only_all _ (taken c.push.new.self.made) _ _ _ (c.push.ensures.only tells)
 
 pub returns-clause-writes : goal.returns-clause-writes
-returns-clause-writes g c = λ form owner slots items w.
+returns-clause-writes g c = λ form generation owner slots items w.
     let fits = c.fits.ensures.0 c.if-not-fits.false in
     let item : Item = (c.args.key, c.args.body.now) in
     let here : length item.1 + 126 ≤ form.nodesize = subst (λ (n : ℕ). length item.1 + 126 ≤ n) w.sizes.0 fits.1 in
@@ -41,11 +41,12 @@ returns-clause-writes g c = λ form owner slots items w.
       form_is = c.in_ok-push.ensures.same.form ∙ w.form_is;
       sizes = (w.sizes.0, c.add.ensures.size ∙ w.sizes.1);
       owner_is = c.in_ok-push.ensures.same.owner ∙ w.owner_is;
-      generation = c.in_ok-push.ensures.same.generation ∙ w.generation;
+      generation_is = c.in_ok-push.ensures.same.generation ∙ w.generation_is;
       slots_are = c.in_ok-push.ensures.same.slots ∙ w.slots_are;
+      offsets_are = c.in_ok-push.ensures.same.offsets ∙ w.offsets_are;
       few = w.few;
       short = short;
-      room = bytes_fit form.nodesize slots (items ++ item ∷ []) short (subst (λ (f : Form). leaves_of f.nodesize (items ++ item ∷ []) ≤ length slots) w.form_is
+      room = bytes_fit form.nodesize slots.addresses (items ++ item ∷ []) short (subst (λ (f : Form). leaves_of f.nodesize (items ++ item ∷ []) ≤ length slots.addresses) w.form_is
           (subst (λ (s : List ℕ). leaves_of c.args.self.now.builder.made.form.nodesize (items ++ item ∷ []) ≤ length s) w.slots_are (c.in_ok-push.ensures.fits items w.holds)));
       unspent = false_then c.push.new.self.spent c.in_ok-push.ensures.spent.0;
       going = c.in_ok-push.ensures.going;
