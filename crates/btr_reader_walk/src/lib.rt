@@ -2,6 +2,7 @@
 #![tactic(auto)]
 
 mod advance;
+mod ahead;
 mod blocks;
 mod laws;
 mod map;
@@ -12,6 +13,7 @@ mod tree;
 mod visit;
 mod walker;
 
+pub use ahead::tell_leaves;
 pub use blocks::read_node;
 pub use btr_node::{
     Block, BlockNo, BlockSource, BtrAnswer, BtrRefusal, BtrRule, DirEntry, DirItems, DiskRange,

@@ -5,6 +5,7 @@ ghost use Rattle.host_edge.specs.FileDisk.{Kept, opened_for, length_of, kept_ref
 
 use crate::caches::{CACHES, drop_caches};
 use crate::opened::{FailedWrite, Opened};
+use crate::told::ToldBlocks;
 use crate::trouble::{Cause, DiskCall, Trouble};
 use crate::{FileIdentity, Signature, Use};
 use btrfs_format::block::SUPER_BLOCK;
@@ -34,6 +35,10 @@ use std::{fs, io};
 /// program looks by itself for volumes of ReiserFS and Btrfs.
 ///
 /// On a terminal it shows how far the command is ([`FileDisk::expect`]).
+///
+/// Of the blocks that it is told will be read, those of a window of at most 64 MiB are read ahead in ascending order, once the reads reach the
+/// window, so that the system has them in memory when they are asked for. A failure there is none of the disk's: the block is read again where it
+/// is asked for. After one nothing more is read ahead of what was told.
 #[derive(Drop)]
 pub struct FileDisk<'a, R: Files<File = File> + AllocGlobal + Clock + Clone + Drop> {
     files: R,
@@ -42,6 +47,7 @@ pub struct FileDisk<'a, R: Files<File = File> + AllocGlobal + Clock + Clone + Dr
     trouble: Option<Trouble>,
     watch: Watch<'a>,
     is_overwritten: bool,
+    told: ToldBlocks,
 }
 
 impl<'a, R: Files<File = File> + AllocGlobal + Clock + Clone + Drop> FileDisk<'a, R> {
@@ -49,6 +55,7 @@ impl<'a, R: Files<File = File> + AllocGlobal + Clock + Clone + Drop> FileDisk<'a
     pub fn new(files: R, line: &'a StatusLine) -> Self
         ensures { opened_for result ≡ None }
     {
+        let told = ToldBlocks::none(files.alloc());
         FileDisk {
             files,
             opened: None,
@@ -56,6 +63,7 @@ impl<'a, R: Files<File = File> + AllocGlobal + Clock + Clone + Drop> FileDisk<'a
             trouble: None,
             watch: Watch::new(line),
             is_overwritten: false,
+            told,
         }
     }
 
@@ -124,6 +132,22 @@ impl<'a, R: Files<File = File> + AllocGlobal + Clock + Clone + Drop> FileDisk<'a
         Ok(())
     }
 
+    /// Reads the next window of what was told, where a read of this block reaches it.
+    fn read_ahead(&mut self, n: BlockNo)
+        ensures faults { self.new.faults ≡ self.old.faults }
+        ensures opened { self.new.opened ≡ self.old.opened }
+    {
+        if !self.told.is_reached(n) {
+            return;
+        }
+        let window = self.told.open_window();
+        if let Some(opened) = &self.opened {
+            if opened.read_window(&self.told, &window).is_err() {
+                self.told.forget();
+            }
+        }
+    }
+
     /// Counts a failure, and keeps why it came.
     fn fail(&mut self, call: DiskCall, cause: Cause) -> Fault
         ensures rose { Rose self.old.faults self.new.faults }
@@ -189,6 +213,7 @@ impl<R: Files<File = File> + AllocGlobal + Clock + Clone + Drop> BlockSource for
     }
 
     fn read(&mut self, n: BlockNo, into: &mut Block) -> Result<(), Fault> {
+        self.read_ahead(n);
         let done = match &self.opened {
             Some(file) => file.read(n, into).map_err(Cause::System),
             None => Err(Cause::Closed),
@@ -201,6 +226,10 @@ impl<R: Files<File = File> + AllocGlobal + Clock + Clone + Drop> BlockSource for
             }
             Err(cause) => Err(self.fail(DiskCall::Read(n), cause)),
         }
+    }
+
+    fn will_read(&mut self, told: Vec<BlockNo>) {
+        self.told = ToldBlocks::new(told);
     }
 }
 

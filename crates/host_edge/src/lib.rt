@@ -26,6 +26,7 @@ mod opened;
 mod signatures;
 mod std_sink;
 mod streams;
+mod told;
 mod trouble;
 
 pub use btrfs::is_of_a_volume;

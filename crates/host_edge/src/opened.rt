@@ -1,5 +1,6 @@
-ghost use Rattle.std.specs.Prelude.{◌≡◌, ◌≤◌, ◌<◌, ◌^◌, IfOk};
+ghost use Rattle.std.specs.Prelude.{◌≡◌, ◌≤◌, ◌<◌, ◌*◌, ◌^◌, length, IfOk};
 
+use crate::told::{BlockRun, RUN, ToldBlocks, Window};
 use crate::trouble::Cause;
 use outside::{Access, Block, BlockNo};
 use std::fs::File;
@@ -55,6 +56,40 @@ impl Opened {
                 Err(e) => return Err(e),
                 Ok(count) => at += count,
             }
+        }
+        Ok(())
+    }
+
+    /// Reads blocks that follow one another, for the system to keep them in memory.
+    pub fn read_run(&self, run: &BlockRun, room: &mut [u8]) -> io::Result<()>
+        requires inside { run.now.first < self.now.blocks }
+        requires room { 4096 * run.now.count ≤ length room.old }
+    {
+        match self
+            .file
+            .read_at(&mut room[..4096 * run.count], run.first * BLOCK_BYTES)
+        {
+            Ok(0) => Err(io::Error::from(ErrorKind::UnexpectedEof)),
+            Ok(_) => Ok(()),
+            Err(e) => Err(e),
+        }
+    }
+
+    /// Reads the blocks of a window, for the system to keep them in memory. Those that the file has not come last, and
+    /// are left out.
+    pub fn read_window(&self, told: &ToldBlocks, window: &Window) -> io::Result<()>
+        requires order { window.now.start ≤ window.now.end }
+        requires within { window.now.end ≤ length told.now.blocks.items }
+    {
+        let mut room = [0; RUN * 4096];
+        let mut at = window.start;
+        while at < window.end {
+            let run = told.run(at, window.end);
+            if run.first >= self.blocks {
+                return Ok(());
+            }
+            self.read_run(&run, &mut room)?;
+            at += run.count;
         }
         Ok(())
     }

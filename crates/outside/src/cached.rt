@@ -97,6 +97,10 @@ impl<D: Disk> BlockSource for Cached<'_, D> {
         let _ = self.room.blocks.put(n, *into);
         Ok(())
     }
+
+    fn will_read(&mut self, told: Vec<BlockNo>) {
+        self.disk.will_read(told);
+    }
 }
 
 impl<D: Disk> Disk for Cached<'_, D> {

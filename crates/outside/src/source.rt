@@ -36,6 +36,14 @@ pub trait BlockSource {
         ensures block { IsTrue tells → OnOk result (into.new.bytes ≡ block_at (blocks self.old) n) }
         ensures cause { HasCause (faults self.old) (faults self.new) result };
 
+    /// Says which blocks will be read next, in the order in which they will be. What was said before counts no more.
+    ///
+    /// It is a hint, by which a source may have them at hand sooner: it fails never, and no read gives another block or
+    /// another fault for it. The blocks need not be read, other ones may be, and a number may lie past the end.
+    fn will_read(&mut self, told: Vec<BlockNo>)
+        ensures kept { kept self.old self.new }
+        ensures faults { faults self.new ≡ faults self.old };
+
     ghost kept_refl: { (a : Self) → kept a a };
 
     ghost kept_trans: { (a b c : Self) → kept a b → kept b c → kept a c };

@@ -246,6 +246,15 @@ impl BlockSource for MemDisk {
         self.reads_made = self.reads_made.saturating_add(1);
         Ok(())
     }
+
+    /// Has nothing to do, since all of it lies in memory.
+    fn will_read(&mut self, told: Vec<BlockNo>)
+        ensures kept { Kept self.old self.new }
+        ensures faults { self.new.faults ≡ self.old.faults }
+        ensures same { self.new ≡ self.old }
+    {
+        let _ = told;
+    }
 }
 
 impl Disk for MemDisk {

@@ -26,6 +26,7 @@ pub fn content<S: BlockSource>(
     key: ObjectKey,
     known: &KnownObject,
     first: Option<&Row>,
+    mark: Option<[u8; 32]>,
 ) -> Result<Content, VolAnswer>
     ensures kept { S.kept src.old src.new }
     ensures cause { HasCauseOf VolAnswer.Fault (S.faults src.old) (S.faults src.new) result }
@@ -39,7 +40,7 @@ pub fn content<S: BlockSource>(
             let content = same_content(row)?;
             Ok(content)
         }
-        None => read_content(alloc, src, volume, key, known),
+        None => read_content(alloc, src, volume, key, known, mark),
     }
 }
 
@@ -50,6 +51,7 @@ fn read_content<S: BlockSource>(
     volume: &Volume,
     key: ObjectKey,
     known: &KnownObject,
+    mark: Option<[u8; 32]>,
 ) -> Result<Content, VolAnswer>
     ensures kept { S.kept src.old src.new }
     ensures cause { HasCauseOf VolAnswer.Fault (S.faults src.old) (S.faults src.new) result }
@@ -58,7 +60,7 @@ fn read_content<S: BlockSource>(
         MatchResult result (λ c. IsContent known.now.kind (bytes_at image (volume_items image) key known.now.stat known.now.kind) c.length c.mark c.target) IsFaultOrMemory) }
 {
     match known.kind {
-        Kind::File => file_content(alloc, src, volume, key, known),
+        Kind::File => file_content(alloc, src, volume, key, known, mark),
         Kind::Symlink => link_content(alloc, src, volume, key, known),
         Kind::Directory
         | Kind::Character
@@ -79,6 +81,7 @@ fn file_content<S: BlockSource>(
     volume: &Volume,
     key: ObjectKey,
     known: &KnownObject,
+    mark: Option<[u8; 32]>,
 ) -> Result<Content, VolAnswer>
     ensures kept { S.kept src.old src.new }
     ensures cause { HasCauseOf VolAnswer.Fault (S.faults src.old) (S.faults src.new) result }
@@ -87,7 +90,10 @@ fn file_content<S: BlockSource>(
         MatchResult result (λ c. IsContent File (bytes_at image (volume_items image) key known.now.stat File) c.length c.mark c.target) IsFaultOrMemory) }
 {
     let size = known.stat.fields.size;
-    let mark = file_mark(src, &volume.objects, key, size)?;
+    let mark = match mark {
+        Some(mark) => mark,
+        None => file_mark(src, &volume.objects, key, size)?,
+    };
     Ok(Content {
         length: size,
         mark,

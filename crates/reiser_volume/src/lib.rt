@@ -11,6 +11,7 @@ mod gather;
 mod inode_numbers;
 mod laws;
 mod links;
+mod marks;
 mod open;
 mod row;
 mod rows;

@@ -38,7 +38,8 @@ impl Volume {
             MatchResult result (λ rows. (whole : List WholeRow) × AreRowsOf image whole × (rows ≡ map row_of whole)) IsFaultOrMemory) }
     {
         let paths = paths_of(alloc, self)?;
-        rows_at(alloc, src, self, &paths)
+        let marks = self.marks(alloc, src)?;
+        rows_at(alloc, src, self, &paths, &marks)
     }
 }
 
@@ -48,6 +49,7 @@ fn rows_at<S: BlockSource>(
     src: &mut S,
     volume: &Volume,
     paths: &Vec<PathTo>,
+    marks: &Vec<Option<[u8; 32]>>,
 ) -> Result<Rows, VolAnswer>
     ensures kept { S.kept src.old src.new }
     ensures cause { HasCauseOf VolAnswer.Fault (S.faults src.old) (S.faults src.new) result }
@@ -57,7 +59,7 @@ fn rows_at<S: BlockSource>(
 {
     let mut rows = Rows::new(alloc);
     for i in 0..paths.len() {
-        let row = row_at(alloc, src, volume, &paths[i], &rows)?;
+        let row = row_at(alloc, src, volume, &paths[i], &rows, marks)?;
         rows.add(row)?;
     }
     Ok(rows)
@@ -70,6 +72,7 @@ fn row_at<S: BlockSource>(
     volume: &Volume,
     path: &PathTo,
     rows: &Rows,
+    marks: &Vec<Option<[u8; 32]>>,
 ) -> Result<Row, VolAnswer>
     ensures kept { S.kept src.old src.new }
     ensures cause { HasCauseOf VolAnswer.Fault (S.faults src.old) (S.faults src.new) result }
@@ -81,9 +84,27 @@ fn row_at<S: BlockSource>(
     let key = key_at(path.target);
     let known = known(volume, key)?;
     let first = first_row(rows, path);
-    let content = content(alloc, src, volume, key, &known, first)?;
+    let content = content(
+        alloc,
+        src,
+        volume,
+        key,
+        &known,
+        first,
+        mark_at(volume, marks, key),
+    )?;
     let spot = spot(path, first)?;
     Ok(make_row(spot, volume.sup.flags, &known, content))
+}
+
+/// The mark of an object that is known already.
+fn mark_at(volume: &Volume, marks: &Vec<Option<[u8; 32]>>, key: ObjectKey) -> Option<[u8; 32]> {
+    let place = volume.index_of(key)?;
+    if place < marks.len() {
+        marks[place]
+    } else {
+        None
+    }
 }
 
 /// The row of the first path to the same object, if it is an earlier one.

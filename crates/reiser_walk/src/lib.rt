@@ -7,6 +7,7 @@
 #![tactic(auto)]
 
 mod advance;
+mod ahead;
 mod block_pointer;
 mod bodies;
 mod claim;
@@ -18,6 +19,7 @@ mod reiser_tree;
 mod stats;
 mod walker;
 
+pub use ahead::tell_leaves;
 pub use laws::{sound_trees_keep_rules, walks_are_first_parts};
 pub use reiser_bitmap::{BlockSource, CopyList, Fault, Memory};
 pub use reiser_items::{Block, BlockNo, ItemHead, ItemKind, u32_at};

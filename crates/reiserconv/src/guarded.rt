@@ -99,6 +99,10 @@ impl<D: Disk + Drop, G: Guard + Drop> BlockSource for GuardedDisk<D, G> {
         let done = self.disk.read(n, into);
         self.counted(done)
     }
+
+    fn will_read(&mut self, told: Vec<BlockNo>) {
+        self.disk.will_read(told);
+    }
 }
 
 impl<D: Disk + Drop, G: Guard + Drop> Disk for GuardedDisk<D, G> {

@@ -70,4 +70,13 @@ impl<S: BlockSource> BlockSource for ImageSource<'_, S> {
             }
         }
     }
+
+    /// Says it to the device, of the places that the blocks have there. What lies in a hole has none: its number there is
+    /// past the end of any device.
+    fn will_read(&mut self, mut told: Vec<BlockNo>) {
+        for i in 0..told.len() {
+            told[i] = self.map.place(told[i]).unwrap_or(BlockNo::MAX);
+        }
+        self.src.will_read(told);
+    }
 }

@@ -1,5 +1,5 @@
 use Rattle.reiser_volume_objects.proofs.Imports.{◌≡◌, List, length, IsTrue, false, ReiserItem, Walks, fuel, block_count, tree_at, HasNoted}
-use Rattle.reiser_volume_objects.proofs.table.Objects.read.Given as goal
+use Rattle.reiser_volume_objects.proofs.table.Objects.walk.Given as goal
 
 abbrev pub invariant-loop-objects : goal.invariant-loop-objects
 invariant-loop-objects g l = record {

@@ -1,6 +1,6 @@
 use Rattle.btr_reader_walk.proofs.Imports.{◌≡◌, [], ◌∷◌, ◌++◌, sym, ◌∙◌, ap, subst, refl, err_from_is_err_and, Image, Tree, TreeItem, Blames, IsAmong, found, wrong}
 use Rattle.btr_reader_walk.proofs.Walking.{blames_among}
-use Rattle.btr_reader_walk.proofs.note.note_items.Goals as goal
+use Rattle.btr_reader_walk.proofs.note.walk_items.Goals as goal
 
 pub loop-walker-init : goal.loop-walker-init
 loop-walker-init g c = record {

@@ -1,5 +1,5 @@
 use Rattle.btr_reader_walk.proofs.Imports.{◌≡◌, List, false, IsTrue, TreeItem, Walks, fuel}
-use Rattle.btr_reader_walk.proofs.note.note_items.Given as goal
+use Rattle.btr_reader_walk.proofs.note.walk_items.Given as goal
 
 abbrev pub invariant-loop-walker : goal.invariant-loop-walker
 invariant-loop-walker g l = record {

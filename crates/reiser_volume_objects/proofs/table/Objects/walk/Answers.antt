@@ -1,7 +1,7 @@
 use Rattle.reiser_volume_objects.proofs.Imports.{◌≡◌, ◌++◌, ◌∷◌, [], List, length, sym, ap, subst, ◌∙◌, arith, err_from_is_err_and, Image, VolAnswer, ReiserTree, ReiserItem, tree_damages, standing, tree_at, BlamesTree, HasNoted}
 use Rattle.reiser_walk.specs.Tree.{items_of_tree}
 use Rattle.reiser_volume_objects.proofs.Reading.{noted_next, blames_tree}
-use Rattle.reiser_volume_objects.proofs.table.Objects.read.Goals as goal
+use Rattle.reiser_volume_objects.proofs.table.Objects.walk.Goals as goal
 
 pub returns-in_err-advance-clause-kept : goal.returns-in_err-advance-clause-kept
 returns-in_err-advance-clause-kept g c = g.met.S.BlockSource.kept_trans _ _ _ c.loop-objects.invariant.kept c.advance.ensures.kept
