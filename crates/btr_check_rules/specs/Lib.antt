@@ -1,3 +1,4 @@
+pub mod Extents
 pub mod Files
 pub mod Groups
 pub mod Inodes
@@ -5,6 +6,8 @@ pub mod Names
 pub mod Places
 pub mod Recount
 pub mod References
+pub mod RootFiles
 pub mod Sound
 pub mod Sums
 pub mod Trees
+pub mod Walk

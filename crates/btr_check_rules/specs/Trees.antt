@@ -1,19 +1,121 @@
--- Part 1: every tree is there, and its root item and its nodes keep the rules of Linux.
-use Rattle.std.specs.Prelude.{◌≡◌, ◌≢◌, ◌⊎◌, ◌≤◌, ◌<◌, ℕ, ◌%◌, ◌==◌, Some, true, List, [], ◌∷◌, All, AllPairs, Contains}
-use Rattle.std.specs.List.{list_any}
-use Rattle.btrfs_format.specs.declared.flag.TheConstants.{ROOT_SUBVOL_RDONLY}
-use Rattle.btrfs_format.specs.declared.key.TheConstants.{ROOT_ITEM}
+-- Part 1: every tree is there, and its root item, its nodes and the superblock keep the rules of Linux. It fails at a
+-- node, at the number of a tree where that has none, or at the address of the superblock.
+use Rattle.std.specs.Prelude.{◌≡◌, ◌≢◌, ◌⊎◌, ◌≤◌, ◌<◌, ◌↔◌, ℕ, zero, suc, ◌+◌, ◌-◌, ◌*◌, ◌%◌, ◌==◌, ◌&&◌, ◌||◌, Bool, true, false, if◌then◌else◌, Option, Some, None, List, [], ◌∷◌, filter, length, map, replicate, All, AllPairs, Contains}
+use Rattle.std.specs.List.{flat_map, list_any}
+use Rattle.btrfs_format.specs.declared.block.TheConstants.{SUPER_INFO_OFFSET}
+use Rattle.btrfs_format.specs.declared.flag.TheConstants.{BLOCK_GROUP_DUP, HEADER_FLAG_WRITTEN, MIXED_BACKREF_REV, ROOT_SUBVOL_RDONLY}
+use Rattle.btrfs_format.specs.declared.key.TheConstants.{BLOCK_GROUP_ITEM, CHUNK_ITEM, DEV_EXTENT, DEV_ITEM, EXTENT_CSUM, EXTENT_ITEM, METADATA_ITEM, ROOT_BACKREF, ROOT_ITEM, ROOT_REF}
 use Rattle.btrfs_format.specs.declared.object.TheConstants.{CHUNK_TREE, CSUM_TREE, DATA_RELOC_TREE, DEV_TREE, EXTENT_TREE, FIRST_FREE_OBJECTID, FS_TREE, ROOT_TREE, TREE_RELOC}
+use Rattle.btrfs_format.specs.declared.size.TheConstants.{HEADER_SIZE, SYSTEM_CHUNK_SIZE}
 use Rattle.btr_reader.specs.outside.History.{Image}
-use Rattle.btr_reader.specs.btr_node.Leaf.{Item}
-use Rattle.btr_reader.specs.btr_reader_names.Roots.{has_root}
-use Rattle.btr_reader.specs.Chunks.{system_kind}
-use Rattle.btr_reader.specs.Opening.{IsBtrfsOpened, chunk_tree, root_tree, chunk_map, boot_chunks, boot_list}
+use Rattle.btr_reader.specs.refusals.declared.refusal.BtrRefusal.{BtrRefusal}
+use Rattle.btr_reader.specs.refusals.declared.refusal.BtrRefusal.TheVariants.{BadBtrfs, LogPending, Unsupported}
+use Rattle.btr_reader.specs.btr_keys.declared.key.Key.{Key}
+use Rattle.btr_reader.specs.btr_node.Head.{head_in, nritems}
+use Rattle.btr_reader.specs.btr_node.Inner.{children_in, first_keys}
+use Rattle.btr_reader.specs.btr_node.Leaf.{Item, heads_in, items_in, keys_of}
+use Rattle.btr_reader.specs.btr_node.declared.child.Child.{Child}
+use Rattle.btr_reader.specs.btr_node.declared.head.Head.{Head}
+use Rattle.btr_reader.specs.btr_node.declared.item.BtrItemHead.{BtrItemHead}
+use Rattle.btr_reader.specs.Chunks.{is_chunk_key, placed_chunk, system_kind}
+use Rattle.btr_reader.specs.Opening.{boot_chunks, boot_list, chunk_map, form_of}
 use Rattle.btr_reader.specs.btr_space_items.RootItem.{root_item_of}
 use Rattle.btr_reader.specs.btr_space_items.declared.root_item.RootItem.{RootItem}
 use Rattle.btr_reader.specs.btr_super.declared.superblock.Super.{Super}
+use Rattle.btr_reader.specs.btr_reader_walk.declared.tree.NodePointer.{NodePointer}
 use Rattle.btr_reader.specs.declared.chunk.ChunkAt.{ChunkAt}
-use Rattle.btr_check_rules.specs.Recount.{Recount, IsTreeOn, IsRooted, root_items_on, chunks_on, holds_files, is_subvolume, of_kind, all_trees}
+use Rattle.btr_check_rules.specs.Recount.{Recount, TreeOn, EachAt, PairsAt, all_trees, file_trees, has_tree, holds_files, node_bytes, object_of, of_kind}
+use Rattle.btr_check_rules.specs.RootFiles.{AreRootFiles}
+use Rattle.btr_check_rules.specs.Walk.{is_subvolume, shared_faults}
+
+-- ---- nodes
+
+-- where something is wrong
+abbrev pub refused_at : BtrRefusal → ℕ
+refused_at (BadBtrfs address rule) = address
+refused_at (LogPending address) = address
+refused_at (Unsupported feature value) = SUPER_INFO_OFFSET
+
+-- what is wrong with the nodes of a tree and with the order of its keys
+abbrev pub tree_faults : Image → Recount → TreeOn → List BtrRefusal
+tree_faults image r t = shared_faults image (chunk_map image r.super) (form_of r.super) t.number t.root
+
+-- a node that a balance made has one flag more (BTRFS_HEADER_FLAG_RELOC)
+abbrev pub RELOCATED : ℕ
+RELOCATED = 2
+
+abbrev pub is_relocated : Head → Bool
+is_relocated h = list_any (λ b. b == HEADER_FLAG_WRITTEN + RELOCATED) h.flags
+
+-- A node was written, and has the references of today's form (check_leaf and btrfs_check_node from Linux 6.7 on;
+-- `btrfs check`).
+pub record IsWritten (h : Head) : Type 0 where
+  pub flags : (h.flags ≡ (HEADER_FLAG_WRITTEN ∷ replicate 6 0)) ⊎ (h.flags ≡ ((HEADER_FLAG_WRITTEN + RELOCATED) ∷ replicate 6 0))
+  pub revision : h.revision ≡ MIXED_BACKREF_REV
+
+-- The data of the first item ends where this says, and that of each other one where the one before begins (check_leaf).
+abbrev pub is_packed : ℕ → List BtrItemHead → Bool
+is_packed end [] = true
+is_packed end (h ∷ heads) = (h.offset + h.size == end) && is_packed h.offset heads
+
+-- the trees whose root is never empty (check_leaf)
+abbrev pub never_empty : List ℕ
+never_empty = ROOT_TREE ∷ (EXTENT_TREE ∷ (CHUNK_TREE ∷ (DEV_TREE ∷ (FS_TREE ∷ (DATA_RELOC_TREE ∷ [])))))
+
+-- what Linux asks of a node's bytes, beside what every reader of trees does; no node is newer than the superblock
+-- (`btrfs check`)
+pub record KeepsNode (s : Super) (p : NodePointer) (bytes : List ℕ) : Type 0 where
+  pub written : IsWritten (head_in bytes)
+  pub generation : p.generation ≤ s.generation
+  pub packed : p.level ≡ 0 → is_packed (s.nodesize - HEADER_SIZE) (heads_in bytes) ≡ true
+  pub some : nritems bytes ≡ 0 → list_any (λ number. number == (head_in bytes).owner) never_empty ≡ false
+
+abbrev pub first_of : List Key → Option Key
+first_of [] = None
+first_of (key ∷ keys) = Some key
+
+-- the first key of a node of this level
+abbrev pub first_key : ℕ → List ℕ → Option Key
+first_key zero bytes = first_of (keys_of (items_in bytes))
+first_key (suc level) bytes = first_of (first_keys (children_in bytes))
+
+-- what stands in a node's parent: the child's first key (btrfs_verify_level_key; "Wrong key of child" of `btrfs check`)
+abbrev pub KeepsChildren : Image → Recount → ℕ → NodePointer → Type 0
+KeepsChildren image r a p =
+    (level : ℕ) → p.level ≡ suc level → EachAt (λ (c : Child). c.address) a (λ c. first_key level (node_bytes image r c.address) ≡ Some c.key) (children_in (node_bytes image r p.address))
+
+pub record KeepsNodes (image : Image) (r : Recount) (t : TreeOn) (a : ℕ) : Type 0 where
+  pub sound : All (λ fault. refused_at fault ≢ a) (tree_faults image r t)
+  pub each : EachAt (λ p. p.address) a (λ p. KeepsNode r.super p (node_bytes image r p.address)) t.nodes
+  pub children : All (KeepsChildren image r a) t.nodes
+
+-- ---- the superblock
+
+-- Its fields beside those that every reader looks at (btrfs_validate_super).
+pub record KeepsSuper (s : Super) : Type 0 where
+  pub flags : s.flags < 4
+  pub roots : (s.root % 4096 ≡ 0) × (s.chunk_root % 4096 ≡ 0)
+  pub sizes : (s.leafsize ≡ s.nodesize) × (s.stripesize ≡ 4096)
+  pub array : SYSTEM_CHUNK_SIZE ≤ s.sys_chunk_array_size
+  pub some : s.total_bytes ≢ 0
+  pub generation : s.chunk_root_generation ≤ s.generation
+
+abbrev pub is_system : ChunkAt → Bool
+is_system c = (c.chunk.kind == system_kind) || (c.chunk.kind == system_kind + BLOCK_GROUP_DUP)
+
+abbrev pub chunk_by : Option ChunkAt → List ChunkAt
+chunk_by None = []
+chunk_by (Some c) = c ∷ []
+
+-- the system chunks of the chunk tree
+abbrev pub system_chunks : List Item → List ChunkAt
+system_chunks items = filter is_system (flat_map (λ i. chunk_by (placed_chunk i.0.offset i.1)) (filter (λ i. is_chunk_key i.0) items))
+
+-- The bootstrap array has the system chunks as the chunk tree has them, and no others (btrfs_read_sys_array).
+abbrev pub IsArray : Recount → Type 0
+IsArray r = (c : ChunkAt) → Contains (boot_list (boot_chunks r.super)) c ↔ Contains (system_chunks r.chunk_tree.items) c
+
+-- ---- trees
 
 -- the trees without which Linux mounts no volume (btrfs_read_roots)
 abbrev pub needed_trees : List ℕ
@@ -33,25 +135,41 @@ pub record IsRootItem (s : Super) (i : Item) : Type 0 where
   pub place : (i.0.offset ≡ 0) ⊎ (is_subvolume i.0.objectid ≡ true)
   pub files : holds_files i.0.objectid ≡ true → (root.refs ≡ 1) × (root.root_dirid ≡ FIRST_FREE_OBJECTID)
 
-pub record KeepTreeRules (r : Recount) : Type 0 where
-  pub needed : All (λ number. list_any (λ t. t.number == number) r.others ≡ true) needed_trees
-  pub root_items : All (IsRootItem r.super) (of_kind ROOT_ITEM r.root_tree.items)
-  -- a tree has one root item
-  pub root_once : AllPairs (λ i j. i.0.objectid ≢ j.0.objectid) (of_kind ROOT_ITEM r.root_tree.items)
-  -- no node is newer than the superblock (`btrfs check`)
-  pub generations : All (λ t. All (λ p. p.generation ≤ r.super.generation) t.nodes) (all_trees r)
+-- an item stands in the only tree that has such items (check_type_with_root of `btrfs check`)
+abbrev pub only_in : ℕ → List (ℕ × ℕ) → ℕ → Bool
+only_in kind [] number = true
+only_in kind (rule ∷ rules) number = if kind == rule.0 then number == rule.1 else only_in kind rules number
 
--- The chunk tree, the root tree and each tree with a root item have their items, and the bootstrap array holds the system
--- chunks.
-pub record AreTrees (image : Image) (r : Recount) : Type 0 where
-  pub opened : IsBtrfsOpened image r.super (chunk_map image r.super)
-  pub chunk_number : r.chunk_tree.number ≡ CHUNK_TREE
-  pub chunk_tree_is : IsTreeOn image r.super (chunk_tree r.super).root r.chunk_tree
-  pub root_number : r.root_tree.number ≡ ROOT_TREE
-  pub root_tree_is : IsTreeOn image r.super (root_tree r.super).root r.root_tree
-  pub rooted : All (IsRooted image r.super) r.others
-  pub once : AllPairs (λ t u. t.number < u.number) r.others
-  pub each : (number : ℕ) → list_any (λ t. t.number == number) r.others ≡ has_root (root_items_on image r.super) number
-  pub chunks_are : r.chunks ≡ chunks_on (boot_list (boot_chunks r.super)) r.chunk_tree.items
-  pub boot : (c : ChunkAt) → Contains r.chunks c → c.chunk.kind ≡ system_kind → Contains (boot_list (boot_chunks r.super)) c
-  pub rules : KeepTreeRules r
+abbrev pub own_kinds : List (ℕ × ℕ)
+own_kinds =
+    (CHUNK_ITEM, CHUNK_TREE)
+    ∷ ((DEV_ITEM, CHUNK_TREE)
+    ∷ ((EXTENT_ITEM, EXTENT_TREE)
+    ∷ ((METADATA_ITEM, EXTENT_TREE)
+    ∷ ((BLOCK_GROUP_ITEM, EXTENT_TREE)
+    ∷ ((ROOT_ITEM, ROOT_TREE)
+    ∷ ((DEV_EXTENT, DEV_TREE)
+    ∷ ((EXTENT_CSUM, CSUM_TREE) ∷ [])))))))
+
+-- A reference between two trees is told by a tree of files that is there (check_root_refs of `btrfs check`): a root ref by the tree
+-- that it stands under, a root backref by the one that it names.
+abbrev pub is_root_ref : Item → Bool
+is_root_ref i = (i.0.kind == ROOT_REF) || (i.0.kind == ROOT_BACKREF)
+
+abbrev pub referring : Item → ℕ
+referring i = if i.0.kind == ROOT_REF then i.0.objectid else i.0.offset
+
+-- ---- the part
+
+-- What part 1 asks at an address or at a number.
+pub record KeepsTrees (image : Image) (r : Recount) (a : ℕ) : Type 0 where
+  pub nodes : All (λ t. KeepsNodes image r t a) (all_trees r)
+  pub needed : All (λ number. number ≡ a → has_tree r number ≡ true) needed_trees
+  pub root_items : EachAt object_of a (IsRootItem r.super) (of_kind ROOT_ITEM r.root_tree.items)
+  -- a tree has one root item
+  pub root_once : PairsAt object_of a (λ i j. i.0.objectid ≢ j.0.objectid) (of_kind ROOT_ITEM r.root_tree.items)
+  pub root_refs : EachAt referring a (λ i. list_any (λ t. t.number == referring i) (file_trees r) ≡ true) (filter is_root_ref r.root_tree.items)
+  pub kinds : EachAt (λ (t : TreeOn). t.number) a (λ t. All (λ i. only_in i.0.kind own_kinds t.number ≡ true) t.items) (all_trees r)
+  pub root_files : a ≡ ROOT_TREE → AreRootFiles r
+  pub super : a ≡ SUPER_INFO_OFFSET → KeepsSuper r.super
+  pub array : a ≡ SUPER_INFO_OFFSET → IsArray r

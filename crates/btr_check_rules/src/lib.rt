@@ -1,2 +1,6 @@
 //! What a sound Btrfs volume is: its trees, names, references, extents, checksums, block groups, stripes and totals agree.
 #![tactic(auto)]
+
+mod span;
+
+pub use span::Span;

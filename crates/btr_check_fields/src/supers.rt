@@ -1,0 +1,20 @@
+// The fields of the superblock that only Linux looks at.
+ghost use Rattle.std.specs.Prelude.{◌≡◌};
+ghost use Rattle.btr_check_fields.specs.Supers.{keeps_super};
+
+use btr_super::Super;
+
+/// Whether Linux takes the superblock: its flags, the places of roots, its sizes, and that neither its array nor the volume
+/// is empty.
+pub fn keeps_super(sup: &Super) -> bool
+    ensures { result ≡ keeps_super sup.now }
+{
+    sup.flags < 4
+        && sup.root % 4096 == 0
+        && sup.chunk_root % 4096 == 0
+        && sup.leafsize == sup.nodesize
+        && sup.stripesize == 4096
+        && sup.sys_chunk_array_size >= 97
+        && sup.total_bytes != 0
+        && sup.chunk_root_generation <= sup.generation
+}

@@ -1,0 +1,1 @@
+-- The tests of inodes tell what is asked of them.
