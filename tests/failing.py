@@ -17,25 +17,25 @@ turn (with all after it, as where a disk is gone), and each write of the output 
   calls some are taken.
 
 The program is that of the environment's RECONV, or else crates/reiserconv/out/reiserconv, as `rt ci` builds it: into the one in release/, which is
-made of it, no library can be loaded. It needs a C compiler and the sample program of release/. The last line is `N passed, M failed`; each failure
-has a line."""
+made of it, no library can be loaded. It needs a C compiler and the sample program of release/. Where there is no such program, one line says that it is
+skipped. The last line is `N passed, M failed`; each failure has a line."""
 
 import argparse
 import collections
 import concurrent.futures
 import itertools
 import os
-import shutil
 import subprocess
 import sys
 import tempfile
 from pathlib import Path
 
+sys.dont_write_bytecode = True
 sys.path.insert(0, str(Path(__file__).resolve().parent / "failing"))
+from loaded import PROGRAM, begin, library  # noqa: E402
 from volumes import BLOCK, SUPERBLOCK, empty_volume, marked  # noqa: E402
 
 TOP = Path(__file__).resolve().parent.parent
-PROGRAM = os.environ.get("RECONV", str(TOP / "crates/reiserconv/out/reiserconv"))
 Ended = collections.namedtuple("Ended", "status out err counts")
 # Its words but the path, and what the volume is before, None for a new file.
 Command = collections.namedtuple("Command", "word base")
@@ -250,11 +250,10 @@ def main():
     parser.add_argument("--jobs", type=int, default=os.cpu_count())
     parser.add_argument("--sample", type=int, default=100)
     given = parser.parse_args()
+    begin("failing calls")
     passed, failed = 0, 0
     with tempfile.TemporaryDirectory() as folder, concurrent.futures.ProcessPoolExecutor(given.jobs) as pool:
-        shim = f"{folder}/refuse.so"
-        compiler = shutil.which("cc") or shutil.which("gcc") or sys.exit("there is no C compiler")
-        subprocess.run([compiler, "-shared", "-fPIC", "-O1", "-o", shim, TOP / "tests/failing/refuse.c", "-ldl"], check=True)
+        shim = library(folder)
         for command, rows, used, with_calls in tasks(shim, folder, given.sample):
             parts = [(shim, command, rows, used, with_calls, first, given.jobs) for first in range(given.jobs)]
             sums = [0, 0]

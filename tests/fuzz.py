@@ -13,7 +13,7 @@ converted volume back. Each run that ends otherwise has a line with its seed, an
 
 makes one run, tells in words what it changes, and keeps the changed volume.
 
-The program is that of the environment's RECONV, or else crates/reiserconv/out/reiserconv."""
+The program is that of the environment's RECONV, or else crates/reiserconv/out/reiserconv, or where that is not there the one in release/."""
 
 import argparse
 import collections
@@ -97,12 +97,18 @@ def all_seeds(bases, runs, given):
     return failed
 
 
+def built():
+    """The program that was built here, or else the one in release/."""
+    here = TOP / "crates/reiserconv/out/reiserconv"
+    return here if here.exists() else TOP / "release/reiserconv"
+
+
 def main():
     given = words()
     if given.seed is not None:
         given.first, given.count = given.seed, 1
     with tempfile.TemporaryDirectory(dir="/dev/shm" if os.access("/dev/shm", os.W_OK) else None) as work:
-        program = Program(os.environ.get("RECONV", TOP / "crates/reiserconv/out/reiserconv"), work, given.slow)
+        program = Program(os.environ.get("RECONV", built()), work, given.slow)
         bases = Bases(program, work, TOP)
         return all_seeds(bases, Runs(program, given.check), given) > 0
 

@@ -11,22 +11,23 @@ Behind each, `recover` is done and says which format there is; where it is done 
 16 is that of the format, in all its bytes; a Btrfs volume is rolled back; and then each used block is as it was. The same holds where the power is
 cut again at each moment of `recover`.
 
-The program is that of the environment's RECONV, or else crates/reiserconv/out/reiserconv, as `rt ci` builds it, and it takes a C compiler. The last
-line is `N passed, M failed`; each failure has a line."""
+The program is that of the environment's RECONV, or else crates/reiserconv/out/reiserconv, as `rt ci` builds it, and it takes a C compiler. Where there is
+no such program, one line says that it is skipped. The last line is `N passed, M failed`; each failure has a line."""
 
 import argparse
 import concurrent.futures
 import os
 import random
-import shutil
 import struct
 import subprocess
 import sys
 import tempfile
 from pathlib import Path
 
-TOP = Path(__file__).resolve().parent.parent
-PROGRAM = os.environ.get("RECONV", str(TOP / "crates/reiserconv/out/reiserconv"))
+sys.dont_write_bytecode = True
+
+from loaded import PROGRAM, begin, library  # noqa: E402
+
 BLOCK, SECTOR = 4096, 512
 # So many calls at the end of a command are all moments, and so many of the others.
 LAST, SOME = 12, 24
@@ -197,11 +198,10 @@ def main():
     parser.add_argument("--seeds", type=int, default=6)
     parser.add_argument("volumes", nargs="+")
     given = parser.parse_args()
+    begin("torn writes")
     passed, failed = 0, 0
     with tempfile.TemporaryDirectory() as folder, concurrent.futures.ProcessPoolExecutor(given.jobs) as pool:
-        shim = f"{folder}/refuse.so"
-        compiler = shutil.which("cc") or shutil.which("gcc") or sys.exit("there is no C compiler")
-        subprocess.run([compiler, "-shared", "-fPIC", "-O1", "-o", shim, TOP / "tests/failing/refuse.c", "-ldl"], check=True)
+        shim = library(folder)
         for volume in given.volumes:
             for name, old, base, superblock, calls in commands(shim, folder, volume):
                 chosen = list(moments(len(calls), given.seeds))

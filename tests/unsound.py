@@ -5,7 +5,8 @@ is broken that was meant, or that the volume is still sound where nothing that m
     unsound.py [--check] [--only NAME] [--keep FOLDER] VOLUME..
 
 Each change is made of the first of the volumes that has what it needs: room for an item, a free space tree, metadata
-that is there twice.
+that is there twice. They come in an order of their own, whatever their order here: those without a free space tree, and
+those with nodes of 16 KiB first.
 
 With --check `btrfs check` judges each volume too. It has to find nothing where the volume is sound; what it says of
 the others is told. --keep leaves the changed volumes in a folder. Each changed volume has a line of its name, the
@@ -25,7 +26,7 @@ from sound import changed_extents, changed_files, changed_free, changed_space, c
 from sound.changes import CHANGES  # noqa: E402
 from sound.editor import Base, Edit  # noqa: E402
 from sound.judge import judge  # noqa: E402
-from sound.volume import Unsupported  # noqa: E402
+from sound.volume import FREE_SPACE_TREE, Unsupported  # noqa: E402
 
 
 def patched(path, patches):
@@ -74,6 +75,11 @@ class Source:
         if found:
             sys.exit(f"the volume {volume} is not sound: {' '.join(found)}")
 
+    def place(self):
+        """Where it stands among others."""
+        told = self.base.volume.super
+        return bool(told.compat_ro & FREE_SPACE_TREE), abs(told.nodesize - 16384)
+
     def patches(self, function):
         """What a change puts where, or nothing where it can't be made of this volume."""
         edit = Edit(self.base)
@@ -108,8 +114,14 @@ def main():
     words.add_argument("--keep", type=Path)
     words.add_argument("volumes", nargs="+")
     asked = words.parse_args()
+    for volume in asked.volumes:
+        if not Path(volume).exists():
+            words.error(f"there is no volume {volume}; `reiserconv convert` makes one of a copy of samples/tiny.img")
+    if asked.check and not shutil.which("btrfs"):
+        words.error("there is no program btrfs, of Debian's package btrfs-progs, which --check takes")
     with tempfile.TemporaryDirectory() as folder:
         sources = [Source(volume, f"{folder}/volume{i}") for i, volume in enumerate(asked.volumes)]
+        sources.sort(key=Source.place)
         done = [one(*it, sources, asked) for it in CHANGES if not asked.only or it[0] in asked.only.split(",")]
     print(f"{done.count(True)} passed, {done.count(False)} failed, {done.count(None)} skipped")
     return 1 if False in done or True not in done else 0

@@ -112,7 +112,7 @@ told_btrfs_refusals() {
     mkfs.btrfs -q -f -m single -d single plain >/dev/null 2>&1
     tells 'a Btrfs volume to convert' 1 'refused 16 format' "It is a Btrfs volume already. 'convert' turns a ReiserFS volume into Btrfs. If you have converted it before, that is done. $nothing Nothing." convert plain
     tells 'a ReiserFS volume to roll back' 1 'refused 16 format' "It is a ReiserFS volume already. 'rollback' turns a volume that was converted to Btrfs back into ReiserFS. If you have rolled it back before, that is done. $nothing Nothing. 'reiserfsck --check --yes good' has to say 'No corruptions found'." rollback good
-    unasked 'a volume that was never converted' 1 'refused 17 noimage' "nothing to go back to. $nothing If you have" plain
+    unasked 'a volume that was never converted' 1 'refused 17 noimage' "or this volume was never converted. $nothing If you have" plain
     told_second_device
     cp --sparse=always plain changed
     put changed $((super + 300)) 'A'
@@ -229,6 +229,7 @@ told_permissions() {
 # what is wrong with words that are no command
 told_words() {
     local words text
+    mkdir -p folder
     tells 'no words' 2 "$usage" "The command is missing: inspect, list, convert, recover, rollback or trial. What to do: 'reiserconv --help' has"
     while IFS='|' read -r words text; do
         # shellcheck disable=SC2086
@@ -271,6 +272,9 @@ convert -- x|A path that begins with a dash is written with './' before it.
 trial scratch|'scratch' is no number of files: the number stands before the path, for example 'reiserconv trial 1000 scratch'.
 trial abc scratch|'abc' is no number of files, from 0 to 4000: for example 'reiserconv trial 1000 scratch'.
 trial scratch 7|'scratch' is no number of files: the number stands before the path, so 'reiserconv trial 7 scratch'.
+trial folder 7|'folder' is no number of files: the number stands before the path, and the path is that of a file, not of a folder, so 'reiserconv trial 7 folder/scratch.img'.
+trial folder|for example 'reiserconv trial 1000 folder/scratch.img'.
+trial abc folder|'folder' is a folder: for example 'reiserconv trial 1000 folder/scratch.img'.
 trial 4001 scratch|'4001' is no number of files: it goes from 0 to 4000
 trial 007 scratch|'007' is no number of files: it goes from 0 to 4000, without zeros or a sign before it.
 trial 7|The path is missing behind the number
@@ -290,23 +294,33 @@ told_odd_words() {
 
 # whether the space suffices, and that what is told to help does help
 verdicts() {
+    local kind name
+    while read -r kind name; do
+        makes 12288 7 12288
+        run convert --csum "$kind" made
+        on_terminal inspect made
+        same "a Btrfs volume with checksums by $kind" '0|yes' "$status|$(has "made is a Btrfs volume, whose checksums are $name.")"
+    done <<'KINDS'
+crc32c CRC-32C
+sha256 SHA-256
+KINDS
     makes 9216 0 9216
     on_terminal inspect made
     same 'the space does not suffice' '0|yes|yes' "$status|$(
         has "It can't be converted as it is: 4 units of 1 MiB are needed, and 3 are free as a whole, which is 1 too few. What to do: Mount it in Linux 6.12 or earlier, which has ReiserFS, and remove large files or move them away, until 1 MiB more is free as a whole, better 17, since")|$(
-        has "Or make the partition larger by 17 MiB or more, and then the volume ('resize_reiserfs -f made'). Or take nodes of 4096 bytes, which need 3 units, so that 0 MiB are to spare: 'reiserconv convert --nodesize 4096 made'. Linux takes")"
+        has "Or make the partition larger by 17 MiB or more, and then the volume ('resize_reiserfs -f made'). Or take nodes of 4096 bytes, which need 3 units, so that none is to spare: 'reiserconv convert --nodesize 4096 made'. Linux takes")"
     on_terminal inspect --no-inline --nodesize 8192 made
     same 'a size of nodes with which it does suffice' '0|yes' "$status|$(
-        has "Or take nodes of 4096 bytes, which need 3 units, so that 0 MiB are to spare: 'reiserconv convert --nodesize 4096 --no-inline made'.")"
+        has "Or take nodes of 4096 bytes, which need 3 units, so that none is to spare: 'reiserconv convert --nodesize 4096 --no-inline made'.")"
     on_terminal inspect --nodesize 4096 made
-    same 'no other size is looked at where the space suffices' '0|yes' "$status|$(has "It can be converted: 3 units of 1 MiB are needed, 3 are free as a whole, and so 0 are to spare. This command does it: 'reiserconv convert --nodesize 4096 made'. Linux takes")"
+    same 'no other size is looked at where the space suffices' '0|yes' "$status|$(has "It can be converted: 3 units of 1 MiB are needed, 3 are free as a whole, and so none is to spare. This command does it: 'reiserconv convert --nodesize 4096 made'. Linux takes")"
     on_terminal inspect --no-datasum --csum crc32c --nodesize 4096 --verbose --no-inline made
     same 'the command that does it has all options' '0|yes' "$status|$(has "This command does it: 'reiserconv convert --no-datasum --csum crc32c --nodesize 4096 --no-inline made'.")"
     makes 28160 4000 28160
     on_terminal inspect --no-inline --csum crc32c made
     same 'an option that takes the units that are missing' '0|yes|yes' "$status|$(
-        has "Or take nodes of 4096 bytes, which need 20 units, so that 0 MiB are to spare: 'reiserconv convert --nodesize 4096 --no-inline --csum crc32c made'.")|$(
-        has "Or leave '--no-inline' out: then 19 units are needed, so that 1 MiB is to spare: 'reiserconv convert --csum crc32c made'. Linux takes")"
+        has "Or take nodes of 4096 bytes, which need 20 units, so that none is to spare: 'reiserconv convert --nodesize 4096 --no-inline --csum crc32c made'.")|$(
+        has "Or leave '--no-inline' out: then 19 units are needed, so that 1 is to spare: 'reiserconv convert --csum crc32c made'. Linux takes")"
     run convert --csum crc32c made
     same 'without it the volume is converted' '0||units 19' "$status|$err|$(tail -1 "$work/.out")"
     makes 27648 4000 27648

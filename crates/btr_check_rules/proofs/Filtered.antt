@@ -1,9 +1,6 @@
 -- What passes a test of two lists with the same elements is the same too, in some order.
-use Rattle.btr_check_rules.proofs.Imports.{ℕ, zero, suc, ◌<◌, Bool, true, false, cond, List, [], ◌∷◌, subst, length, get_or, filter, arith, set}
-use Rattle.std.specs.List.{swap}
+use Rattle.btr_check_rules.proofs.Imports.{ℕ, zero, suc, ◌<◌, Bool, true, false, cond, List, [], ◌∷◌, subst, length, get_or, filter, arith, set, swap, IsPermutation, IsPermutation-cons, IsPermutation-keeps, IsPermutation-middle, IsPermutation-refl, IsPermutation-trans}
 use Rattle.std.proofs.lemmas.List.Edits.{swap_is}
-use Rattle.std.specs.List.Sorted.{IsPermutation}
-use Rattle.std.proofs.lemmas.List.Sorted.{IsPermutation-cons, IsPermutation-keeps, IsPermutation-middle, IsPermutation-refl, IsPermutation-trans}
 
 module _ {X : Type 0} (p : X → Bool) where
   -- what passes, as a relation of two lists

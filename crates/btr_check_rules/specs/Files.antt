@@ -1,6 +1,6 @@
 -- Part 2 too: in each file tree file extents keep the rules of Linux.
 use Rattle.std.specs.Prelude.{◌≡◌, ◌≢◌, ◌↔◌, ◌≤◌, ◌<◌, ℕ, ◌+◌, ◌*◌, ◌/◌, ◌%◌, ◌^◌, true, false, length, Some, All, AllPairs, Any}
-use Rattle.btrfs_format.specs.declared.feature.TheConstants.{NO_HOLES}
+use Rattle.btr_reader_walk.specs.btrfs_format.declared.feature.TheConstants.{NO_HOLES}
 use Rattle.btr_reader.specs.fs_rows.Kinds.{has_bytes}
 use Rattle.btr_reader.specs.fs_rows.declared.row.Kind.{Kind}
 use Rattle.btr_reader.specs.btr_keys.FileExtent.{ContentValue, Inline, Regular, Prealloc, FileExtentValue, file_extent_of}

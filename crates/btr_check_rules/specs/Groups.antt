@@ -3,9 +3,9 @@
 use Rattle.std.specs.Option.{option_map_or}
 use Rattle.std.specs.Prelude.{◌≡◌, ◌≢◌, ◌⊎◌, ◌≤◌, ◌<◌, ◌↔◌, ℕ, ◌+◌, ◌*◌, ◌^◌, ◌%◌, true, List, [], ◌∷◌, filter, Option, Some, None, All, AllPairs, Contains, length, map}
 use Rattle.std.specs.List.{sum_by, flat_map}
-use Rattle.btrfs_format.specs.declared.block.TheConstants.{SUPER_INFO_OFFSET}
-use Rattle.btrfs_format.specs.declared.key.TheConstants.{BLOCK_GROUP_ITEM, DEV_EXTENT, DEV_ITEM}
-use Rattle.btrfs_format.specs.declared.object.TheConstants.{CHUNK_TREE, DEV_ITEMS_OBJECTID, DEV_TREE, EXTENT_TREE, FIRST_CHUNK_TREE_OBJECTID}
+use Rattle.btr_reader_walk.specs.btrfs_format.declared.block.TheConstants.{SUPER_INFO_OFFSET}
+use Rattle.btr_reader_walk.specs.btrfs_format.declared.key.TheConstants.{BLOCK_GROUP_ITEM, DEV_EXTENT, DEV_ITEM}
+use Rattle.btr_reader_walk.specs.btrfs_format.declared.object.TheConstants.{CHUNK_TREE, DEV_ITEMS_OBJECTID, DEV_TREE, EXTENT_TREE, FIRST_CHUNK_TREE_OBJECTID}
 use Rattle.btr_reader.specs.btr_node.Leaf.{Item}
 use Rattle.btr_reader.specs.btr_space_items.BlockGroup.{block_group_of}
 use Rattle.btr_reader.specs.btr_space_items.DevExtent.{dev_extent_of}
@@ -17,7 +17,8 @@ use Rattle.btr_reader.specs.btr_super.declared.superblock.Super.{Super}
 use Rattle.btr_reader.specs.Chunks.{is_chunk_key}
 use Rattle.btr_reader.specs.Opening.{form_of}
 use Rattle.btr_reader.specs.declared.chunk.ChunkAt.{ChunkAt}
-use Rattle.btr_check_rules.specs.Recount.{Recount, DataUse, EachAt, PairsAt, Span, all_trees, data_uses, is_within, object_of, of_kind, recounted_items, span_of}
+use Rattle.btr_check_rules.specs.Recount.{Recount, DataUse, EachAt, PairsAt, data_uses, is_within, nodes_met, object_of, of_kind, recounted_items, span_of}
+use Rattle.btr_check_rules.specs.declared.span.Span.{Span}
 
 -- ---- block groups
 
@@ -30,9 +31,9 @@ AreRanges r spans =
     AllPairs (λ a b. a ≡ b → ⊥) spans
     × ((s : Span) → Contains spans s ↔ ((u : DataUse) × Contains (data_uses r) u × (s ≡ span_of u)))
 
--- the bytes of the extents that begin in a range
+-- the bytes of the extents that begin in a range; a node that trees share counts once
 abbrev pub node_bytes_in : Recount → Span → ℕ
-node_bytes_in r span = sum_by (λ p. r.super.nodesize) (filter (λ p. is_within span p.address) (flat_map (λ t. t.nodes) (all_trees r)))
+node_bytes_in r span = sum_by (λ n. r.super.nodesize) (filter (is_within span) (nodes_met r))
 
 abbrev pub data_bytes_in : List Span → Span → ℕ
 data_bytes_in spans span = sum_by (λ s. s.length) (filter (λ s. is_within span s.start) spans)

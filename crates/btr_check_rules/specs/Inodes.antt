@@ -1,9 +1,9 @@
 -- Part 2 too: in each file tree inodes and what names them keep the rules of Linux.
 use Rattle.std.specs.Prelude.{◌≡◌, ◌≢◌, ◌≤◌, ◌<◌, ℕ, ◌+◌, ◌-◌, ◌*◌, ◌%◌, ◌^◌, ◌==◌, Bool, true, false, bit_and, List, filter, length, IsTrue, is_some, Option, None, Some, Contains}
 use Rattle.std.specs.List.{sum_by, count_by}
-use Rattle.btrfs_format.specs.declared.flag.TheConstants.{FT_BLKDEV, FT_CHRDEV, FT_DIR, FT_FIFO, FT_REG_FILE, FT_SOCK, FT_SYMLINK, INODE_APPEND, INODE_IMMUTABLE}
-use Rattle.btrfs_format.specs.declared.key.TheConstants.{EXTENT_DATA, INODE_ITEM, ORPHAN_ITEM}
-use Rattle.btrfs_format.specs.declared.object.TheConstants.{FIRST_FREE_OBJECTID}
+use Rattle.btr_reader_walk.specs.btrfs_format.declared.flag.TheConstants.{FT_BLKDEV, FT_CHRDEV, FT_DIR, FT_FIFO, FT_REG_FILE, FT_SOCK, FT_SYMLINK, INODE_APPEND, INODE_IMMUTABLE}
+use Rattle.btr_reader_walk.specs.btrfs_format.declared.key.TheConstants.{EXTENT_DATA, INODE_ITEM, ORPHAN_ITEM}
+use Rattle.btr_reader_walk.specs.btrfs_format.declared.object.TheConstants.{FIRST_FREE_OBJECTID}
 use Rattle.btr_reader.specs.fs_rows.declared.row.Kind.{Kind}
 use Rattle.btr_reader.specs.fs_rows.declared.row.Kind.TheVariants.{Directory, File, Symlink, Character, Block, Fifo, Socket, Subvolume}
 use Rattle.btr_reader.specs.fs_rows.Kinds.{has_bytes}

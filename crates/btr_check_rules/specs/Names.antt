@@ -3,10 +3,10 @@
 use Rattle.std.specs.Prelude.{◌≡◌, ◌≤◌, ◌⊎◌, ℕ, ◌+◌, ◌^◌, ◌==◌, Bool, true, false, ◌&&◌, List, [], ◌∷◌, ◌++◌, length, map, drop, filter, codes, if◌then◌else◌, nat_lt, Option, Some, None, is_some, IsTrue, All, AllPairs, Contains}
 use Rattle.std.specs.List.{flat_map, list_any}
 use Rattle.std.specs.List.Sorted.{IsPermutation}
-use Rattle.btrfs_format.specs.declared.flag.TheConstants.{FT_DIR, FT_SYMLINK}
-use Rattle.btrfs_format.specs.declared.key.TheConstants.{DIR_INDEX, DIR_ITEM, EXTENT_DATA, INODE_EXTREF, INODE_ITEM, INODE_REF, ORPHAN_ITEM, ROOT_BACKREF, ROOT_ITEM, ROOT_REF, XATTR_ITEM}
-use Rattle.btrfs_format.specs.declared.object.TheConstants.{FIRST_FREE_OBJECTID}
-use Rattle.btrfs_format.specs.declared.size.TheConstants.{DIR_ITEM_SIZE, NAME_LEN}
+use Rattle.btr_reader_walk.specs.btrfs_format.declared.flag.TheConstants.{FT_DIR, FT_SYMLINK}
+use Rattle.btr_reader_walk.specs.btrfs_format.declared.key.TheConstants.{DIR_INDEX, DIR_ITEM, EXTENT_DATA, INODE_EXTREF, INODE_ITEM, INODE_REF, ORPHAN_ITEM, ROOT_BACKREF, ROOT_ITEM, ROOT_REF, XATTR_ITEM}
+use Rattle.btr_reader_walk.specs.btrfs_format.declared.object.TheConstants.{FIRST_FREE_OBJECTID}
+use Rattle.btr_reader_walk.specs.btrfs_format.declared.size.TheConstants.{DIR_ITEM_SIZE, NAME_LEN}
 use Rattle.btr_reader.specs.castagnoli.Castagnoli.{name_hash, extref_hash}
 use Rattle.btr_reader.specs.btr_keys.DirEntry.{DirEntryValue, dir_entry_front, dir_items_of}
 use Rattle.btr_reader.specs.btr_keys.Extref.{ExtrefValue, extrefs_of}
@@ -18,8 +18,9 @@ use Rattle.btr_reader.specs.btr_keys.declared.key.Key.{Key}
 use Rattle.btr_reader.specs.btr_node.Leaf.{Item}
 use Rattle.btr_reader.specs.btr_space_items.RootRef.{RootRefValue, root_ref_of}
 use Rattle.btr_reader.specs.btr_reader_names.Links.{is_name}
+use Rattle.btr_reader.specs.btr_reader_walk.Nodes.{is_file_tree as is_subvolume}
 use Rattle.btr_reader.specs.vol_block.Volume.{field}
-use Rattle.btr_check_rules.specs.Recount.{Recount, TreeOn, EachAt, HasItem, PairsAt, is_subvolume, object_of, of_kind}
+use Rattle.btr_check_rules.specs.Recount.{Recount, TreeOn, EachAt, HasItem, PairsAt, object_of, of_kind}
 
 -- ---- what items tell
 
@@ -163,9 +164,16 @@ pub record HasRootRefs (roots : List Item) (tree : ℕ) (e : IndexEntry) : Type 
   pub forth : (body : List ℕ) × Contains roots (record { objectid = tree; kind = ROOT_REF; offset = e.entry.location.objectid }, body) × (root_ref_of body ≡ Some (ref_by e))
   pub back : (body : List ℕ) × Contains roots (record { objectid = e.entry.location.objectid; kind = ROOT_BACKREF; offset = tree }, body) × (root_ref_of body ≡ Some (ref_by e))
 
--- an entry that names a tree has both (check_root_refs of `btrfs check`)
+-- the root tree has no reference from one tree to another
+abbrev pub HasNoRootRef : List Item → ℕ → ℕ → Type 0
+HasNoRootRef roots tree other = ¬ HasItem roots tree ROOT_REF other × ¬ HasItem roots other ROOT_BACKREF tree
+
+-- An entry that names a tree has both references (check_root_refs of `btrfs check`). In a snapshot, which was made with
+-- the entry, it may have none (create_pending_snapshot); Linux shows an empty directory there.
 abbrev pub IsTreeEntry : Recount → TreeOn → IndexEntry → Type 0
-IsTreeEntry r t e = (e.entry.kind ≡ FT_DIR) × HasRootRefs r.root_tree.items t.number e
+IsTreeEntry r t e =
+    (e.entry.kind ≡ FT_DIR)
+    × (HasRootRefs r.root_tree.items t.number e ⊎ ((1 ≤ t.made) × HasNoRootRef r.root_tree.items t.number e.entry.location.objectid))
 
 -- A reference from this tree is told by an entry (check_root_refs of `btrfs check`). It fails at the root directory of
 -- the tree that the reference stands in, where it is off its grammar, and else at the directory that it tells.

@@ -1,7 +1,8 @@
 -- Part 1 too: what Linux asks of the bytes of a node, besides what every reader of trees does. It fails at the address of the
 -- node.
-use Rattle.std.specs.Prelude.{◌≡◌, ◌⊎◌, ◌≤◌, ℕ, ◌+◌, List, [], ◌∷◌, length, replicate, All}
-use Rattle.btrfs_format.specs.declared.flag.TheConstants.{HEADER_FLAG_WRITTEN, MIXED_BACKREF_REV}
+use Rattle.std.specs.Prelude.{◌≡◌, ◌⊎◌, ◌≤◌, ℕ, ◌+◌, ◌==◌, Bool, List, [], ◌∷◌, length, replicate, All}
+use Rattle.std.specs.List.{list_any}
+use Rattle.btr_reader_walk.specs.btrfs_format.declared.flag.TheConstants.{HEADER_FLAG_WRITTEN, MIXED_BACKREF_REV}
 use Rattle.btr_reader.specs.outside.History.{Image}
 use Rattle.btr_reader.specs.btr_keys.Key.{key_layout}
 use Rattle.btr_reader.specs.btr_node.Head.{behind_head, head_in}
@@ -22,6 +23,9 @@ node_bytes image r address = node_at image (chunk_map image r.super) r.super.nod
 -- a node that a balance made has one flag more (BTRFS_HEADER_FLAG_RELOC)
 abbrev pub RELOCATED : ℕ
 RELOCATED = 2
+
+abbrev pub is_relocated : Head → Bool
+is_relocated h = list_any (λ b. b == HEADER_FLAG_WRITTEN + RELOCATED) h.flags
 
 -- A node was written, and has the references of today's form (check_leaf and btrfs_check_node from Linux 6.7 on;
 -- `btrfs check`).

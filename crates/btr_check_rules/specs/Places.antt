@@ -1,14 +1,14 @@
 -- Parts 4 and 8: extents are apart, each lies in a chunk of its kind, and none touches a reserved block. They fail at the
 -- address of an extent.
-use Rattle.std.specs.Prelude.{◌≡◌, ◌≢◌, ◌⊎◌, ◌≤◌, ◌<◌, ℕ, ◌+◌, ◌-◌, ◌/◌, ◌==◌, if◌then◌else◌, Some, Contains}
-use Rattle.std.specs.List.{flat_map}
-use Rattle.btrfs_format.specs.declared.flag.TheConstants.{BLOCK_GROUP_DUP}
-use Rattle.btrfs_format.specs.declared.object.TheConstants.{CHUNK_TREE}
+use Rattle.std.specs.Prelude.{◌≡◌, ◌≢◌, ◌⊎◌, ◌≤◌, ◌<◌, ℕ, ◌+◌, ◌-◌, ◌/◌, ◌==◌, if◌then◌else◌, Some, All, Contains}
+use Rattle.btr_reader_walk.specs.btrfs_format.declared.flag.TheConstants.{BLOCK_GROUP_DUP}
+use Rattle.btr_reader_walk.specs.btrfs_format.declared.object.TheConstants.{CHUNK_TREE}
 use Rattle.btr_reader.specs.vol_block.Volume.{IsReserved}
 use Rattle.btr_reader.specs.btr_reader_walk.Map.{place, second_place}
 use Rattle.btr_reader.specs.Chunks.{is_dup_kind, system_kind, metadata_kind, data_kind}
 use Rattle.btr_reader.specs.declared.chunk.ChunkAt.{ChunkAt}
-use Rattle.btr_check_rules.specs.Recount.{Recount, TreeOn, PairsAt, Span, IsData, IsNodeOf, all_trees, map_of}
+use Rattle.btr_check_rules.specs.Recount.{Recount, TreeOn, PairsAt, IsData, IsNodeOf, all_trees, map_of}
+use Rattle.btr_check_rules.specs.declared.span.Span.{Span}
 
 -- ---- extents and chunks
 
@@ -40,10 +40,10 @@ IsUncrossed span = span.start / 65536 ≡ (span.start + span.length - 1) / 65536
 -- ---- the parts
 
 -- What part 4 asks at the address of an extent: it is one with another one, or apart from it (check_extent_item); it lies in one
--- chunk of its kind ("type mismatch with chunk" of `btrfs check`). No node is met twice.
+-- chunk of its kind ("type mismatch with chunk" of `btrfs check`). No tree has a node twice.
 pub record KeepsPlacement (r : Recount) (at : ℕ) : Type 0 where
   pub apart : (a b : Span) (k l : ℕ) → a.start ≡ at → IsExtent r a k → IsExtent r b l → ((a ≡ b) × (k ≡ l)) ⊎ (EndsBefore a b ⊎ EndsBefore b a)
-  pub nodes : PairsAt (λ p. p.address) at (λ p q. p.address ≢ q.address) (flat_map (λ t. t.nodes) (all_trees r))
+  pub nodes : All (λ t. PairsAt (λ p. p.address) at (λ p q. p.address ≢ q.address) t.nodes) (all_trees r)
   pub within : (span : Span) (kind : ℕ) → span.start ≡ at → IsExtent r span kind → (c : ChunkAt) × Contains r.chunks c × LiesIn c span × (kind_alone c.chunk.kind ≡ kind)
   pub uncrossed : (span : Span) (kind : ℕ) → span.start ≡ at → IsExtent r span kind → kind ≢ data_kind → IsUncrossed span
 

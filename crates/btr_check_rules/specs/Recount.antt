@@ -1,24 +1,27 @@
--- What a recount of a Btrfs volume finds: its chunks, its trees, and the data that its files refer to. Trees are walked as by
--- every reader: a node that breaks a rule is not opened.
+-- What a recount of a Btrfs volume finds: its chunks, its trees with their nodes and items, and the data that its files refer to.
 use Rattle.std.specs.Prelude.{◌≡◌, ◌⊎◌, ℕ, ◌+◌, ◌-◌, ◌%◌, ◌^◌, ◌==◌, nat_le, nat_lt, Bool, true, false, not, ◌&&◌, ◌||◌, bit_and, if◌then◌else◌, List, [], ◌∷◌, ◌++◌, filter, map, Option, Some, None, All, AllPairs, Contains}
 use Rattle.std.specs.List.{flat_map, list_any}
-use Rattle.btrfs_format.specs.declared.key.TheConstants.{EXTENT_DATA, ROOT_ITEM}
-use Rattle.btrfs_format.specs.declared.object.TheConstants.{CHUNK_TREE, FIRST_FREE_OBJECTID, FS_TREE, ROOT_TREE}
+use Rattle.std.specs.Option.{option_map_or}
+use Rattle.btr_reader_walk.specs.btrfs_format.declared.key.TheConstants.{EXTENT_DATA, ROOT_ITEM}
+use Rattle.btr_reader_walk.specs.btrfs_format.declared.object.TheConstants.{CHUNK_TREE, DATA_RELOC_TREE, ROOT_TREE}
 use Rattle.btr_reader.specs.outside.History.{Image}
 use Rattle.btr_reader.specs.btr_keys.FileExtent.{ContentValue, Inline, Regular, Prealloc, FileExtentValue, file_extent_of}
 use Rattle.btr_reader.specs.btr_keys.declared.file_extent.DiskRange.{DiskRange}
 use Rattle.btr_reader.specs.btr_node.Leaf.{Item}
 use Rattle.btr_reader.specs.btr_super.declared.superblock.Super.{Super}
-use Rattle.btr_reader.specs.btr_reader_walk.Events.{walk_events, nodes_in}
-use Rattle.btr_reader.specs.btr_reader_walk.Tree.{bare_item, leaf_items}
+use Rattle.btr_reader.specs.btr_space_items.RootItem.{root_item_of}
+use Rattle.btr_reader.specs.btr_reader_walk.Nodes.{is_file_tree as is_subvolume}
+use Rattle.btr_reader.specs.btr_reader_walk.Tree.{bare_item}
 use Rattle.btr_reader.specs.btr_reader_walk.declared.map.MapRange.{MapRange}
 use Rattle.btr_reader.specs.btr_reader_walk.declared.tree.NodePointer.{NodePointer}
 use Rattle.btr_reader.specs.btr_reader_contents.Extents.{is_hole}
 use Rattle.btr_reader.specs.declared.chunk.ChunkAt.{ChunkAt}
 use Rattle.btr_reader.specs.Chunks.{chunk_in, range_of}
-use Rattle.btr_reader.specs.Opening.{form_of, chunk_tree, root_tree, chunk_map, boot_chunks, boot_list}
+use Rattle.btr_reader.specs.Opening.{chunk_tree, root_tree, chunk_map, boot_chunks, boot_list, tree_of}
 use Rattle.btr_reader.specs.Parts.{own_super}
 use Rattle.btr_reader.specs.Roots.{pointer_of}
+use Rattle.btr_check_rules.specs.Walk.{walked_items, walked_nodes}
+use Rattle.btr_check_rules.specs.declared.span.Span.{Span}
 
 -- ---- what stands at an address
 
@@ -30,6 +33,11 @@ EachAt at a P xs = All (λ x. at x ≡ a → P x) xs
 abbrev pub PairsAt : {A : Type 0} → (A → ℕ) → ℕ → (A → A → Type 0) → List A → Type 0
 PairsAt at a P xs = AllPairs (λ x y. (at x ≡ a) ⊎ (at y ≡ a) → P x y) xs
 
+-- numbers, each once
+abbrev pub once : List ℕ → List ℕ
+once [] = []
+once (n ∷ ns) = if list_any (λ m. m == n) ns then once ns else n ∷ once ns
+
 -- the number of the object that an item belongs to
 abbrev pub object_of : Item → ℕ
 object_of i = i.0.objectid
@@ -40,9 +48,13 @@ HasItem items objectid kind offset = (body : List ℕ) × Contains items (record
 
 -- ---- trees
 
--- A tree: its number, the nodes that a walk meets, and its items.
+-- A tree: its number; where its root item stands, which in a snapshot is the transaction that made it, and else 0; the
+-- last transaction in which a snapshot of it was made; the pointer to its root; the nodes that a walk meets, and its items.
 pub record TreeOn : Type 0 where
   pub number : ℕ
+  pub made : ℕ
+  pub last_snapshot : ℕ
+  pub root : NodePointer
   pub nodes : List NodePointer
   pub items : List Item
 
@@ -58,16 +70,12 @@ pub record Recount : Type 0 where
 abbrev pub all_trees : Recount → List TreeOn
 all_trees r = r.chunk_tree ∷ (r.root_tree ∷ r.others)
 
--- tree 5 and those from 256 on hold files
+-- subvolumes hold files, and so does the tree that a balance of data uses
 abbrev pub holds_files : ℕ → Bool
-holds_files number = (number == FS_TREE) || nat_le FIRST_FREE_OBJECTID number
+holds_files number = is_subvolume number || (number == DATA_RELOC_TREE)
 
 abbrev pub is_file_tree : TreeOn → Bool
 is_file_tree t = holds_files t.number
-
--- of these the ones below 2^48 are subvolumes (is_fstree of Linux)
-abbrev pub is_subvolume : ℕ → Bool
-is_subvolume number = (number == FS_TREE) || (nat_le FIRST_FREE_OBJECTID number && nat_lt number (2 ^ 48))
 
 abbrev pub file_trees : Recount → List TreeOn
 file_trees r = filter is_file_tree r.others
@@ -97,23 +105,35 @@ added_chunk (Some (Some c)) = c ∷ []
 abbrev pub chunks_on : List ChunkAt → List Item → List ChunkAt
 chunks_on boot items = boot ++ flat_map (λ i. added_chunk (chunk_in boot i.0 i.1)) items
 
--- the tree with this number under a root, as a walk finds it, whether anything is wrong with it or not
-abbrev pub tree_on : Image → Super → ℕ → NodePointer → TreeOn
-tree_on image s number root = record {
-  number = number;
-  nodes = nodes_in (walk_events image (chunk_map image s) (form_of s) root number);
-  items = map bare_item (leaf_items image (chunk_map image s) (form_of s) root number);
-}
-
--- A root: the number of its tree, and what leads to it.
+-- What leads to a tree, besides its number: where its root item stands, the last snapshot of it, and the pointer to its root.
 pub record RootOn : Type 0 where
   pub number : ℕ
+  pub made : ℕ
+  pub last_snapshot : ℕ
   pub pointer : NodePointer
+
+-- the tree under a root, as a walk finds it, whether anything is wrong with it or not
+abbrev pub tree_on : Image → Super → RootOn → TreeOn
+tree_on image s x = record {
+  number = x.number;
+  made = x.made;
+  last_snapshot = x.last_snapshot;
+  root = x.pointer;
+  nodes = walked_nodes image (chunk_map image s) (tree_of s x.number x.pointer);
+  items = map bare_item (walked_items image (chunk_map image s) (tree_of s x.number x.pointer));
+}
+
+-- the root of a tree that is no snapshot, and of which there was none; so are those that the superblock leads to
+abbrev pub plain_root : ℕ → NodePointer → RootOn
+plain_root number pointer = record { number = number; made = 0; last_snapshot = 0; pointer = pointer }
+
+abbrev pub last_snapshot_of : List ℕ → ℕ
+last_snapshot_of body = option_map_or (λ root. root.last_snapshot) (root_item_of body) 0
 
 -- the root that a root item leads to; there is none where its body is off the grammar, or no tree has so many levels
 abbrev pub root_by : Item → Option NodePointer → List RootOn
 root_by i None = []
-root_by i (Some pointer) = record { number = i.0.objectid; pointer = pointer } ∷ []
+root_by i (Some pointer) = record { number = i.0.objectid; made = i.0.offset; last_snapshot = last_snapshot_of i.1; pointer = pointer } ∷ []
 
 abbrev pub roots_in : List Item → List RootOn
 roots_in items = flat_map (λ i. root_by i (pointer_of i.1)) (of_kind ROOT_ITEM items)
@@ -125,24 +145,25 @@ recount_of image s chunks roots = record {
   chunks = chunks_on (boot_list (boot_chunks s)) chunks.items;
   chunk_tree = chunks;
   root_tree = roots;
-  others = map (λ x. tree_on image s x.number x.pointer) (roots_in roots.items);
+  others = map (tree_on image s) (roots_in roots.items);
 }
 
 abbrev pub recount_by : Image → Super → Recount
-recount_by image s = recount_of image s (tree_on image s CHUNK_TREE (chunk_tree s).root) (tree_on image s ROOT_TREE (root_tree s).root)
+recount_by image s = recount_of image s (tree_on image s (plain_root CHUNK_TREE (chunk_tree s).root)) (tree_on image s (plain_root ROOT_TREE (root_tree s).root))
 
 abbrev pub recount : Image → Recount
 recount image = recount_by image (own_super image)
 
--- the roots of all trees
-abbrev pub all_roots : Recount → List RootOn
-all_roots r =
-    record { number = CHUNK_TREE; pointer = (chunk_tree r.super).root }
-    ∷ (record { number = ROOT_TREE; pointer = (root_tree r.super).root } ∷ roots_in r.root_tree.items)
-
 -- the map of addresses by the chunks
 abbrev pub map_of : Recount → List MapRange
 map_of r = map range_of r.chunks
+
+abbrev pub node_addresses : TreeOn → List ℕ
+node_addresses t = map (λ p. p.address) t.nodes
+
+-- the nodes of all trees, each once: trees may share nodes
+abbrev pub nodes_met : Recount → List ℕ
+nodes_met r = once (flat_map node_addresses (all_trees r))
 
 -- ---- data
 
@@ -182,19 +203,18 @@ abbrev pub use_in : ℕ → Item → Option FileExtentValue → List DataUse
 use_in tree i None = []
 use_in tree i (Some e) = use_by tree i e.compression e.content
 
+-- what the file extents among some items of a tree use
+abbrev pub uses_of : ℕ → List Item → List DataUse
+uses_of tree items = flat_map (λ i. if i.0.kind == EXTENT_DATA then use_in tree i (file_extent_of i.1) else []) items
+
 abbrev pub uses_in : TreeOn → List DataUse
-uses_in t = flat_map (λ i. if i.0.kind == EXTENT_DATA then use_in t.number i (file_extent_of i.1) else []) t.items
+uses_in t = uses_of t.number t.items
 
 -- all of all trees; the root tree has some where there is an old free space cache
 abbrev pub data_uses : Recount → List DataUse
 data_uses r = flat_map uses_in (all_trees r)
 
 -- ---- ranges of addresses
-
--- A range of addresses that is taken, in bytes.
-pub record Span : Type 0 where
-  pub start : ℕ
-  pub length : ℕ
 
 abbrev pub span_of : DataUse → Span
 span_of u = record { start = u.start; length = u.length }

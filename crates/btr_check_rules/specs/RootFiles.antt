@@ -2,8 +2,8 @@
 -- subvolume, and the files of an old free space cache.
 use Rattle.std.specs.Prelude.{◌≡◌, ◌⊎◌, ◌==◌, Bool, true, List, [], ◌∷◌, codes, filter, All, ℕ}
 use Rattle.std.specs.List.{list_any}
-use Rattle.btrfs_format.specs.declared.key.TheConstants.{DIR_INDEX, DIR_ITEM, EXTENT_DATA, INODE_ITEM, INODE_REF}
-use Rattle.btrfs_format.specs.declared.object.TheConstants.{ROOT_TREE_DIR_OBJECTID}
+use Rattle.btr_reader_walk.specs.btrfs_format.declared.key.TheConstants.{DIR_INDEX, DIR_ITEM, EXTENT_DATA, INODE_ITEM, INODE_REF}
+use Rattle.btr_reader_walk.specs.btrfs_format.declared.object.TheConstants.{ROOT_TREE_DIR_OBJECTID}
 use Rattle.btr_reader.specs.btr_keys.declared.inode.Inode.{Inode}
 use Rattle.btr_reader.specs.btr_node.Leaf.{Item}
 use Rattle.btr_check_rules.specs.Files.{KeepsExtents}

@@ -47,7 +47,7 @@ part_number Totals = 9
 abbrev pub Keeps : Image → Recount → SoundPart → ℕ → Type 0
 Keeps image r Trees a = KeepsTrees image r a
 Keeps image r Files a = All (λ t. KeepsFiles r t a) (file_trees r)
-Keeps image r References a = KeepsReferences r a
+Keeps image r References a = KeepsReferences image r a
 Keeps image r Placement a = KeepsPlacement r a
 Keeps image r Checksums a = KeepsSums image r a
 Keeps image r BlockGroups a = KeepsBlockGroups r a

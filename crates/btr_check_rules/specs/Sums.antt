@@ -1,8 +1,8 @@
 -- Part 5: data has its checksums. It fails at the address of a block.
-use Rattle.std.specs.Prelude.{◌≡◌, ◌≤◌, ◌<◌, ℕ, ◌+◌, ◌-◌, ◌*◌, ◌/◌, ◌%◌, ◌==◌, true, false, if◌then◌else◌, List, length, take, drop, Some, All, Contains}
-use Rattle.btrfs_format.specs.declared.key.TheConstants.{EXTENT_CSUM}
-use Rattle.btrfs_format.specs.declared.object.TheConstants.{CSUM_TREE, EXTENT_CSUM_OBJECTID}
-use Rattle.btrfs_format.specs.declared.size.TheConstants.{HEADER_SIZE, ITEM_SIZE}
+use Rattle.std.specs.Prelude.{◌≡◌, ◌≢◌, ◌≤◌, ◌<◌, ℕ, ◌+◌, ◌-◌, ◌*◌, ◌/◌, ◌%◌, ◌==◌, true, false, if◌then◌else◌, List, length, take, drop, Some, All, Contains}
+use Rattle.btr_reader_walk.specs.btrfs_format.declared.key.TheConstants.{EXTENT_CSUM}
+use Rattle.btr_reader_walk.specs.btrfs_format.declared.object.TheConstants.{CSUM_TREE, DATA_RELOC_TREE, EXTENT_CSUM_OBJECTID}
+use Rattle.btr_reader_walk.specs.btrfs_format.declared.size.TheConstants.{HEADER_SIZE, ITEM_SIZE}
 use Rattle.btr_reader.specs.outside.History.{Image, block_at}
 use Rattle.btr_reader.specs.csum_kinds.Kind.{kind_sum, kind_width}
 use Rattle.btr_reader.specs.csum_kinds.declared.kind.SumKind.{SumKind}
@@ -11,7 +11,8 @@ use Rattle.btr_reader.specs.btr_node.Leaf.{Item}
 use Rattle.btr_reader.specs.Opening.{form_of}
 use Rattle.btr_reader.specs.btr_reader_walk.Map.{place}
 use Rattle.btr_check_rules.specs.Inodes.{HasInode, has_no_sums}
-use Rattle.btr_check_rules.specs.Recount.{Recount, TreeOn, DataUse, EachAt, PairsAt, Span, all_trees, data_uses, is_within, map_of, recounted_items, span_of, uses_in}
+use Rattle.btr_check_rules.specs.Recount.{Recount, TreeOn, DataUse, EachAt, PairsAt, data_uses, file_trees, is_within, map_of, recounted_items, span_of, uses_in}
+use Rattle.btr_check_rules.specs.declared.span.Span.{Span}
 
 -- ---- checksum items
 
@@ -53,17 +54,19 @@ pub record HasBlockSum (r : Recount) (a : ℕ) : Type 0 where
 abbrev pub read_span : DataUse → Span
 read_span u = if u.compression == 0 then record { start = u.start + u.part; length = u.part_length } else span_of u
 
--- The block at an address is read for a file extent of this inode.
+-- The block at an address is read for a file extent of this inode. The tree that a balance of data uses is left out, as in
+-- `btrfs check`.
 pub record IsReadBy (r : Recount) (a : ℕ) (u : DataUse) (inode : Inode) : Type 0 where
   pub tree : TreeOn
-  pub among : Contains (all_trees r) tree
+  pub among : Contains (file_trees r) tree
+  pub lasting : tree.number ≢ DATA_RELOC_TREE
   pub used : Contains (uses_in tree) u
   pub owner : HasInode tree u.inode inode
   pub here : is_within (read_span u) a ≡ true
 
 -- a file extent with written bytes has the disk extent
 abbrev pub IsWrittenTo : Recount → ℕ → Type 0
-IsWrittenTo r start = (u : DataUse) × Contains (data_uses r) u × (u.start ≡ start) × (u.written ≡ true)
+IsWrittenTo r start = (t : TreeOn) × (u : DataUse) × Contains (file_trees r) t × Contains (uses_in t) u × (u.start ≡ start) × (u.written ≡ true)
 
 -- ---- the part
 

@@ -75,38 +75,6 @@ module _ {A : Type 0} (p : A → Bool) where
           let right = sum_by-cons (λ y. cond (p y) 1 0) x (take m xs) ∙ ap (λ (b : Bool). cond b 1 0 + count_by p (take m xs)) is in
           omega (arith, moved, right)
 
-  all_at : (n i k : ℕ) (ks : List ℕ) → AllByRecursion (λ j. n ≤ j) ks → slice_get ks i ≡ Some k → n ≤ k
-  all_at n i k [] all there = let never : None ≡ Some k = there in absurd cc
-  all_at n zero k (j ∷ ks) all there = let same : j ≡ k = cc in omega (arith, all.0, same)
-  all_at n (suc i) k (j ∷ ks) all there = all_at n i k ks all.1 there
-
-  -- what passes before the place of one are those before it
-  pub places_part : (n i m : ℕ) (xs : List A) → slice_get (places_from p n xs) i ≡ Some (n + m) → filter p (take m xs) ≡ take i (filter p xs)
-  places_part n i m [] there = let never : None ≡ Some (n + m) = there in absurd cc
-  places_part n i m (x ∷ xs) there = by (λ j k. places_part (n + 1) j k xs) i m (p x) refl there
-    where
-      some_same : (a b : ℕ) → Some a ≡ Some b → a ≡ b
-      some_same a b is = cc
-
-      by : ((j k : ℕ) → slice_get (places_from p (n + 1) xs) j ≡ Some (n + 1 + k) → filter p (take k xs) ≡ take j (filter p xs)) → (i m : ℕ) (b : Bool) → p x ≡ b
-          → slice_get (if b then n ∷ places_from p (n + 1) xs else places_from p (n + 1) xs) i ≡ Some (n + m) → filter p (take m (x ∷ xs)) ≡ take i (cond b (x ∷ filter p xs) (filter p xs))
-      by later zero m true is here =
-          let at : n ≡ n + m = some_same n (n + m) here in
-          let none : m ≡ 0 = omega (arith, at) in
-          ap (λ (k : ℕ). filter p (take k (x ∷ xs))) none
-      by later (suc i) zero true is here =
-          let high = all_at (n + 1) i (n + 0) (places_from p (n + 1) xs) (places_high (n + 1) xs) here in absurd (omega (arith, high))
-      by later (suc i) (suc m) true is here =
-          let same : n + suc m ≡ n + 1 + m = omega arith in
-          ap (λ (b : Bool). cond b (x ∷ filter p (take m xs)) (filter p (take m xs))) is
-          ∙ ap (λ (l : List A). x ∷ l) (later i m (here ∙ ap (λ (k : ℕ). Some k) same))
-      by later i zero false is here =
-          let high = all_at (n + 1) i (n + 0) (places_from p (n + 1) xs) (places_high (n + 1) xs) here in absurd (omega (arith, high))
-      by later i (suc m) false is here =
-          let same : n + suc m ≡ n + 1 + m = omega arith in
-          ap (λ (b : Bool). cond b (x ∷ filter p (take m xs)) (filter p (take m xs))) is
-          ∙ later i m (here ∙ ap (λ (k : ℕ). Some k) same)
-
   -- places ascend
   pub places_rise : (n : ℕ) (xs : List A) → AllPairs (λ (a b : ℕ). a < b) (places_from p n xs)
   places_rise n [] = λ i j d less within. absurd (omega (arith, within))

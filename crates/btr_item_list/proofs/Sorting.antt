@@ -23,9 +23,6 @@ some_none x xs is = let n = ap length is in omega (arith, n)
 self : (n : ℕ) → (n == n) ≡ true
 self n = grind (arith, nat_tests)
 
-not_equal : (a b : ℕ) → (a == b) ≡ false → (a ≡ b → ⊥)
-not_equal a b is same = true≢false (sym (self b) ∙ (ap (λ (n : ℕ). n == b) (sym same) ∙ is))
-
 module _ {A : Type 0} (number : A → ℕ) where
   -- each number is at most those behind it
   abbrev pub Sorted : List A → Type 0

@@ -1,6 +1,6 @@
 -- The items that tell where the bytes of a file are.
 use Rattle.std.specs.Prelude.{ℕ, ◌*◌, List, length}
-use Rattle.btrfs_format.specs.declared.key.TheConstants.{EXTENT_DATA}
+use Rattle.btr_node.specs.btrfs_format.declared.key.TheConstants.{EXTENT_DATA}
 use Rattle.btr_node.specs.btr_keys.FileExtent.{FileExtentValue, Inline, Regular, file_extent_bytes}
 use Rattle.btr_node.specs.btr_keys.Key.{make_key}
 use Rattle.btr_node.specs.Leaf.{Item}

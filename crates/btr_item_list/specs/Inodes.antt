@@ -1,6 +1,6 @@
 -- What the inodes of a new tree have.
 use Rattle.std.specs.Prelude.{ℕ, pos, List}
-use Rattle.btrfs_format.specs.declared.key.TheConstants.{INODE_ITEM, INODE_REF}
+use Rattle.btr_node.specs.btrfs_format.declared.key.TheConstants.{INODE_ITEM, INODE_REF}
 use Rattle.btr_node.specs.btr_keys.declared.inode.Inode.{Inode}
 use Rattle.btr_node.specs.btr_keys.declared.stamp.Stamp.{Stamp}
 use Rattle.btr_node.specs.btr_keys.Inode.{inode_bytes}

@@ -1,3 +1,5 @@
+pub use Rattle.fs_paths.specs.vol_block as vol_block
+pub use Rattle.btr_node.specs.btrfs_format as btrfs_format
 pub mod Extents
 pub mod Groups
 pub mod Inodes

@@ -5,8 +5,8 @@ ghost use Rattle.btr_item_list.specs.Extents.{extent_item, regular_extent, inlin
 
 use crate::list::ItemList;
 use crate::records::put_extent;
+use btr_node::btrfs_format::key::EXTENT_DATA;
 use btr_node::{BlockNo, DiskRange, ExtentContent, FileExtent, Key, Memory};
-use btrfs_format::key::EXTENT_DATA;
 
 /// Where an extent lies, in blocks.
 #[derive(Clone, Copy)]

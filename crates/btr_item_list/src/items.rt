@@ -4,8 +4,8 @@ ghost use Rattle.btr_item_list.specs.Inodes.{inode_item, ref_item};
 
 use crate::list::ItemList;
 use crate::records::put_inode_ref;
+use btr_node::btrfs_format::key::{INODE_ITEM, INODE_REF};
 use btr_node::{Inode, InodeRef, Key, Memory};
-use btrfs_format::key::{INODE_ITEM, INODE_REF};
 
 /// The key of an item.
 pub fn key_of(objectid: u64, kind: u8, offset: u64) -> Key

@@ -13,7 +13,9 @@ mod spot;
 mod spots;
 mod under;
 
+pub use btr_node::btrfs_format;
 pub use extent::{Extent, add_extent, add_inline};
+pub use fs_paths::vol_block;
 pub use inode::{inode_made, new_inode, stamp_of};
 pub use items::{add_inode, add_ref, key_of};
 pub use laws::groups_are_groups;

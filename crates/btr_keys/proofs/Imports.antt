@@ -20,6 +20,6 @@ pub use Rattle.btr_keys.specs.Repeated.{RecordsReadBack, at_least_one, records, 
 unfoldable pub use Rattle.btr_keys.specs.Repeated.{behind_named, starts_within}
 pub use Rattle.btr_keys.specs.Stamp.{make_stamp}
 unfoldable pub use Rattle.btr_keys.specs.Stamp.{stamp_layout}
-pub use Rattle.btrfs_format.specs.declared.size.TheConstants.{DIR_ITEM_SIZE, INODE_EXTREF_SIZE, INODE_ITEM_SIZE, INODE_REF_SIZE, KEY_SIZE, TIMESPEC_SIZE}
 pub use Rattle.byteorder.specs.Numbers.{length-bytes_low_first, little_number-reads_back}
 pub use Rattle.vol_block.specs.Volume.{field}
+pub use Rattle.vol_block.specs.btrfs_format.declared.size.TheConstants.{DIR_ITEM_SIZE, INODE_EXTREF_SIZE, INODE_ITEM_SIZE, INODE_REF_SIZE, KEY_SIZE, TIMESPEC_SIZE}

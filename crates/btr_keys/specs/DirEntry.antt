@@ -1,6 +1,6 @@
 -- Bodies of dir items and dir indexes, as the Btrfs on-disk format documentation has them (struct btrfs_dir_item).
 use Rattle.std.specs.Prelude.{ℕ, List, length, take, drop, Option}
-use Rattle.btrfs_format.specs.declared.size.TheConstants.{DIR_ITEM_SIZE}
+use Rattle.vol_block.specs.btrfs_format.declared.size.TheConstants.{DIR_ITEM_SIZE}
 use Rattle.btr_keys.specs.Layout.{Layout, made_by, ◌▸◌, u8, u16, u64, part}
 use Rattle.btr_keys.specs.Key.{key_layout}
 use Rattle.btr_keys.specs.Repeated.{behind_named, records, at_least_one}

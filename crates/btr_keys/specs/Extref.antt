@@ -1,6 +1,6 @@
 -- Bodies of extrefs, as the Btrfs on-disk format documentation has them (struct btrfs_inode_extref).
 use Rattle.std.specs.Prelude.{ℕ, List, length, take, drop, Option}
-use Rattle.btrfs_format.specs.declared.size.TheConstants.{INODE_EXTREF_SIZE}
+use Rattle.vol_block.specs.btrfs_format.declared.size.TheConstants.{INODE_EXTREF_SIZE}
 use Rattle.btr_keys.specs.Layout.{Layout, made_by, ◌▸◌, u16, u64}
 use Rattle.btr_keys.specs.Repeated.{behind_named, records, at_least_one}
 use Rattle.btr_keys.specs.declared.extref.Extref.{Extref}

@@ -1,8 +1,8 @@
 -- Bodies of file extents, as the Btrfs on-disk format documentation has them (struct btrfs_file_extent_item).
 use Rattle.std.specs.Prelude.{ℕ, ◌+◌, ◌==◌, nat_lt, if◌then◌else◌, List, length, drop, Option, Some, None}
 use Rattle.std.specs.Option.{option_map}
-use Rattle.btrfs_format.specs.declared.flag.TheConstants.{FILE_EXTENT_INLINE, FILE_EXTENT_PREALLOC, FILE_EXTENT_REG}
-use Rattle.btrfs_format.specs.declared.size.TheConstants.{FILE_EXTENT_INLINE_START}
+use Rattle.vol_block.specs.btrfs_format.declared.flag.TheConstants.{FILE_EXTENT_INLINE, FILE_EXTENT_PREALLOC, FILE_EXTENT_REG}
+use Rattle.vol_block.specs.btrfs_format.declared.size.TheConstants.{FILE_EXTENT_INLINE_START}
 use Rattle.btr_keys.specs.Layout.{Layout, made_by, ◌▸◌, u8, u16, u64, whole, spelling}
 use Rattle.btr_keys.specs.declared.file_extent.DiskRange.{DiskRange}
 use Rattle.btr_keys.specs.declared.file_extent.ExtentContent.{ExtentContent}

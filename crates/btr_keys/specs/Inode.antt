@@ -1,6 +1,6 @@
 -- Bodies of inode items, as the Btrfs on-disk format documentation has them (struct btrfs_inode_item).
 use Rattle.std.specs.Prelude.{ℕ, List, drop, Option}
-use Rattle.btrfs_format.specs.declared.size.TheConstants.{INODE_ITEM_SIZE}
+use Rattle.vol_block.specs.btrfs_format.declared.size.TheConstants.{INODE_ITEM_SIZE}
 use Rattle.btr_keys.specs.Layout.{Layout, made_by, ◌▸◌, u32, u64, reserved, whole, spelling}
 use Rattle.btr_keys.specs.Stamp.{stamp}
 use Rattle.btr_keys.specs.declared.stamp.Stamp.{Stamp}

@@ -3,7 +3,7 @@ use Rattle.std.specs.Prelude.{◌≡◌, ℕ, List, drop, Option}
 use Rattle.std.specs.declared.cmp.Ordering.{Ordering}
 use Rattle.std.specs.declared.cmp.Ordering.TheVariants.{Less}
 use Rattle.std.specs.Ordering.{nat_cmp, ordering_then}
-use Rattle.btrfs_format.specs.declared.size.TheConstants.{KEY_SIZE}
+use Rattle.vol_block.specs.btrfs_format.declared.size.TheConstants.{KEY_SIZE}
 use Rattle.btr_keys.specs.Layout.{Layout, made_by, ◌▸◌, u8, u64, whole, spelling}
 use Rattle.btr_keys.specs.declared.key.Key.{Key}
 

@@ -1,6 +1,6 @@
 -- What is written is read again.
 use Rattle.std.specs.Prelude.{◌≡◌, Some}
-use Rattle.btrfs_format.specs.declared.size.TheConstants.{INODE_ITEM_SIZE, KEY_SIZE, TIMESPEC_SIZE}
+use Rattle.vol_block.specs.btrfs_format.declared.size.TheConstants.{INODE_ITEM_SIZE, KEY_SIZE, TIMESPEC_SIZE}
 use Rattle.btr_keys.specs.Layout.{ReadsBack}
 use Rattle.btr_keys.specs.Repeated.{RecordsReadBack}
 use Rattle.btr_keys.specs.Key.{key_layout}

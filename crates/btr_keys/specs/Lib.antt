@@ -1,4 +1,5 @@
 pub use Rattle.vol_block.specs as vol_block
+pub use Rattle.vol_block.specs.btrfs_format as btrfs_format
 pub mod DirEntry
 pub mod Extref
 pub mod FileExtent

@@ -1,6 +1,6 @@
 -- Times, as the Btrfs on-disk format documentation has them (struct btrfs_timespec).
 use Rattle.std.specs.Prelude.{ℕ, ℤ, List, drop, Option}
-use Rattle.btrfs_format.specs.declared.size.TheConstants.{TIMESPEC_SIZE}
+use Rattle.vol_block.specs.btrfs_format.declared.size.TheConstants.{TIMESPEC_SIZE}
 use Rattle.btr_keys.specs.Layout.{Layout, LayoutField, made_by, ◌▸◌, i64, u32, part, whole, spelling}
 use Rattle.btr_keys.specs.declared.stamp.Stamp.{Stamp}
 

@@ -13,7 +13,7 @@ ghost use Rattle.btr_keys.specs.FileExtent.{
   file_extent_size,
 };
 
-use btrfs_format::flag::{FILE_EXTENT_INLINE, FILE_EXTENT_PREALLOC, FILE_EXTENT_REG};
+use vol_block::btrfs_format::flag::{FILE_EXTENT_INLINE, FILE_EXTENT_PREALLOC, FILE_EXTENT_REG};
 use vol_block::{Field, put_fields, u16_at, u64_at};
 
 /// Where the bytes of a regular or preallocated file extent lie. All are in bytes.

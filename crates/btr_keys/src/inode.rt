@@ -3,7 +3,7 @@ ghost use Rattle.btr_keys.specs.Inode.{inode_layout, inode_at, inode_of, inode_b
 
 use crate::body::exactly;
 use crate::stamp::Stamp;
-use btrfs_format::size::INODE_ITEM_SIZE;
+use vol_block::btrfs_format::size::INODE_ITEM_SIZE;
 use vol_block::{Field, put_fields, u32_at, u64_at};
 
 /// The body of an inode item, key (inode, 1, 0): 160 bytes, as the Btrfs on-disk format documentation has it.

@@ -2,7 +2,7 @@ ghost use Rattle.std.specs.Prelude.{◌≡◌, ◌+◌, ◌≤◌, ◌↔◌, le
 ghost use Rattle.btr_keys.specs.Key.{key_in_bytes, key_of, key_bytes, IsBefore};
 
 use crate::body::exactly;
-use btrfs_format::size::KEY_SIZE;
+use vol_block::btrfs_format::size::KEY_SIZE;
 use vol_block::{Field, put_fields, u64_at};
 
 /// The key of an item in a Btrfs tree: 17 bytes, as the Btrfs on-disk format documentation has it.

@@ -27,4 +27,5 @@ pub use laws::{
     inode_refs_read_back, inodes_read_back, keys_read_back, stamps_read_back,
 };
 pub use stamp::Stamp;
-pub use vol_block::{Field, array_at, put_fields, u16_at, u32_at, u64_at};
+pub use vol_block;
+pub use vol_block::{Field, array_at, btrfs_format, put_fields, u16_at, u32_at, u64_at};

@@ -2,7 +2,7 @@ ghost use Rattle.std.specs.Prelude.{◌≡◌, ◌+◌, ◌≤◌, length};
 ghost use Rattle.btr_keys.specs.Stamp.{stamp_at, stamp_of, stamp_bytes};
 
 use crate::body::exactly;
-use btrfs_format::size::TIMESPEC_SIZE;
+use vol_block::btrfs_format::size::TIMESPEC_SIZE;
 use vol_block::{Field, put_fields, u32_at, u64_at};
 
 /// A time of an inode or a tree: 12 bytes, as the Btrfs on-disk format documentation has it.

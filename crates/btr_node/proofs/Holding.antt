@@ -99,10 +99,6 @@ no_children : (bytes : List ℕ) → stored_children bytes 0 ≡ []
 unfolding stored_children
 no_children bytes = refl
 
-no_items : (bytes : List ℕ) → stored_items bytes 0 ≡ []
-unfolding stored_items
-no_items bytes = refl
-
 -- the items and the children in a buffer that holds a draft
 items_are : (bytes : List ℕ) (low : ℕ) (draft : Draft) → HoldsDraft bytes low draft → length bytes ≡ draft.nodesize → stored_items bytes (length draft.items) ≡ draft.items
 items_are bytes low draft holds size =

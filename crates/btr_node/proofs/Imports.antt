@@ -12,6 +12,7 @@ pub use Rattle.btr_keys.proofs.Layouts.{Reads, array_reads, part_reads, start, u
 pub use Rattle.btr_keys.specs.Key.{IsBefore, key_cmp}
 unfoldable pub use Rattle.btr_keys.specs.Key.{key_layout}
 pub use Rattle.btr_keys.specs.Layout.{Layout, spelling}
+pub use Rattle.btr_keys.specs.btrfs_format.declared.size.TheConstants.{CSUM_SIZE, HEADER_REST_SIZE, HEADER_SIZE, ITEM_SIZE, KEY_PTR_SIZE}
 pub use Rattle.btr_keys.specs.declared.key.Key.{Key}
 pub use Rattle.btr_node.specs.Areas.{AreBodiesApart, HasAreas, IsWithin, all_apart, are_apart, descends, has_areas, is_within}
 pub use Rattle.btr_node.specs.Draft.{Draft, IsDraft, data_of, draft_bytes, head_of, heads_of, room, room_in, started_for}
@@ -34,7 +35,6 @@ pub use Rattle.btr_node.specs.declared.child.Child.{Child}
 pub use Rattle.btr_node.specs.declared.expect.Expect.{Expect}
 pub use Rattle.btr_node.specs.declared.head.Head.{Head}
 pub use Rattle.btr_node.specs.declared.item.BtrItemHead.{BtrItemHead}
-pub use Rattle.btrfs_format.specs.declared.size.TheConstants.{CSUM_SIZE, HEADER_REST_SIZE, HEADER_SIZE, ITEM_SIZE, KEY_PTR_SIZE}
 pub use Rattle.csum_kinds.proofs.Widths.{length-kind_sum}
 pub use Rattle.csum_kinds.specs.Kind.{kind_sum}
 pub use Rattle.csum_kinds.specs.declared.kind.SumKind.{SumKind}

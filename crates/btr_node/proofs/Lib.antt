@@ -1,4 +1,3 @@
-pub use Rattle.btr_keys.proofs as btr_keys
 pub use Rattle.refusals.proofs.outside as outside
 pub mod Apart
 pub mod Ascending

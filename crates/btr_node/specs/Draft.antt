@@ -2,8 +2,8 @@
 -- items.
 use Rattle.std.specs.Prelude.{◌≡◌, ℕ, ◌+◌, ◌-◌, ◌*◌, ◌≤◌, Bool, true, false, List, [], ◌∷◌, ◌++◌, length, replicate, sum_by}
 use Rattle.std.specs.List.{All, flat_map}
-use Rattle.btrfs_format.specs.declared.flag.TheConstants.{HEADER_FLAG_WRITTEN, MIXED_BACKREF_REV}
-use Rattle.btrfs_format.specs.declared.size.TheConstants.{HEADER_SIZE, ITEM_SIZE, KEY_PTR_SIZE}
+use Rattle.btr_keys.specs.btrfs_format.declared.flag.TheConstants.{HEADER_FLAG_WRITTEN, MIXED_BACKREF_REV}
+use Rattle.btr_keys.specs.btrfs_format.declared.size.TheConstants.{HEADER_SIZE, ITEM_SIZE, KEY_PTR_SIZE}
 use Rattle.btr_keys.specs.Key.{key_layout}
 use Rattle.btr_keys.specs.Layout.{spelling}
 use Rattle.csum_kinds.specs.declared.kind.SumKind.{SumKind}

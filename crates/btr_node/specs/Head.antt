@@ -1,7 +1,7 @@
 -- The head of a node, as the Btrfs on-disk format documentation has it (struct btrfs_header).
 use Rattle.std.specs.Prelude.{◌≡◌, ◌==◌, ◌&&◌, Bool, ℕ, List, drop}
 use Rattle.std.specs.Str.{bytes_eq}
-use Rattle.btrfs_format.specs.declared.size.TheConstants.{CSUM_SIZE, HEADER_SIZE}
+use Rattle.btr_keys.specs.btrfs_format.declared.size.TheConstants.{CSUM_SIZE, HEADER_SIZE}
 use Rattle.btr_keys.specs.Layout.{Layout, made_by, ◌▸◌, array, u8, u32, u64}
 use Rattle.csum_kinds.specs.declared.kind.SumKind.{SumKind}
 use Rattle.btr_node.specs.declared.expect.Expect.{Expect}

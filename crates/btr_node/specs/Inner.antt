@@ -1,6 +1,6 @@
 -- Inner nodes, as the Btrfs on-disk format documentation has them: children behind the node's head.
 use Rattle.std.specs.Prelude.{ℕ, ◌+◌, ◌*◌, ◌≤◌, nat_lt, nat_le, Bool, ◌&&◌, List, length, drop, map}
-use Rattle.btrfs_format.specs.declared.size.TheConstants.{HEADER_SIZE, KEY_PTR_SIZE}
+use Rattle.btr_keys.specs.btrfs_format.declared.size.TheConstants.{HEADER_SIZE, KEY_PTR_SIZE}
 use Rattle.btr_keys.specs.Layout.{Layout, made_by, ◌▸◌, part, u64}
 use Rattle.btr_keys.specs.Key.{key_layout}
 use Rattle.btr_keys.specs.declared.key.Key.{Key}

@@ -1,7 +1,7 @@
 -- Leaves, as the Btrfs on-disk format documentation has them: heads of items behind the node's head, and their data
 -- anywhere behind these.
 use Rattle.std.specs.Prelude.{◌≡◌, ℕ, ◌+◌, ◌*◌, ◌≤◌, ◌==◌, nat_le, Bool, ◌&&◌, List, length, drop, map, slice_range}
-use Rattle.btrfs_format.specs.declared.size.TheConstants.{HEADER_SIZE, ITEM_SIZE}
+use Rattle.btr_keys.specs.btrfs_format.declared.size.TheConstants.{HEADER_SIZE, ITEM_SIZE}
 use Rattle.btr_keys.specs.Layout.{Layout, made_by, ◌▸◌, part, u32}
 use Rattle.btr_keys.specs.Key.{key_layout}
 use Rattle.btr_keys.specs.declared.key.Key.{Key}

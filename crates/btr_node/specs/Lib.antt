@@ -4,6 +4,7 @@ pub use Rattle.csum_kinds.specs as csum_kinds
 pub use Rattle.refusals.specs.outside as outside
 pub use Rattle.refusals.specs as refusals
 pub use Rattle.refusals.specs.vol_block as vol_block
+pub use Rattle.btr_keys.specs.btrfs_format as btrfs_format
 pub mod Areas
 pub mod Draft
 pub mod Head

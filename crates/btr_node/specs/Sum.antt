@@ -1,7 +1,7 @@
 -- The checksum of a node: the first 32 bytes, over all bytes behind them.
 use Rattle.std.specs.Prelude.{◌≡◌, ℕ, Bool, List, take, drop}
 use Rattle.std.specs.Str.{bytes_eq}
-use Rattle.btrfs_format.specs.declared.size.TheConstants.{CSUM_SIZE}
+use Rattle.btr_keys.specs.btrfs_format.declared.size.TheConstants.{CSUM_SIZE}
 use Rattle.csum_kinds.specs.declared.kind.SumKind.{SumKind}
 use Rattle.csum_kinds.specs.Kind.{kind_sum}
 

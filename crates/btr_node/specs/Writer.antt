@@ -1,6 +1,6 @@
 -- What a writer keeps: the buffer is the node's bytes, but for the head and the checksum.
 use Rattle.std.specs.Prelude.{◌≡◌, ℕ, ◌+◌, ◌-◌, Bool, List, length, map}
-use Rattle.btrfs_format.specs.declared.size.TheConstants.{HEADER_SIZE, ITEM_SIZE, KEY_PTR_SIZE}
+use Rattle.btr_keys.specs.btrfs_format.declared.size.TheConstants.{HEADER_SIZE, ITEM_SIZE, KEY_PTR_SIZE}
 use Rattle.btr_node.specs.Draft.{Draft, IsDraft, contents, data_of}
 use Rattle.btr_node.specs.Head.{behind_head}
 use Rattle.btr_node.specs.Inner.{child_layout}

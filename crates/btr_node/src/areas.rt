@@ -5,7 +5,7 @@ ghost use Rattle.btr_node.specs.Leaf.{item_layout};
 ghost use Rattle.btr_node.specs.Records.{records_in};
 
 use crate::item::BtrItemHead;
-use btrfs_format::size::ITEM_SIZE;
+use btr_keys::btrfs_format::size::ITEM_SIZE;
 
 /// Whether the data of `count` items lies behind their heads and in the node, and no two share a byte.
 ///

@@ -9,7 +9,7 @@ use crate::child::Child;
 use crate::head::Head;
 use crate::put::{put_child, put_head, put_item};
 use btr_keys::Key;
-use btrfs_format::size::{HEADER_SIZE, ITEM_SIZE, KEY_PTR_SIZE};
+use btr_keys::btrfs_format::size::{HEADER_SIZE, ITEM_SIZE, KEY_PTR_SIZE};
 use csum_kinds::SumKind;
 use refusals::Memory;
 use std::alloc::Global;

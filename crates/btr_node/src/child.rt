@@ -2,7 +2,7 @@ ghost use Rattle.std.specs.Prelude.{◌≡◌, ◌≤◌, ◌+◌, length, drop}
 ghost use Rattle.btr_node.specs.Inner.{child_layout};
 
 use btr_keys::Key;
-use btrfs_format::size::KEY_PTR_SIZE;
+use btr_keys::btrfs_format::size::KEY_PTR_SIZE;
 use refusals::u64_at;
 
 /// A child of an inner node, 33 bytes, as the Btrfs on-disk format documentation has it.

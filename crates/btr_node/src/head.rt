@@ -3,7 +3,7 @@ ghost use Rattle.btr_keys.specs.Layout.{spelling};
 ghost use Rattle.btr_node.specs.Head.{head_layout, head_in, behind_head, expected, has_head};
 
 use crate::expect::Expect;
-use btrfs_format::size::{CSUM_SIZE, HEADER_REST_SIZE, HEADER_SIZE};
+use btr_keys::btrfs_format::size::{CSUM_SIZE, HEADER_REST_SIZE, HEADER_SIZE};
 use csum_kinds::SumKind;
 use refusals::{Field, put_fields, u32_at, u64_at};
 

@@ -9,7 +9,7 @@ use crate::expect::Expect;
 use crate::head::{Head, behind_head, has_head};
 use crate::order::keys_ascend;
 use crate::sum::has_sum;
-use btrfs_format::size::HEADER_SIZE;
+use btr_keys::btrfs_format::size::HEADER_SIZE;
 use refusals::BtrRule;
 use std::marker::Model;
 

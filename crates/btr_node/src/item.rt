@@ -2,7 +2,7 @@ ghost use Rattle.std.specs.Prelude.{◌≡◌, ◌≤◌, ◌+◌, length, drop}
 ghost use Rattle.btr_node.specs.Leaf.{item_layout};
 
 use btr_keys::Key;
-use btrfs_format::size::ITEM_SIZE;
+use btr_keys::btrfs_format::size::ITEM_SIZE;
 use refusals::u32_at;
 
 /// The head of a leaf's item, 25 bytes, as the Btrfs on-disk format documentation has it.

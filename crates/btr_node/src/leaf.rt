@@ -11,7 +11,7 @@ use crate::item::BtrItemHead;
 use crate::order::keys_ascend;
 use crate::sum::has_sum;
 use btr_keys::Key;
-use btrfs_format::size::HEADER_SIZE;
+use btr_keys::btrfs_format::size::HEADER_SIZE;
 use refusals::BtrRule;
 use std::marker::Model;
 

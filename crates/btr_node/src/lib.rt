@@ -20,8 +20,10 @@ mod put;
 mod sum;
 mod writer;
 
+pub use btr_keys;
 pub use btr_keys::{
     DirEntry, DirItems, DiskRange, ExtentContent, Extref, FileExtent, Inode, InodeRef, Key, Stamp,
+    btrfs_format,
 };
 pub use child::Child;
 pub use csum_kinds::{SumKind, data_ref_hash, kind_sum, kind_width, name_hash};
@@ -35,6 +37,6 @@ pub use laws::{
 pub use leaf::LeafView;
 pub use refusals::{
     Access, Block, BlockNo, BlockSource, BtrAnswer, BtrRefusal, BtrRule, CopyList, Disk, Fault,
-    Feature, Ids, Memory, VolAnswer, VolumeRefusal, u16_at,
+    Feature, Ids, Memory, VolAnswer, VolumeRefusal, u16_at, vol_block,
 };
 pub use writer::{Full, NodeWriter};

@@ -9,7 +9,7 @@ use crate::child::Child;
 use crate::head::Head;
 use crate::item::BtrItemHead;
 use btr_keys::Key;
-use btrfs_format::size::{CSUM_SIZE, HEADER_SIZE, ITEM_SIZE, KEY_PTR_SIZE};
+use btr_keys::btrfs_format::size::{CSUM_SIZE, HEADER_SIZE, ITEM_SIZE, KEY_PTR_SIZE};
 use csum_kinds::{SumKind, kind_sum};
 use refusals::{Field, put_fields};
 

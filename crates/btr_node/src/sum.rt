@@ -1,7 +1,7 @@
 ghost use Rattle.std.specs.Prelude.{◌≡◌, ◌≤◌, length};
 ghost use Rattle.btr_node.specs.Sum.{has_sum};
 
-use btrfs_format::size::{CSUM_SIZE, HEADER_SIZE};
+use btr_keys::btrfs_format::size::{CSUM_SIZE, HEADER_SIZE};
 use csum_kinds::{SumKind, kind_sum};
 
 /// Whether the first 32 bytes of a node are the checksum of the bytes behind them.

@@ -26,21 +26,3 @@ among_later xs ys e none h = subst (λ (z : List BtrRefusal). IsAmong (or_later 
 
 pub none_later : (xs ys : List BtrRefusal) → xs ≡ [] → ys ≡ [] → or_later xs ys ≡ []
 none_later xs ys a b = ap (λ (z : List BtrRefusal). or_later z ys) a ∙ b
-
-abbrev err_of : {T : Type 0} → BtrAnswer → Result T BtrAnswer
-err_of e = Err e
-
-as_err : {T : Type 0} (e : BtrAnswer) → e ≡ Fault → err_of {T = T} e ≡ err_of Fault
-as_err e is = ap (λ (x : BtrAnswer). err_of x) is
-
-from_err : {T : Type 0} (e : BtrAnswer) → err_of {T = T} e ≡ err_of Fault → e ≡ Fault
-from_err e is = cc is
-
--- an answer that is handed on, after calls that left the count
-pub handed_on : {T U : Type 0} (e : BtrAnswer) (first before now : ℕ) → before ≡ first → HasCauseOf {T = T} {E = BtrAnswer} Fault before now (Err e) → HasCauseOf {T = U} {E = BtrAnswer} Fault first now (Err e)
-handed_on e first before now same h =
-    record {
-      later = subst (λ (n : ℕ). n ≤ now) same h.later;
-      failed = λ is. subst (λ (n : ℕ). Rose n now) same (h.failed (as_err e (from_err e is)));
-      kept = λ other. h.kept (λ is. other (as_err e (from_err e is))) ∙ same;
-    }

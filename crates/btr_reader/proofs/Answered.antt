@@ -1,9 +1,9 @@
 -- What is answered where the rows of a volume are read.
-use Rattle.btr_reader.proofs.Imports.{◌≡◌, inl, inr, ℕ, Bool, List, [], map, Contains, Option, Some, None, ◌∙◌, ap, subst, OnOk, MatchResult, FS_TREE, Image, BtrAnswer, Refused, Fault, Memory, BtrRefusal, Super, MapRange, NodePointer, Tree, TreeItem, found, wrong, WholeRow, row_of, Row, NodeId, has_root, BreaksNames, KeepsNames, NameTable, AreNamed, links_of, AreTreeLinks, AreSound, wanted_at, RefusesContents, IsChecked, IsMemory, RefusesChecked, RefusesRows, RefusesTree, tree_of, FindsTree, root_item, pointer_of, AreRows, AreBtrfsRows, BreaksExtents, CanBeRead, roots_on, IsFileTreeRefusal, no_root_item, bad_root_item, bad_tree, bad_names, bad_extents}
+use Rattle.btr_reader.proofs.Imports.{◌≡◌, inl, inr, ℕ, Bool, List, [], map, Contains, Option, Some, None, ◌∙◌, ap, subst, OnOk, MatchResult, FS_TREE, Image, BtrAnswer, Refused, Fault, Memory, BtrRefusal, Super, MapRange, NodePointer, Tree, TreeItem, found, wrong, WholeRow, row_of, Row, NodeId, has_root, BreaksNames, KeepsNames, NameTable, AreNamed, links_of, AreTreeLinks, wanted_at, RefusesContents, IsChecked, IsMemory, RefusesChecked, RefusesRows, RefusesTree, tree_of, FindsTree, root_item, pointer_of, AreRows, AreBtrfsRows, BreaksExtents, CanBeRead, roots_on, IsFileTreeRefusal, no_root_item, bad_root_item, bad_tree, bad_names, bad_extents}
 use Rattle.std.specs.Prelude.{Result, Ok, Err, IfOk, IfErr}
 use Rattle.btr_reader_names.specs.Read.{BlamesTree}
 use Rattle.btr_reader_names.specs.Refuses.{RefusesNames}
-use Rattle.btr_reader.proofs.Bridging.{breaks_named, extents_right, none_among}
+use Rattle.btr_reader.proofs.Bridging.{breaks_named, none_among}
 
 some_none : {X : Type 0} (x : X) (o : Option X) → o ≡ Some x → o ≡ None → ⊥
 some_none x o some none = cc
@@ -47,11 +47,6 @@ pub without_log : (image : Image) (s : Super) (ranges : List MapRange) (result :
     → MatchResult result (λ rows. (s.log_root ≡ 0) × ((whole : List WholeRow) × AreBtrfsRows image s ranges whole × (rows ≡ map row_of whole))) (RefusesRows image s ranges)
 without_log image s ranges (Ok rows) none h = (none, h)
 without_log image s ranges (Err e) none h = tree_or_log image s ranges e none h
-
-pub checked_without_log : {X : Type 0} (image : Image) (s : Super) (ranges : List MapRange) (result : Result X BtrAnswer) → s.log_root ≡ 0 → MatchResult result (λ _. CanBeRead image s ranges) (RefusesTree image s ranges)
-    → MatchResult result (λ _. (s.log_root ≡ 0) × CanBeRead image s ranges) (RefusesRows image s ranges)
-checked_without_log image s ranges (Ok x) none h = (none, h)
-checked_without_log image s ranges (Err e) none h = tree_or_log image s ranges e none h
 
 module _ (image : Image) (s : Super) (ranges : List MapRange) (i : TreeItem) (p : NodePointer) (there : root_item FS_TREE (roots_on image s ranges) ≡ Some i) (at : pointer_of i.body ≡ Some p) where
   abbrev items : List TreeItem
@@ -104,11 +99,3 @@ module _ (image : Image) (s : Super) (ranges : List MapRange) (i : TreeItem) (p 
         → MatchResult result (λ rows. (whole : List WholeRow) × AreBtrfsRows image s ranges whole × (rows ≡ map row_of whole)) (RefusesTree image s ranges)
     rows_answered (Ok rows) (whole, are, made) = (whole, record { readable = readable; item = i; has_item = there; at = p; has_root = at; rows_are = are }, made)
     rows_answered (Err e) h = of_memory image s ranges e h
-
-  -- what a check of the contents answers
-  pub tree_checked : {X : Type 0} (slice : List MapRange) (t : Tree) (same : slice ≡ ranges) (is : t ≡ tree_of s FS_TREE p) (has : NodeId → Bool) (result : Result X BtrAnswer) → wrong image ranges (tree_of s FS_TREE p) ≡ [] → KeepsNames roots items p.address
-      → AreNamed items has → OnOk result (AreSound (wanted_at has (found image slice t)) slice (found image slice t)) → IfErr result (RefusesContents (wanted_at has (found image slice t)) image slice t)
-      → MatchResult result (λ _. CanBeRead image s ranges) (RefusesTree image s ranges)
-  tree_checked slice t same is has (Ok x) sound keeps named right refused =
-      readable sound keeps (extents_right roots items p.address keeps has named ranges (here slice t same is (λ r x. AreSound (wanted_at has (found image r x)) r (found image r x)) right))
-  tree_checked slice t same is has (Err e) sound keeps named right refused = contents_refused slice t same is has e named refused

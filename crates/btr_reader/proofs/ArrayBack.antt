@@ -29,9 +29,6 @@ chunk_made c fits =
     ∙ ap (λ (m : Option Stripe). let o : Option ChunkAt = Some (record { logical = c.logical; chunk = c.chunk; mirror = m }) in o) lone
 
 module _ (c : ChunkAt) (fits : FitsArray c) (rest : List ℕ) where
-  own : Key
-  own = make_key FIRST_CHUNK_TREE_OBJECTID CHUNK_ITEM c.logical
-
   key_len : length (key_bytes (make_key FIRST_CHUNK_TREE_OBJECTID CHUNK_ITEM c.logical)) ≡ 17
   key_len = key_reads.len (make_key FIRST_CHUNK_TREE_OBJECTID CHUNK_ITEM c.logical) (fits_key c.logical fits.logical) ∙ key_width
 

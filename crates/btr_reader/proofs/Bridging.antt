@@ -1,5 +1,5 @@
 -- What is wrong with the extents of what is kept, and with those of named files and symlinks.
-use Rattle.btr_reader.proofs.Imports.{◌≡◌, ◌⊎◌, inl, inr, ⊎_elim, ℕ, ◌≤◌, nat_le, Bool, true, false, if◌then◌else◌, List, [], Contains, Option, Some, None, refl, sym, ◌∙◌, ap, subst, arith, cases_lt, nat_tests, option_and_then, Image, BtrRefusal, Inode, MapRange, TreeItem, extents_of, extents_refusals, Kind, Directory, File, Symlink, Character, Block, Fifo, Socket, Subvolume, NodeId, inode_on, kind_of_mode, HasKind, IsNamedInode, KeepsNames, inode_node, AreNamed, Content, Wanted, AreSound, wanted_by, wanted_inode, wanted_at, TellsContent, HasContents, BreaksExtents}
+use Rattle.btr_reader.proofs.Imports.{◌≡◌, ◌⊎◌, inl, inr, ⊎_elim, ℕ, ◌≤◌, nat_le, Bool, true, false, if◌then◌else◌, List, [], Contains, Option, Some, None, refl, sym, ◌∙◌, ap, subst, arith, cases_lt, nat_tests, option_and_then, Image, BtrRefusal, Inode, MapRange, TreeItem, extents_of, extents_refusals, Kind, File, Symlink, NodeId, inode_on, kind_of_mode, HasKind, IsNamedInode, KeepsNames, inode_node, AreNamed, Content, Wanted, wanted_by, wanted_inode, wanted_at, TellsContent, HasContents, BreaksExtents}
 use Rattle.btr_reader_contents.specs.Contents as kept
 use Rattle.btr_reader.proofs.Known.{not_long}
 
@@ -9,12 +9,7 @@ no_some x e = cc e
 wanted_kind : (size : ℕ) (k : Kind) (w : Wanted) → wanted_by size k ≡ Some w → (k ≡ File) ⊎ (k ≡ Symlink)
 wanted_kind size File w is = inl refl
 wanted_kind size Symlink w is = inr refl
-wanted_kind size Directory w is = absurd (no_some w is)
-wanted_kind size Character w is = absurd (no_some w is)
-wanted_kind size Block w is = absurd (no_some w is)
-wanted_kind size Fifo w is = absurd (no_some w is)
-wanted_kind size Socket w is = absurd (no_some w is)
-wanted_kind size Subvolume w is = absurd (no_some w is)
+wanted_kind size _ w is = absurd (no_some w is)
 
 -- what is wanted is a named file or symlink
 kind_in : (items : List TreeItem) (ino : ℕ) (own : Inode) (w : Wanted) (k : Option Kind) → inode_on items ino ≡ Some own → kind_of_mode own.mode ≡ k → option_and_then (wanted_by own.size) k ≡ Some w
@@ -68,17 +63,14 @@ module _ (has_root : ℕ → Bool) (items : List TreeItem) (root_at : ℕ) (keep
       let link : Wanted = record { link = true; size = own.size } in
       ap (option_and_then (wanted_by own.size)) kind ∙ ap (λ (b : Bool). if b then Some link else None) (short ino own is on kind)
 
-  module _ (ranges : List MapRange) (sound_of : AreSound (wanted_at has items) ranges items) where
+  module _ (image : Image) (ranges : List MapRange) (told : ℕ → Option Content) (contents : HasContents (wanted_at has items) image ranges items told) where
     sound_by : (ino : ℕ) → IsNamedInode items ino → HasKind items ino File ⊎ HasKind items ino Symlink → extents_refusals ranges 0 0 (extents_of items ino) ≡ []
     sound_by ino is (inl (own, on, kind)) =
         let w : Wanted = record { link = false; size = own.size } in
-        sound_of ino w (wanted_of ino own (Some w) is on (file_wanted own kind))
+        told_sound image ranges items ino w (told ino) (contents ino w (wanted_of ino own (Some w) is on (file_wanted own kind)))
     sound_by ino is (inr (own, on, kind)) =
         let w : Wanted = record { link = true; size = own.size } in
-        sound_of ino w (wanted_of ino own (Some w) is on (link_wanted ino own is on kind))
+        told_sound image ranges items ino w (told ino) (contents ino w (wanted_of ino own (Some w) is on (link_wanted ino own is on kind)))
 
-    pub extents_right : (r : BtrRefusal) → BreaksExtents ranges items r → ⊥
-    extents_right r b = none_among (extents_refusals ranges 0 0 (extents_of items b.ino)) r (sound_by b.ino b.named b.kind) b.among
-
-  pub extents_sound : (image : Image) (ranges : List MapRange) (told : ℕ → Option Content) → HasContents (wanted_at has items) image ranges items told → (r : BtrRefusal) → BreaksExtents ranges items r → ⊥
-  extents_sound image ranges told contents = extents_right ranges (λ ino w planned. told_sound image ranges items ino w (told ino) (contents ino w planned))
+    pub extents_sound : (r : BtrRefusal) → BreaksExtents ranges items r → ⊥
+    extents_sound r b = none_among (extents_refusals ranges 0 0 (extents_of items b.ino)) r (sound_by b.ino b.named b.kind) b.among

@@ -1,7 +1,5 @@
 pub use Rattle.btr_reader_walk.proofs.btr_keys as btr_keys
 pub use Rattle.btr_reader_walk.proofs.btr_node as btr_node
-pub use Rattle.btr_space_items.proofs as btr_space_items
-pub use Rattle.btr_super.proofs as btr_super
 pub use Rattle.btr_super.proofs.csum_kinds as csum_kinds
 pub use Rattle.fs_paths.proofs as fs_paths
 pub mod Adding
@@ -25,7 +23,6 @@ pub mod Noting
 pub mod OneExtent
 pub mod OneRows
 pub mod Opens
-pub mod Ordered
 pub mod PartsRead
 pub mod RootNames
 pub mod RowContents

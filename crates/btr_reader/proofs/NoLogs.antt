@@ -48,8 +48,3 @@ pub names_none : (r : BtrRefusal) → NamesNoLog r → (address : ℕ) → ¬ (S
 names_none (BadBtrfs at rule) h address is = cc is
 names_none (Unsupported feature value) h address is = cc is
 names_none (LogPending at) h address is = h
-
-pub none_named : (r : BtrRefusal) → ((address : ℕ) → ¬ (Some r ≡ Some (LogPending address))) → NamesNoLog r
-none_named (BadBtrfs at rule) h = tt
-none_named (Unsupported feature value) h = tt
-none_named (LogPending at) h = absurd (h at refl)

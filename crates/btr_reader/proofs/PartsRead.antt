@@ -98,15 +98,6 @@ rows_listed image volume (Ok rows) on none (log, told) = (
 )
 rows_listed image volume (Err e) on none refuses = tree_refuses image volume.sup volume.ranges.items e none on.opened refuses
 
--- whether the rows of such a volume can be read
-pub rows_checked : {X : Type 0} (image : Image) (volume : Btrfs) (result : Result X BtrAnswer) → IsVolumeOn image volume → volume.sup.log_root ≡ 0
-    → MatchResult result (λ _. (volume.sup.log_root ≡ 0) × CanBeRead image volume.sup volume.ranges.items) (RefusesRows image volume.sup volume.ranges.items) → MatchResult result (λ _. HasBtrfsRows image) (RefusesBtrfsRows image)
-rows_checked image volume (Ok x) on none told = record {
-  log = no_log image volume.sup on.opened.super none;
-  tree = tree_readable image volume.sup volume.ranges.items on.opened told.1;
-}
-rows_checked image volume (Err e) on none refuses = tree_refuses image volume.sup volume.ranges.items e none on.opened refuses
-
 -- the answer of a superblock that is read from block 16
 pub super_answer : (image : Image) (block : List ℕ) (device : ℕ) (e : BtrAnswer) → block ≡ block_at image SUPER_BLOCK → device ≡ length image → IsSuperAnswer (super_of block SUPER_BLOCK device) e → IsSuperAnswer (super_on image) e
 super_answer image block device (Refused r) is size h = read_here image block device (Err r) is size h

@@ -1,6 +1,6 @@
 -- What the row of an inode has of its bytes.
 use Rattle.btr_reader.proofs.Imports.{◌≡◌, ℕ, ◌≤◌, nat_le, Bool, true, false, List, [], replicate, Option, Some, None, IfOk, Result, Ok, Err, if◌then◌else◌, refl, sym, ap, ◌∙◌, arith, option_and_then, nat_tests, Image, Inode, MapRange, TreeItem, bytes_of_inode, kind_of_mode, Content, Wanted, wanted_by, wanted_inode, content_of, content_in, Kind, Directory, File, Symlink, Character, Block, Fifo, Socket, Subvolume, bytes_at}
-use Rattle.fs_rows.specs.Content.{IsContent}
+use Rattle.fs_paths.specs.fs_rows.Content.{IsContent}
 
 no_some : {X : Type 0} (x : X) → None ≡ Some x → ⊥
 no_some x is = cc is
@@ -45,21 +45,3 @@ module _ (image : Image) (ranges : List MapRange) (items : List TreeItem) (ino :
   pub content_kept : {E : Type 0} (kind : Kind) (w : Wanted) (r : Result Content E) → kind_of_mode own.mode ≡ Some kind → wanted_inode own ≡ Some w → IfOk r (λ c. c ≡ content_in image ranges items ino w) → IfOk r (λ c. Has kind c.length c.mark c.target)
   content_kept kind w (Ok c) known wanted is = kept_by kind w c (wanted_is own kind (Some w) known wanted) is
   content_kept kind w (Err e) known wanted is = is
-
-  none_by : (kind : Kind) (size : ℕ) (mark target : List ℕ) → wanted_by own.size kind ≡ None → (kind ≡ Symlink → own.size ≤ 4095) → size ≡ 0 → mark ≡ replicate 32 0 → target ≡ [] → Has kind size mark target
-  none_by File size mark target wanted short zero zeros none = absurd (no_some _ (sym wanted))
-  none_by Symlink size mark target wanted short zero zeros none =
-      let fits : nat_le own.size 4095 ≡ true = grind (arith, nat_tests, short refl) in
-      absurd (no_some _ (sym wanted ∙ ap (λ (b : Bool). if b then Some (record { link = true; size = own.size }) else None) fits))
-  none_by Directory size mark target wanted short zero zeros none = record { is_length = zero; is_mark = zeros; is_target = none }
-  none_by Character size mark target wanted short zero zeros none = record { is_length = zero; is_mark = zeros; is_target = none }
-  none_by Block size mark target wanted short zero zeros none = record { is_length = zero; is_mark = zeros; is_target = none }
-  none_by Fifo size mark target wanted short zero zeros none = record { is_length = zero; is_mark = zeros; is_target = none }
-  none_by Socket size mark target wanted short zero zeros none = record { is_length = zero; is_mark = zeros; is_target = none }
-  none_by Subvolume size mark target wanted short zero zeros none = record { is_length = zero; is_mark = zeros; is_target = none }
-
-  -- another inode has nothing
-  pub content_none : {E : Type 0} (kind : Kind) (r : Result Content E) → kind_of_mode own.mode ≡ Some kind → wanted_inode own ≡ None → (kind ≡ Symlink → own.size ≤ 4095) → IfOk r (λ c. c.length ≡ 0) → IfOk r (λ c. c.mark ≡ replicate 32 0)
-      → IfOk r (λ c. c.target ≡ []) → IfOk r (λ c. Has kind c.length c.mark c.target)
-  content_none kind (Ok c) known wanted short zero zeros none = none_by kind c.length c.mark c.target (wanted_is own kind None known wanted) short zero zeros none
-  content_none kind (Err e) known wanted short zero zeros none = zero

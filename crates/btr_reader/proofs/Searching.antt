@@ -1,5 +1,6 @@
 -- The piece that holds a block, found by halves.
-use Rattle.btr_reader.proofs.Imports.{◌≡◌, ℕ, zero, suc, ◌+◌, ◌-◌, ◌*◌, ◌/◌, ◌<◌, ◌≤◌, Bool, true, false, List, [], ◌∷◌, length, get_or, Option, Some, None, if◌then◌else◌, leb, ⊎_elim, refl, ap, ◌∙◌, arith, option_map, cases_lt, nat_tests, IsPartitionedBy-leb, MapRange, place, MappedExtent, IsExtentBefore, AscendApart, holds_block, block_in, or_else, pieces_place}
+use Rattle.btr_reader.proofs.Imports.{◌≡◌, ℕ, zero, suc, ◌+◌, ◌-◌, ◌*◌, ◌/◌, ◌<◌, ◌≤◌, Bool, true, false, List, [], ◌∷◌, length, get_or, Option, Some, None, if◌then◌else◌, leb, ⊎_elim, refl, ap, ◌∙◌, arith, option_map, cases_lt, nat_tests, IsPartitionedBy-leb, MapRange, place, MappedExtent, holds_block, block_in, or_else, pieces_place}
+use Rattle.btr_reader.specs.Ascending.{IsExtentBefore, AscendApart}
 use Rattle.std.specs.List.Sorted.{IsPartitionedBy, IsPartitionPoint, IsNonDecreasingBy}
 
 rises : (ps : List MappedExtent) → AscendApart ps → IsNonDecreasingBy (λ (p : MappedExtent). p.first) ps

@@ -29,28 +29,6 @@ root_item_refused s number next root (Refused r) (i, is, none, off) =
 root_item_refused s number next root Fault finds = tt
 root_item_refused s number next root Memory finds = tt
 
--- a regular file: its refusals are those of its extents
-refusals_of_file : (ranges : List MapRange) (items : List TreeItem) (ino : ℕ) (i : TreeItem) (own : Inode) → inode_of i.body ≡ Some own → is_file_mode own.mode ≡ true
-    → file_refusals ranges items ino (Some i) ≡ extents_refusals ranges 0 0 (extents_of items ino)
-refusals_of_file ranges items ino i own read regular =
-    let extents : List TreeItem = extents_of items ino in
-    ap (own_refusals ranges extents i.leaf) read ∙ ap (λ t. if t then extents_refusals ranges 0 0 extents else []) regular
-
-pub among_file : (ranges : List MapRange) (items : List TreeItem) (ino : ℕ) (item : Option TreeItem) (own : Inode) (e : BtrAnswer) → FindsFile item (Ok (Some own))
-    → IsAmong (extents_refusals ranges 0 0 (extents_of items ino)) e → IsAmong (file_refusals ranges items ino item) e
-among_file ranges items ino None own e finds bad = absurd finds
-among_file ranges items ino (Some i) own e finds bad = subst (λ (z : List BtrRefusal). IsAmong z e) (sym (refusals_of_file ranges items ino i own finds.0 finds.1)) bad
-
--- a map of a file is one of what its inode item gives
-pub file_maps : (ranges : List MapRange) (items : List TreeItem) (ino : ℕ) (item : Option TreeItem) (own : Inode) (map : Option ImageMap) → FindsFile item (Ok (Some own))
-    → (is_file_mode own.mode ≡ true → MapsImage ranges map (file_if_image (extents_of items ino) (Some own))) → extents_refusals ranges 0 0 (extents_of items ino) ≡ []
-    → MapsImage ranges map (image_at items ino item) × (file_refusals ranges items ino item ≡ [])
-file_maps ranges items ino None own map finds maps none = absurd finds
-file_maps ranges items ino (Some i) own map finds maps none = (
-  subst (λ (o : Option Inode). MapsImage ranges map (file_if_image (extents_of items ino) o)) (sym finds.0) (maps finds.1),
-  refusals_of_file ranges items ino i own finds.0 finds.1 ∙ none,
-)
-
 -- a tree that is there
 after_there : (next : NodePointer → List BtrRefusal) (root : Option TreeItem) (i : TreeItem) (p : NodePointer) → root ≡ Some i → pointer_of i.body ≡ Some p → after_root next root ≡ next p
 after_there next root i p is read = ap (after_root next) is ∙ ap (after_pointer next i.leaf) read
@@ -172,11 +150,3 @@ module _ (image : Image) (s : Super) (ranges : List MapRange) where
 pub later_none : (xs ys : List BtrRefusal) → or_later xs ys ≡ [] → ys ≡ []
 later_none [] ys h = h
 later_none (x ∷ xs) ys h = absurd (cc h)
-
--- nothing is wrong with the root tree of a volume that was opened
-pub root_right : (image : Image) (s : Super) (ranges : List MapRange) → IsBtrfsOpened image s ranges → wrong image ranges (root_tree s) ≡ []
-root_right image s ranges k =
-    let boot : List ChunkAt = boot_list (boot_chunks s) in
-    let trees : trees_refusals image s boot ≡ [] =
-    later_none (boot_refusals (length image) (boot_chunks s)) (trees_refusals image s boot) (sym (opening_is image s k.super) ∙ k.sound) in
-    subst (λ (r : List MapRange). wrong image r (root_tree s) ≡ []) (sym k.map_is) (later_none _ (wrong image (map_from image s boot) (root_tree s)) trees)

@@ -2,7 +2,7 @@
 use Rattle.std.specs.Prelude.{◌≡◌, ℕ, ◌+◌, ◌*◌, ◌/◌, ◌<◌, Bool, false, not, ◌&&◌, nat_eq, bytes_eq, List, length, map, Contains, Option, Some, None}
 use Rattle.std.specs.List.{All}
 use Rattle.std.specs.Option.{option_and_then}
-use Rattle.btrfs_format.specs.declared.object.TheConstants.{FS_TREE}
+use Rattle.btr_space_items.specs.btrfs_format.declared.object.TheConstants.{FS_TREE}
 use Rattle.btr_reader_walk.specs.outside.History.{Image, block_at}
 use Rattle.btr_reader_contents.specs.Extents.{extents_of, is_hole}
 use Rattle.btr_reader_walk.specs.btr_keys.FileExtent.{ContentValue, FileExtentValue, Inline, Prealloc, Regular, file_extent_of}

@@ -2,10 +2,10 @@
 use Rattle.std.specs.Prelude.{ℕ, zero, suc, ◌+◌, ◌*◌, ◌%◌, ◌==◌, nat_eq, nat_lt, nat_le, max, min, Bool, true, false, ◌&&◌, ◌||◌, if◌then◌else◌, List, [], ◌∷◌, ◌++◌, length, drop, slice_range, Option, Some, None}
 use Rattle.std.specs.List.{list_any}
 use Rattle.std.specs.Option.{option_map, option_and_then}
-use Rattle.btrfs_format.specs.declared.flag.TheConstants.{BLOCK_GROUP_DATA, BLOCK_GROUP_DUP, BLOCK_GROUP_METADATA, BLOCK_GROUP_SYSTEM}
-use Rattle.btrfs_format.specs.declared.key.TheConstants.{CHUNK_ITEM}
-use Rattle.btrfs_format.specs.declared.object.TheConstants.{FIRST_CHUNK_TREE_OBJECTID}
-use Rattle.btrfs_format.specs.declared.size.TheConstants.{CHUNK_HEAD_SIZE, CHUNK_SIZE, KEY_SIZE, STRIPE_SIZE, SYSTEM_CHUNK_SIZE}
+use Rattle.btr_space_items.specs.btrfs_format.declared.flag.TheConstants.{BLOCK_GROUP_DATA, BLOCK_GROUP_DUP, BLOCK_GROUP_METADATA, BLOCK_GROUP_SYSTEM}
+use Rattle.btr_space_items.specs.btrfs_format.declared.key.TheConstants.{CHUNK_ITEM}
+use Rattle.btr_space_items.specs.btrfs_format.declared.object.TheConstants.{FIRST_CHUNK_TREE_OBJECTID}
+use Rattle.btr_space_items.specs.btrfs_format.declared.size.TheConstants.{CHUNK_HEAD_SIZE, CHUNK_SIZE, KEY_SIZE, STRIPE_SIZE, SYSTEM_CHUNK_SIZE}
 use Rattle.btr_reader_walk.specs.refusals.declared.refusal.BtrRefusal.{BtrRefusal}
 use Rattle.btr_reader_walk.specs.refusals.declared.refusal.BtrRefusal.TheVariants.{BadBtrfs, Unsupported}
 use Rattle.btr_reader_walk.specs.refusals.declared.rule.BtrRule.TheVariants.{ChunkForm}

@@ -1,8 +1,8 @@
 -- What holds of an opened volume.
 use Rattle.std.specs.Prelude.{◌≡◌, ℕ, ◌+◌, ◌^◌, ◌≤◌, ◌<◌, AllPairs, Contains, List, ◌++◌, length, map, None, Some}
 use Rattle.std.specs.List.{flat_map, AllByRecursion}
-use Rattle.btrfs_format.specs.declared.key.TheConstants.{CHUNK_ITEM}
-use Rattle.btrfs_format.specs.declared.object.TheConstants.{FIRST_CHUNK_TREE_OBJECTID}
+use Rattle.btr_space_items.specs.btrfs_format.declared.key.TheConstants.{CHUNK_ITEM}
+use Rattle.btr_space_items.specs.btrfs_format.declared.object.TheConstants.{FIRST_CHUNK_TREE_OBJECTID}
 use Rattle.btr_reader_walk.specs.btr_keys.Key.{key_bytes, make_key}
 use Rattle.btr_space_items.specs.Chunk.{chunk_layout, chunk_bytes}
 use Rattle.btr_reader.specs.declared.chunk.ChunkAt.{ChunkAt}
@@ -14,7 +14,7 @@ use Rattle.btr_reader_walk.specs.Events.{TreeItem}
 use Rattle.btr_reader_contents.specs.Blocks.{AreInBlocks}
 use Rattle.btr_reader_contents.specs.Extents.{extents_of, extent_length, content_byte}
 use Rattle.btr_reader_names.specs.Links.{IsNamedInode}
-use Rattle.fs_rows.specs.Rows.{WholeRow}
+use Rattle.fs_paths.specs.fs_rows.Rows.{WholeRow}
 use Rattle.btr_reader.specs.Opening.{IsBtrfsOpened, boot_chunks}
 use Rattle.btr_reader.specs.Rows.{AreRows, AreBtrfsRows}
 

@@ -7,10 +7,11 @@ pub use Rattle.btr_space_items.specs as btr_space_items
 pub use Rattle.btr_super.specs as btr_super
 pub use Rattle.btr_reader_walk.specs.castagnoli as castagnoli
 pub use Rattle.btr_reader_walk.specs.csum_kinds as csum_kinds
-pub use Rattle.fs_rows.specs as fs_rows
+pub use Rattle.fs_paths.specs.fs_rows as fs_rows
 pub use Rattle.btr_reader_walk.specs.outside as outside
 pub use Rattle.btr_reader_walk.specs.refusals as refusals
 pub use Rattle.btr_reader_walk.specs.vol_block as vol_block
+pub use Rattle.btr_space_items.specs.btrfs_format as btrfs_format
 pub mod Apart
 pub mod Ascending
 pub mod Chunks

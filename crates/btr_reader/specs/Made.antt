@@ -8,16 +8,16 @@ use Rattle.btr_super.specs.declared.superblock.Super.{Super}
 use Rattle.btr_reader_walk.specs.btr_keys.declared.inode.Inode.{Inode}
 use Rattle.btr_reader_walk.specs.declared.map.MapRange.{MapRange}
 use Rattle.btr_reader_walk.specs.Events.{TreeItem}
-use Rattle.fs_rows.specs.Rows.{NameList, WholeRow}
-use Rattle.fs_rows.specs.declared.row.Kind.{Kind}
-use Rattle.fs_rows.specs.declared.row.Kind.TheVariants.{File}
+use Rattle.fs_paths.specs.fs_rows.Rows.{NameList, WholeRow}
+use Rattle.fs_paths.specs.fs_rows.declared.row.Kind.{Kind}
+use Rattle.fs_paths.specs.fs_rows.declared.row.Kind.TheVariants.{File}
 use Rattle.fs_paths.specs.declared.node_link.PathTo.{PathTo}
 use Rattle.fs_paths.specs.declared.node.NodeId.{NodeId}
-use Rattle.fs_rows.specs.declared.content.Content.{Content}
+use Rattle.fs_paths.specs.fs_rows.declared.content.Content.{Content}
 use Rattle.btr_reader_contents.specs.Contents.{wanted_at, HasContents}
 use Rattle.btr_reader_names.specs.declared.table.NameTable.{NameTable}
 use Rattle.btr_reader_names.specs.Inodes.{inode_on, kind_of_mode}
-use Rattle.fs_rows.specs.Kinds.{is_directory, is_symlink, is_device, has_bytes}
+use Rattle.fs_paths.specs.fs_rows.Kinds.{is_directory, is_symlink, is_device, has_bytes}
 use Rattle.btr_reader_names.specs.Rules.{KeepsNames, BreaksNames}
 use Rattle.btr_reader_names.specs.Steps.{AreNamed, links_of}
 use Rattle.btr_reader_names.specs.Table.{HasNotedNames}

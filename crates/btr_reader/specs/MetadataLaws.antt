@@ -3,7 +3,7 @@ use Rattle.std.specs.Prelude.{◌≡◌, ◌↔◌, ℕ, Bool, List, length, Som
 use Rattle.btr_reader_walk.specs.outside.Format.{format_in}
 use Rattle.btr_reader_walk.specs.outside.History.{Image, block_at}
 use Rattle.btr_reader_walk.specs.refusals.declared.refusal.BtrRefusal.{BtrRefusal}
-use Rattle.fs_rows.specs.Rows.{WholeRow}
+use Rattle.fs_paths.specs.fs_rows.Rows.{WholeRow}
 use Rattle.btr_reader.specs.Image.{ImageFile, image_place, saved_image}
 use Rattle.btr_reader.specs.Opening.{super_on}
 use Rattle.btr_reader.specs.Parts.{AreRowsOfBtrfs, IsBtrfsRefusal, Part, log_tree, own_map, own_super}

@@ -1,7 +1,7 @@
 -- What is read of a volume as it is opened: the superblock, the chunks and the root tree.
 use Rattle.std.specs.Prelude.{◌≡◌, ℕ, ◌≤◌, List, [], ◌∷◌, ◌++◌, length, take, map, Option, Some, None, IsSome, unwrap_or, Result, Ok, Err}
-use Rattle.btrfs_format.specs.declared.block.TheConstants.{SUPER_BLOCK, SUPER_INFO_OFFSET}
-use Rattle.btrfs_format.specs.declared.object.TheConstants.{CHUNK_TREE, ROOT_TREE}
+use Rattle.btr_space_items.specs.btrfs_format.declared.block.TheConstants.{SUPER_BLOCK, SUPER_INFO_OFFSET}
+use Rattle.btr_space_items.specs.btrfs_format.declared.object.TheConstants.{CHUNK_TREE, ROOT_TREE}
 use Rattle.btr_reader_walk.specs.outside.History.{Image, block_at}
 use Rattle.btr_reader_walk.specs.refusals.declared.answer.BtrAnswer.{BtrAnswer}
 use Rattle.btr_reader_walk.specs.refusals.declared.answer.BtrAnswer.TheVariants.{Refused, Fault, Memory}

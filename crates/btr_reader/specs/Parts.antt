@@ -1,6 +1,6 @@
 -- The parts of a Btrfs volume that are read, and what each is refused by.
 use Rattle.std.specs.Prelude.{◌≡◌, ◌⊎◌, ◌==◌, ℕ, List, [], Contains, map, Option, Some, None, if◌then◌else◌, Result, Ok, Err}
-use Rattle.btrfs_format.specs.declared.block.TheConstants.{SUPER_BLOCK}
+use Rattle.btr_space_items.specs.btrfs_format.declared.block.TheConstants.{SUPER_BLOCK}
 use Rattle.btr_reader_walk.specs.outside.History.{Image, block_at}
 use Rattle.btr_reader_walk.specs.refusals.declared.answer.BtrAnswer.{BtrAnswer}
 use Rattle.btr_reader_walk.specs.refusals.declared.answer.BtrAnswer.TheVariants.{Refused, Fault, Memory}
@@ -9,8 +9,8 @@ use Rattle.btr_reader_walk.specs.refusals.declared.refusal.BtrRefusal.TheVariant
 use Rattle.btr_super.specs.declared.superblock.Super.{Super}
 use Rattle.btr_super.specs.Super.{super_in}
 use Rattle.btr_reader_walk.specs.declared.map.MapRange.{MapRange}
-use Rattle.fs_rows.specs.Rows.{WholeRow, row_of}
-use Rattle.fs_rows.specs.declared.row.Row.{Row}
+use Rattle.fs_paths.specs.fs_rows.Rows.{WholeRow, row_of}
+use Rattle.fs_paths.specs.fs_rows.declared.row.Row.{Row}
 use Rattle.btr_reader.specs.Image.{image_refusals}
 use Rattle.btr_reader.specs.Opening.{super_on, chunk_map, opening_refusals}
 use Rattle.btr_reader.specs.Rows.{AreBtrfsRows, IsFileTreeRefusal}

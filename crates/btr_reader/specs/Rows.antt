@@ -2,7 +2,7 @@
 use Rattle.std.specs.Prelude.{◌≡◌, ◌⊎◌, ℕ, ◌/◌, ◌%◌, ◌^◌, ◌==◌, pos, Bool, true, false, not, ◌&&◌, if◌then◌else◌, List, [], Contains, Some, None}
 use Rattle.std.specs.Int.{bit_at}
 use Rattle.std.specs.Ordering.{is_le}
-use Rattle.btrfs_format.specs.declared.object.TheConstants.{FIRST_FREE_OBJECTID, FS_TREE}
+use Rattle.btr_space_items.specs.btrfs_format.declared.object.TheConstants.{FIRST_FREE_OBJECTID, FS_TREE}
 use Rattle.btr_reader_walk.specs.outside.History.{Image}
 use Rattle.btr_reader_walk.specs.refusals.declared.refusal.BtrRefusal.{BtrRefusal}
 use Rattle.btr_reader_walk.specs.refusals.declared.refusal.BtrRefusal.TheVariants.{BadBtrfs}
@@ -14,13 +14,13 @@ use Rattle.btr_reader_walk.specs.declared.map.MapRange.{MapRange}
 use Rattle.btr_reader_walk.specs.declared.tree.NodePointer.{NodePointer}
 use Rattle.btr_reader_walk.specs.Events.{TreeItem}
 use Rattle.btr_reader_walk.specs.Walks.{found, wrong}
-use Rattle.fs_rows.specs.Rows.{NameList, WholeRow, AscendsByPath, path_cmp, name_count}
-use Rattle.fs_rows.specs.declared.row.Kind.TheVariants.{File, Symlink, Subvolume}
-use Rattle.fs_rows.specs.declared.row.Time.{Time}
+use Rattle.fs_paths.specs.fs_rows.Rows.{NameList, WholeRow, AscendsByPath, path_cmp, name_count}
+use Rattle.fs_paths.specs.fs_rows.declared.row.Kind.TheVariants.{File, Symlink, Subvolume}
+use Rattle.fs_paths.specs.fs_rows.declared.row.Time.{Time}
 use Rattle.btr_reader.specs.Opening.{tree_of, root_tree}
 use Rattle.btr_reader.specs.Roots.{root_item, pointer_of}
 use Rattle.btr_reader_names.specs.Inodes.{inode_on, kind_of_mode, HasKind}
-use Rattle.fs_rows.specs.Kinds.{is_device, has_bytes, is_symlink, is_directory}
+use Rattle.fs_paths.specs.fs_rows.Kinds.{is_device, has_bytes, is_symlink, is_directory}
 use Rattle.btr_reader_names.specs.Links.{IsNamedInode, Target, inode, tree, LeadsToTarget}
 use Rattle.btr_reader_names.specs.Roots.{has_root}
 use Rattle.btr_reader_names.specs.Rules.{BreaksNames}

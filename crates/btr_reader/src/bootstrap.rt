@@ -5,8 +5,8 @@ ghost use Rattle.btr_reader.specs.Opening.{IsBadArray, NamesNoLogTree};
 use crate::chunk::{ChunkAt, is_chunk_key};
 use crate::refusal::refused;
 use btr_reader_walk::{BtrAnswer, BtrRule, Key, Memory, u16_at};
-use btrfs_format::block::SUPER_INFO_OFFSET;
-use btrfs_format::size::{CHUNK_HEAD_SIZE, KEY_SIZE, STRIPE_SIZE};
+use btr_space_items::btrfs_format::block::SUPER_INFO_OFFSET;
+use btr_space_items::btrfs_format::size::{CHUNK_HEAD_SIZE, KEY_SIZE, STRIPE_SIZE};
 use std::alloc::Global;
 
 /// How many bytes the entry takes that a bootstrap array begins with.

@@ -27,12 +27,12 @@ ghost use Rattle.btr_super.specs.Rules.{NamesNoLog};
 ghost use Rattle.btr_reader_walk.specs.Walks.{LieOn};
 
 use btr_reader_walk::{BtrAnswer, BtrRefusal, BtrRule, Feature, Key, MapRange, Memory};
-use btr_space_items::{Chunk, Stripe};
-use btrfs_format::flag::{
+use btr_space_items::btrfs_format::flag::{
     BLOCK_GROUP_DATA, BLOCK_GROUP_DUP, BLOCK_GROUP_METADATA, BLOCK_GROUP_SYSTEM,
 };
-use btrfs_format::key::CHUNK_ITEM;
-use btrfs_format::object::FIRST_CHUNK_TREE_OBJECTID;
+use btr_space_items::btrfs_format::key::CHUNK_ITEM;
+use btr_space_items::btrfs_format::object::FIRST_CHUNK_TREE_OBJECTID;
+use btr_space_items::{Chunk, Stripe};
 use std::alloc::Global;
 
 /// A chunk, and its logical address in bytes.

@@ -18,8 +18,8 @@ use btr_reader_names::{
 use btr_reader_walk::{
     BlockSource, BtrAnswer, BtrRule, DirEntry, Key, MapRange, Notes, Tree, TreeWalker,
 };
-use btrfs_format::key::DIR_INDEX;
-use btrfs_format::object::FIRST_FREE_OBJECTID;
+use btr_space_items::btrfs_format::key::DIR_INDEX;
+use btr_space_items::btrfs_format::object::FIRST_FREE_OBJECTID;
 use indexmap::IndexSet;
 use std::alloc::Global;
 

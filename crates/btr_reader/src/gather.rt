@@ -13,7 +13,7 @@ use btr_reader_contents::{Reach, check_extent, covered_by, extent_length, is_hol
 use btr_reader_walk::{
     BtrRefusal, BtrRule, DiskRange, ExtentContent, FileExtent, Key, MapRange, Memory,
 };
-use btrfs_format::key::EXTENT_DATA;
+use btr_space_items::btrfs_format::key::EXTENT_DATA;
 use std::alloc::Global;
 
 /// Whether a key is that of an extent of this inode.

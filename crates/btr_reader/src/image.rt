@@ -28,9 +28,9 @@ use btr_reader_names::InodeFound;
 use btr_reader_walk::{
     BlockSource, BtrAnswer, BtrRule, Inode, Key, MapRange, Memory, Notes, Tree, note_items,
 };
-use btrfs_format::block::SUPER_INFO_OFFSET;
-use btrfs_format::key::INODE_ITEM;
-use btrfs_format::object::{FIRST_FREE_OBJECTID, FS_TREE};
+use btr_space_items::btrfs_format::block::SUPER_INFO_OFFSET;
+use btr_space_items::btrfs_format::key::INODE_ITEM;
+use btr_space_items::btrfs_format::object::{FIRST_FREE_OBJECTID, FS_TREE};
 use std::alloc::Global;
 
 /// The inode of an inode item that was looked for, if it is that of a regular file.

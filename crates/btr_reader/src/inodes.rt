@@ -4,7 +4,7 @@ ghost use Rattle.btr_reader_names.specs.Inodes.{is_inode_of, first_item, TellsIn
 
 use btr_reader_names::InodeFound;
 use btr_reader_walk::{Inode, Key};
-use btrfs_format::key::INODE_ITEM;
+use btr_space_items::btrfs_format::key::INODE_ITEM;
 
 /// The first item of an inode, after one more item of the tree.
 pub fn seek_inode(

@@ -2,7 +2,6 @@
 #![tactic(auto)]
 
 mod bootstrap;
-mod checks;
 mod chunk;
 mod chunk_tree;
 mod entries;
@@ -28,8 +27,15 @@ mod trees;
 mod volume;
 
 pub use bootstrap::array_chunks;
+pub use btr_reader_contents;
+pub use btr_reader_names;
+pub use btr_reader_walk;
+pub use btr_space_items;
+pub use btr_space_items::btrfs_format;
+pub use btr_super;
 pub use chunk::{ChunkAt, is_among, is_chunk_key};
 pub use entries::find_entry;
+pub use fs_paths::{fs_rows, vol_block};
 pub use image_map::ImageMap;
 pub use laws::{
     arrays_read_back, btrfs_rows_are_one, items_decide_btrfs_rows, opened_maps_are_apart,

@@ -7,8 +7,8 @@ ghost use Rattle.btr_reader.specs.Parts.{ListsBtrfs, RefusesBtrfsRows};
 use crate::open::super_by;
 use crate::volume::Btrfs;
 use btr_reader_walk::{Block, BlockSource, BtrAnswer, BtrRefusal};
-use btrfs_format::block::SUPER_BLOCK;
-use fs_rows::Rows;
+use btr_space_items::btrfs_format::block::SUPER_BLOCK;
+use fs_paths::fs_rows::Rows;
 use std::alloc::Global;
 
 impl Btrfs {

@@ -16,8 +16,8 @@ use crate::roots::read_roots;
 use crate::trees::{chunk_tree, root_tree};
 use crate::volume::Btrfs;
 use btr_reader_walk::{Block, BlockSource, BtrAnswer, BtrRefusal, BtrRule, MapRange};
+use btr_space_items::btrfs_format::block::{SUPER_BLOCK, SUPER_INFO_OFFSET};
 use btr_super::Super;
-use btrfs_format::block::{SUPER_BLOCK, SUPER_INFO_OFFSET};
 use std::alloc::Global;
 
 /// The chunks of the bootstrap array, and the map of addresses that they make.

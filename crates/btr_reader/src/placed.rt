@@ -1,10 +1,10 @@
 ghost use Rattle.std.specs.Prelude.{◌≡◌, ◌≤◌, ◌<◌, ℕ, Bool, Option, List, map, take, length, slice_get, Some, IfErr, IfOk};
 ghost use Rattle.std.specs.Result.{MatchResult};
 ghost use Rattle.btr_reader_walk.specs.outside.History.{Image};
-ghost use Rattle.fs_rows.specs.Rows.{row_of};
-ghost use Rattle.fs_rows.specs.declared.row.Kind.{Kind as KindOf};
-ghost use Rattle.fs_rows.specs.declared.row.Kind.TheVariants.{Symlink};
-ghost use Rattle.fs_rows.specs.declared.row.Row.{Row as RowOf};
+ghost use Rattle.fs_paths.specs.fs_rows.Rows.{row_of};
+ghost use Rattle.fs_paths.specs.fs_rows.declared.row.Kind.{Kind as KindOf};
+ghost use Rattle.fs_paths.specs.fs_rows.declared.row.Kind.TheVariants.{Symlink};
+ghost use Rattle.fs_paths.specs.fs_rows.declared.row.Row.{Row as RowOf};
 ghost use Rattle.fs_paths.specs.declared.node_link.PathTo.{PathTo as PathOf};
 ghost use Rattle.fs_paths.specs.declared.node.NodeId.{NodeId as NodeOf};
 ghost use Rattle.fs_paths.specs.Paths.{ArePaths};
@@ -15,7 +15,7 @@ ghost use Rattle.btr_reader_names.specs.Steps.{inode_node, links_of};
 ghost use Rattle.btr_reader_contents.specs.Contents.{wanted_inode, HasContents, known_content};
 ghost use Rattle.btr_reader_contents.specs.declared.wanted.Wanted.{Wanted as WantedOf};
 ghost use Rattle.btr_reader.specs.Made.{IsMemory, IsReadTree, bytes_at, made_row};
-ghost use Rattle.fs_rows.specs.Content.{IsContent};
+ghost use Rattle.fs_paths.specs.fs_rows.Content.{IsContent};
 ghost use Rattle.btr_reader_names.specs.Refuses.{IsNoFault};
 
 use crate::refusal::refused;
@@ -23,9 +23,9 @@ use crate::row::{inode_row, tree_row};
 use btr_reader_contents::{Contents, wanted_inode};
 use btr_reader_names::{NameTable, kind_of_mode};
 use btr_reader_walk::{BtrAnswer, BtrRule, Inode, Memory};
-use btrfs_format::object::FIRST_FREE_OBJECTID;
+use btr_space_items::btrfs_format::object::FIRST_FREE_OBJECTID;
 use fs_paths::PathTo;
-use fs_rows::{Content, Row, RowPlace, Rows, no_content};
+use fs_paths::fs_rows::{Content, Row, RowPlace, Rows, no_content};
 use std::alloc::Global;
 
 /// The row at a path, behind those of the paths before it.

@@ -12,7 +12,7 @@ use btr_reader_walk::{
     BlockSource, BtrAnswer, Key, MapRange, Memory, NodePointer, Notes, Tree, note_items,
 };
 use btr_space_items::RootItem;
-use btrfs_format::key::ROOT_ITEM;
+use btr_space_items::btrfs_format::key::ROOT_ITEM;
 use indexmap::{IndexMap, IndexSet};
 use std::alloc::Global;
 

@@ -1,12 +1,12 @@
 ghost use Rattle.std.specs.Prelude.{◌≡◌, ◌<◌, ◌/◌, ◌%◌, ◌^◌, List, ℕ, IfOk, if◌then◌else◌};
-ghost use Rattle.fs_rows.specs.Rows.{row_of};
-ghost use Rattle.fs_rows.specs.Kinds.{is_device};
+ghost use Rattle.fs_paths.specs.fs_rows.Rows.{row_of};
+ghost use Rattle.fs_paths.specs.fs_rows.Kinds.{is_device};
 ghost use Rattle.btr_reader.specs.Made.{row_by};
-ghost use Rattle.fs_rows.specs.Content.{IsContent};
+ghost use Rattle.fs_paths.specs.fs_rows.Content.{IsContent};
 ghost use Rattle.btr_reader.specs.Rows.{has_flag, time_of, subvolume_row};
 
 use btr_reader_walk::{Inode, Memory, Stamp};
-use fs_rows::{Content, Kind, Name, Path, Row, RowPlace, Time};
+use fs_paths::fs_rows::{Content, Kind, Name, Path, Row, RowPlace, Time};
 use std::alloc::Global;
 
 /// The row of an inode.

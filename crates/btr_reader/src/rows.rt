@@ -8,7 +8,7 @@ ghost use Rattle.btr_reader_walk.specs.declared.map.MapRange.{MapRange as RangeO
 ghost use Rattle.btr_reader_walk.specs.declared.tree.NodePointer.{NodePointer as NodePointerOf};
 ghost use Rattle.btr_reader_walk.specs.Events.{TreeItem};
 ghost use Rattle.btr_reader_walk.specs.Walks.{LieOn};
-ghost use Rattle.fs_rows.specs.Rows.{WholeRow, row_of};
+ghost use Rattle.fs_paths.specs.fs_rows.Rows.{WholeRow, row_of};
 ghost use Rattle.indexmap.specs.IndexSet.{contains};
 ghost use Rattle.fs_paths.specs.Links.{same_node};
 ghost use Rattle.btr_reader_contents.specs.Blocks.{AreInBlocks};
@@ -29,10 +29,10 @@ use crate::volume::Btrfs;
 use btr_reader_contents::Contents;
 use btr_reader_names::{NameTable, inode_node};
 use btr_reader_walk::{BlockSource, BtrAnswer, BtrRefusal, BtrRule, Tree};
-use btrfs_format::block::SUPER_INFO_OFFSET;
-use btrfs_format::object::{FIRST_FREE_OBJECTID, FS_TREE};
+use btr_space_items::btrfs_format::block::SUPER_INFO_OFFSET;
+use btr_space_items::btrfs_format::object::{FIRST_FREE_OBJECTID, FS_TREE};
+use fs_paths::fs_rows::Rows;
 use fs_paths::{NodeId, paths};
-use fs_rows::Rows;
 use indexmap::IndexSet;
 use std::alloc::Global;
 

@@ -18,9 +18,9 @@ use crate::refusal::refused;
 use crate::roots::RootFound;
 use crate::volume::Btrfs;
 use btr_reader_walk::{BlockSource, BtrAnswer, BtrRule, Form, Key, NodePointer, Notes, Tree};
+use btr_space_items::btrfs_format::key::ROOT_ITEM;
+use btr_space_items::btrfs_format::object::{CHUNK_TREE, ROOT_TREE};
 use btr_super::{Super, sum_kind};
-use btrfs_format::key::ROOT_ITEM;
-use btrfs_format::object::{CHUNK_TREE, ROOT_TREE};
 use std::alloc::Global;
 
 /// What the nodes of a volume with this superblock share. The kind of checksum is known where the superblock was read.

@@ -80,18 +80,6 @@ extent_appends image ranges given i x size sound read behind =
           ];
     }
 
--- a part of zeros changes nothing
-pub nothing_added : (at count : ℕ) (part f g : ℕ → ℕ) → ((k : ℕ) → part k ≡ 0) → Appends at count part f g → (n : ℕ) → f n ≡ g n
-nothing_added at count part f g none over n =
-    elim (cases_lt n at) as (λ _. f n ≡ g n) [
-      | inl h ↦ sym (over.below n h)
-      | inr from ↦
-          elim (cases_lt n (at + count)) as (λ _. f n ≡ g n) [
-            | inl to ↦ over.before n from ∙ sym (over.inside n from to ∙ none (n - at))
-            | inr past ↦ over.before n from ∙ sym (over.after n past)
-          ]
-    ]
-
 -- the first bytes of a list as a part
 pub first_part : (at room : ℕ) (bytes : List ℕ) (f g : ℕ → ℕ) → Appends at (min (length bytes) room) (λ j. get_or bytes j 0) f g → Overlays at (take room bytes) f g
 first_part at room bytes f g over =

@@ -1,7 +1,8 @@
 -- What is gathered, with one more item.
-use Rattle.btr_reader_contents.proofs.Imports.{◌≡◌, inl, inr, ℕ, ◌≤◌, ◌<◌, ◌==◌, nat_eq, Bool, true, false, ◌&&◌, if◌then◌else◌, is_some, List, [], ◌∷◌, ◌++◌, length, replicate, map, Contains, Option, Some, None, refl, sym, ◌∙◌, ap, subst, arith, range_with_len, eqb-true, nat_tests, Contains-append_left, filter-append, Image, Refused, Fault, Memory, BtrRefusal, mark_of_bytes, Key, MapRange, Tree, TreeItem, Blames, found, wrong, is_extent_of, extents_of, extents_refusals, file_byte, bytes_of_inode, MarksExtents, Content, Hand, Wanted, content_of, content_in, TellsContent, HasContents, RefusesExtents, RefusesContents, item_wanted, HoldsHand, AllBefore, HandAt, HasGathered}
+use Rattle.btr_reader_contents.proofs.Imports.{◌≡◌, inl, inr, ℕ, ◌≤◌, ◌<◌, ◌==◌, nat_eq, Bool, true, false, ◌&&◌, if◌then◌else◌, is_some, List, [], ◌∷◌, ◌++◌, length, replicate, map, Contains, Option, Some, None, refl, sym, ◌∙◌, ap, subst, arith, range_with_len, eqb-true, nat_tests, Contains-append_left, filter-append, Image, BtrRefusal, mark_of_bytes, Key, MapRange, Tree, TreeItem, Blames, found, wrong, is_extent_of, extents_of, extents_refusals, file_byte, bytes_of_inode, MarksExtents, Content, Hand, Wanted, content_of, content_in, TellsContent, HasContents, RefusesExtents, RefusesContents, item_wanted, HoldsHand, AllBefore, HandAt, HasGathered}
+use Rattle.btr_reader_walk.specs.refusals.declared.answer.BtrAnswer.TheVariants.{Refused, Fault, Memory}
 use Rattle.std.proofs.lemmas.List.FromFn.{length-map-range_with_len}
-use Rattle.btrfs_format.specs.declared.key.TheConstants.{EXTENT_DATA}
+use Rattle.btr_reader_walk.specs.btrfs_format.declared.key.TheConstants.{EXTENT_DATA}
 use Rattle.btr_reader_walk.specs.refusals.declared.answer.BtrAnswer.{BtrAnswer}
 use Rattle.btr_reader_contents.proofs.ExtentLists.{extents_of-one, extents_of-other, extents_refusals-append}
 

@@ -6,6 +6,5 @@ pub mod Imports
 pub mod Marks
 pub mod Orders
 pub mod Places
-pub mod SoundExtents
 pub mod Steps
 pub mod Unmapped

@@ -39,11 +39,6 @@ byte_in_block image (r ∷ ranges) a j all at low =
     ap (λ t. byte_of_place image (if t then Some (r.physical + (a + j - r.logical)) else place ranges (a + j))) (holds_same r a j (holds r a) whole at low refl)
     ∙ by_test image r (place ranges a) (place ranges (a + j)) a j (holds r a) whole at low refl (byte_in_block image ranges a j (All-tail IsInBlocks r ranges all) at low)
 
--- a block of the device by its place
-pub placed : (image : Image) (o : Option ℕ) (n : ℕ) → Some n ≡ option_map (λ p. p / 4096) o → block_at image n ≡ block_or_zeros image o
-placed image None n is = absurd (cc is)
-placed image (Some p) n is = let same : n ≡ p / 4096 = cc is in ap (block_at image) same
-
 pub not_placed : (image : Image) (o : Option ℕ) → None ≡ option_map (λ (p : ℕ). p / 4096) o → zeros ≡ block_or_zeros image o
 not_placed image None is = refl
 not_placed image (Some p) is = absurd (cc is)

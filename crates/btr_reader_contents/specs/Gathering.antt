@@ -1,7 +1,7 @@
 -- What is gathered of a tree's contents, so far.
 use Rattle.std.specs.Prelude.{◌≡◌, ◌≤◌, ◌<◌, ℕ, ◌==◌, Bool, true, false, if◌then◌else◌, is_some, List, Option, Some, None}
 use Rattle.std.specs.Option.{option_map_or}
-use Rattle.btrfs_format.specs.declared.key.TheConstants.{EXTENT_DATA}
+use Rattle.btr_reader_walk.specs.btrfs_format.declared.key.TheConstants.{EXTENT_DATA}
 use Rattle.btr_reader_walk.specs.outside.History.{Image}
 use Rattle.btr_reader_walk.specs.btr_keys.declared.key.Key.{Key}
 use Rattle.btr_reader_walk.specs.declared.map.MapRange.{MapRange}

@@ -1,6 +1,5 @@
 pub mod Blocks
 pub mod Bytes
-pub mod Checked
 pub mod Contents
 pub mod Extents
 pub mod Gathering

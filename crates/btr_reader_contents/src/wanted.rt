@@ -8,8 +8,8 @@ ghost use Rattle.btr_reader_contents.specs.Contents.{wanted_by, wanted_inode, wa
 ghost use Rattle.btr_reader_contents.specs.Gathering.{item_wanted};
 
 use btr_reader_names::{NameTable, inode_node, kind_of_mode};
+use btr_reader_walk::btrfs_format::key::EXTENT_DATA;
 use btr_reader_walk::{Inode, Key};
-use btrfs_format::key::EXTENT_DATA;
 use fs_paths::NodeId;
 use fs_rows::Kind;
 use indexmap::IndexSet;

@@ -23,21 +23,21 @@ pub use Rattle.btr_reader_names.specs.declared.table.NameTable.{NameTable}
 pub use Rattle.btr_reader_walk.specs.Events.{TreeItem}
 pub use Rattle.btr_reader_walk.specs.btr_keys.Inode.{inode_of}
 pub use Rattle.btr_reader_walk.specs.btr_keys.declared.inode.Inode.{Inode}
+pub use Rattle.btr_reader_walk.specs.btrfs_format.declared.key.TheConstants.{INODE_ITEM, ROOT_ITEM}
+pub use Rattle.btr_reader_walk.specs.btrfs_format.declared.object.TheConstants.{FIRST_FREE_OBJECTID}
 pub use Rattle.btr_reader_walk.specs.refusals.declared.answer.BtrAnswer.{BtrAnswer}
 pub use Rattle.btr_reader_walk.specs.refusals.declared.answer.BtrAnswer.TheVariants.{Fault, Memory, Refused}
 pub use Rattle.btr_reader_walk.specs.refusals.declared.refusal.BtrRefusal.{BtrRefusal}
 pub use Rattle.btr_reader_walk.specs.refusals.declared.refusal.BtrRefusal.TheVariants.{BadBtrfs}
 pub use Rattle.btr_reader_walk.specs.refusals.declared.rule.BtrRule.{BtrRule}
 pub use Rattle.btr_reader_walk.specs.refusals.declared.rule.BtrRule.TheVariants.{Body, DirTwice, NameForm, NoInode}
-pub use Rattle.btrfs_format.specs.declared.key.TheConstants.{INODE_ITEM, ROOT_ITEM}
-pub use Rattle.btrfs_format.specs.declared.object.TheConstants.{FIRST_FREE_OBJECTID}
 pub use Rattle.fs_paths.proofs.Lists.{at_head, from_filter, from_map, head_or_tail, in_filter, in_map, in_tail}
 pub use Rattle.fs_paths.proofs.Nodes.{same_name-true, same_node-self, same_node-true}
 pub use Rattle.fs_paths.specs.Links.{AreNamedOnce, Leads, same_node}
 pub use Rattle.fs_paths.specs.Reached.{AreReached, IsReached, IsReachedBy}
 pub use Rattle.fs_paths.specs.declared.node.NodeId.{NodeId}
 pub use Rattle.fs_paths.specs.declared.node_link.NodeLink.{NodeLink}
-pub use Rattle.fs_rows.specs.Kinds.{is_directory, is_symlink}
-pub use Rattle.fs_rows.specs.declared.row.Kind.{Kind}
-pub use Rattle.fs_rows.specs.declared.row.Kind.TheVariants.{Block, Character, Directory, Fifo, File, Socket, Subvolume, Symlink}
+pub use Rattle.fs_paths.specs.fs_rows.Kinds.{is_directory, is_symlink}
+pub use Rattle.fs_paths.specs.fs_rows.declared.row.Kind.{Kind}
+pub use Rattle.fs_paths.specs.fs_rows.declared.row.Kind.TheVariants.{Block, Character, Directory, Fifo, File, Socket, Subvolume, Symlink}
 pub use Rattle.indexmap.specs.IndexSet.{IndexSet, contains}

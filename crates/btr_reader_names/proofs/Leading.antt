@@ -1,6 +1,6 @@
 -- The links of a tree whose names keep the rules: they make a tree, and lead where the names do.
 use Rattle.btr_reader_names.proofs.Imports.{◌≡◌, ◌≢◌, ℕ, Bool, true, false, ◌&&◌, List, [], ◌∷◌, map, filter, get_or, Contains, AllPairs, if◌then◌else◌, refl, sym, ap, subst, ◌∙◌, arith, and_parts, and_from, nat_tests, length-map, get_or-map, Contains-get_or, filter_passes, AllPairs-filter, FIRST_FREE_OBJECTID, BadBtrfs, Body, DirTwice, TreeItem, NodeLink, NodeId, AreNamedOnce, Leads as LinksLead, in_map, in_filter, from_map, from_filter, DirIndex, NameTable, IsDirectoryInode, followed, is_followed, names_inode, names_tree, IsNamedInode, root, entry, Target, inode, tree, NamesTarget as IsNameOf, LeadsToTarget, DifferInName, leads_down, LeadApart, IsOpen, KeepsNames, bad_location, root_named, inode_node, tree_node, node_of_target, target_node, AreNamed, is_open, is_link, link_of, links_of, HasNotedNames, is_dir}
-use Rattle.fs_rows.specs.Rows.{NameList}
+use Rattle.fs_paths.specs.fs_rows.Rows.{NameList}
 use Rattle.btr_reader_names.specs.TreeLinks.{AreTreeLinks}
 use Rattle.btr_reader_names.proofs.Reaching.{followed_from, followed_to, open_from, open_to}
 

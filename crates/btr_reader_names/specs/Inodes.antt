@@ -1,12 +1,12 @@
 -- The inodes of a file tree, and what they are.
 use Rattle.std.specs.Prelude.{◌≡◌, ℕ, ◌/◌, ◌%◌, ◌==◌, Bool, ◌&&◌, if◌then◌else◌, List, [], ◌∷◌, Option, Some, None}
 use Rattle.std.specs.Option.{option_and_then}
-use Rattle.btrfs_format.specs.declared.key.TheConstants.{INODE_ITEM}
-use Rattle.vol_block.specs.declared.mode.TheConstants.{DT_BLK, DT_CHR, DT_DIR, DT_FIFO, DT_LNK, DT_REG, DT_SOCK}
+use Rattle.btr_reader_walk.specs.btrfs_format.declared.key.TheConstants.{INODE_ITEM}
+use Rattle.btr_reader_walk.specs.vol_block.declared.mode.TheConstants.{DT_BLK, DT_CHR, DT_DIR, DT_FIFO, DT_LNK, DT_REG, DT_SOCK}
 use Rattle.btr_reader_walk.specs.btr_keys.Inode.{inode_of}
 use Rattle.btr_reader_walk.specs.btr_keys.declared.inode.Inode.{Inode}
-use Rattle.fs_rows.specs.declared.row.Kind.{Kind}
-use Rattle.fs_rows.specs.declared.row.Kind.TheVariants.{Directory, File, Symlink, Character, Block, Fifo, Socket}
+use Rattle.fs_paths.specs.fs_rows.declared.row.Kind.{Kind}
+use Rattle.fs_paths.specs.fs_rows.declared.row.Kind.TheVariants.{Directory, File, Symlink, Character, Block, Fifo, Socket}
 use Rattle.btr_reader_walk.specs.Events.{TreeItem}
 use Rattle.btr_reader_names.specs.declared.inodes.InodeFound.{InodeFound}
 

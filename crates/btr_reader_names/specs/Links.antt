@@ -2,11 +2,11 @@
 use Rattle.std.specs.Prelude.{◌≡◌, ℕ, ◌==◌, nat_lt, nat_eq, Bool, true, not, ◌&&◌, ◌||◌, if◌then◌else◌, List, [], ◌∷◌, ◌++◌, length, codes, filter, Contains, Option, Some, None}
 use Rattle.std.specs.List.{list_any}
 use Rattle.std.specs.Cmp.Lexicographic.{pointwise}
-use Rattle.btrfs_format.specs.declared.key.TheConstants.{DIR_INDEX, INODE_ITEM, ROOT_ITEM}
-use Rattle.btrfs_format.specs.declared.object.TheConstants.{FIRST_FREE_OBJECTID}
+use Rattle.btr_reader_walk.specs.btrfs_format.declared.key.TheConstants.{DIR_INDEX, INODE_ITEM, ROOT_ITEM}
+use Rattle.btr_reader_walk.specs.btrfs_format.declared.object.TheConstants.{FIRST_FREE_OBJECTID}
 use Rattle.btr_reader_walk.specs.btr_keys.DirEntry.{DirEntryValue, dir_items_of}
 use Rattle.btr_reader_walk.specs.Events.{TreeItem}
-use Rattle.fs_rows.specs.Rows.{NameList}
+use Rattle.fs_paths.specs.fs_rows.Rows.{NameList}
 use Rattle.btr_reader_names.specs.declared.dir_index.DirIndex.{DirIndex}
 use Rattle.btr_reader_names.specs.Inodes.{IsDirectoryInode}
 

@@ -3,7 +3,7 @@ use Rattle.std.specs.Prelude.{◌≡◌, ℕ, ◌==◌, nat_lt, nat_eq, Bool, tr
 use Rattle.std.specs.List.{list_any}
 use Rattle.std.specs.Option.{option_map_or}
 use Rattle.std.specs.Cmp.Lexicographic.{pointwise}
-use Rattle.btrfs_format.specs.declared.object.TheConstants.{FIRST_FREE_OBJECTID}
+use Rattle.btr_reader_walk.specs.btrfs_format.declared.object.TheConstants.{FIRST_FREE_OBJECTID}
 use Rattle.indexmap.specs.IndexSet.{IndexSet, contains}
 use Rattle.btr_reader_walk.specs.refusals.declared.answer.BtrAnswer.{BtrAnswer}
 use Rattle.btr_reader_walk.specs.refusals.declared.answer.BtrAnswer.TheVariants.{Refused, Fault, Memory}
@@ -12,7 +12,7 @@ use Rattle.btr_reader_walk.specs.refusals.declared.refusal.BtrRefusal.TheVariant
 use Rattle.btr_reader_walk.specs.refusals.declared.rule.BtrRule.{BtrRule}
 use Rattle.btr_reader_walk.specs.refusals.declared.rule.BtrRule.TheVariants.{Body, NoInode, NameForm, DirTwice}
 use Rattle.btr_reader_walk.specs.btr_keys.declared.inode.Inode.{Inode}
-use Rattle.fs_rows.specs.declared.row.Kind.{Kind}
+use Rattle.fs_paths.specs.fs_rows.declared.row.Kind.{Kind}
 use Rattle.fs_paths.specs.declared.node.NodeId.{NodeId}
 use Rattle.btr_reader_names.specs.declared.inodes.InodeFound.{InodeFound}
 use Rattle.btr_reader_names.specs.declared.dir_index.DirIndex.{DirIndex}
@@ -20,7 +20,7 @@ use Rattle.btr_reader_names.specs.declared.dir_index.OffForm.{OffForm}
 use Rattle.btr_reader_names.specs.declared.seen.NameIn.{NameIn}
 use Rattle.btr_reader_names.specs.declared.table.NameTable.{NameTable}
 use Rattle.btr_reader_names.specs.Inodes.{kind_of_mode}
-use Rattle.fs_rows.specs.Kinds.{is_directory, is_symlink}
+use Rattle.fs_paths.specs.fs_rows.Kinds.{is_directory, is_symlink}
 use Rattle.btr_reader_names.specs.Links.{is_name, is_followed, names_inode, names_tree}
 use Rattle.btr_reader_names.specs.Rules.{AreIn}
 use Rattle.btr_reader_names.specs.Steps.{is_open, is_link}

@@ -1,7 +1,7 @@
 -- Which numbers of trees have a root item.
 use Rattle.std.specs.Prelude.{ℕ, ◌==◌, Bool, ◌&&◌, List}
 use Rattle.std.specs.List.{list_any}
-use Rattle.btrfs_format.specs.declared.key.TheConstants.{ROOT_ITEM}
+use Rattle.btr_reader_walk.specs.btrfs_format.declared.key.TheConstants.{ROOT_ITEM}
 use Rattle.btr_reader_walk.specs.Events.{TreeItem}
 
 -- the item is a root item of the tree with this number; what its key's offset is does not matter

@@ -1,14 +1,14 @@
 -- The rules that the names of a file tree keep, and how each is refused where it fails.
 use Rattle.std.specs.Prelude.{◌≡◌, ◌≢◌, ◌<◌, ℕ, Bool, true, false, List, ◌∷◌, ◌++◌, Contains, Some, None}
-use Rattle.btrfs_format.specs.declared.object.TheConstants.{FIRST_FREE_OBJECTID}
+use Rattle.btr_reader_walk.specs.btrfs_format.declared.object.TheConstants.{FIRST_FREE_OBJECTID}
 use Rattle.btr_reader_walk.specs.refusals.declared.refusal.BtrRefusal.{BtrRefusal}
 use Rattle.btr_reader_walk.specs.refusals.declared.refusal.BtrRefusal.TheVariants.{BadBtrfs}
 use Rattle.btr_reader_walk.specs.refusals.declared.rule.BtrRule.TheVariants.{Body, NoInode, NameForm, DirTwice}
 use Rattle.btr_reader_walk.specs.btr_keys.Inode.{inode_of}
 use Rattle.btr_reader_walk.specs.btr_keys.declared.inode.Inode.{Inode}
 use Rattle.btr_reader_walk.specs.Events.{TreeItem}
-use Rattle.fs_rows.specs.declared.row.Kind.{Kind}
-use Rattle.fs_rows.specs.declared.row.Kind.TheVariants.{Directory, Symlink}
+use Rattle.fs_paths.specs.fs_rows.declared.row.Kind.{Kind}
+use Rattle.fs_paths.specs.fs_rows.declared.row.Kind.TheVariants.{Directory, Symlink}
 use Rattle.btr_reader_names.specs.declared.dir_index.DirIndex.{DirIndex}
 use Rattle.btr_reader_names.specs.Inodes.{find_inode_item, inode_on, kind_of_mode, IsDirectoryInode}
 use Rattle.btr_reader_names.specs.Links.{dir_indexes, followed, is_index, index_entry, is_name, names_inode, names_tree, IsNamedInode}

@@ -4,12 +4,12 @@ use Rattle.std.specs.Option.{option_and_then, option_map_or}
 use Rattle.indexmap.specs.IndexMap.{get}
 use Rattle.btr_reader_walk.specs.btr_keys.DirEntry.{DirEntryValue}
 use Rattle.btr_reader_walk.specs.Events.{TreeItem}
-use Rattle.fs_rows.specs.declared.row.Kind.{Kind}
+use Rattle.fs_paths.specs.fs_rows.declared.row.Kind.{Kind}
 use Rattle.btr_reader_names.specs.declared.inodes.InodeFound.{InodeFound}
 use Rattle.btr_reader_names.specs.declared.dir_index.OffForm.{OffForm}
 use Rattle.btr_reader_names.specs.declared.table.NameTable.{NameTable}
 use Rattle.btr_reader_names.specs.Inodes.{find_inode_item, kind_of_mode, TellsInode}
-use Rattle.fs_rows.specs.Kinds.{is_directory}
+use Rattle.fs_paths.specs.fs_rows.Kinds.{is_directory}
 use Rattle.btr_reader_names.specs.Links.{is_index, index_entry, dir_indexes}
 
 -- the directory index that an item is, if its body is off the grammar

@@ -1,8 +1,8 @@
 -- The links of a tree whose names keep the rules.
 use Rattle.std.specs.Prelude.{◌≡◌, List}
-use Rattle.btrfs_format.specs.declared.object.TheConstants.{FIRST_FREE_OBJECTID}
+use Rattle.btr_reader_walk.specs.btrfs_format.declared.object.TheConstants.{FIRST_FREE_OBJECTID}
 use Rattle.btr_reader_walk.specs.Events.{TreeItem}
-use Rattle.fs_rows.specs.Rows.{NameList}
+use Rattle.fs_paths.specs.fs_rows.Rows.{NameList}
 use Rattle.fs_paths.specs.declared.node_link.NodeLink.{NodeLink}
 use Rattle.fs_paths.specs.declared.node.NodeId.{NodeId}
 use Rattle.fs_paths.specs.Links.{AreNamedOnce, Leads as LinksLead}

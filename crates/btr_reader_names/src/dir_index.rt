@@ -1,5 +1,5 @@
 use btr_reader_walk::Key;
-use fs_rows::Name;
+use fs_paths::fs_rows::Name;
 
 /// An entry of a directory.
 #[derive(Debug, Drop)]

@@ -10,8 +10,8 @@ ghost use Rattle.btr_reader_names.specs.Steps.{is_open};
 use crate::inode_rules::bad;
 use crate::links::{is_followed, is_open, names_inode, names_tree};
 use crate::{DirIndex, NameTable};
+use btr_reader_walk::btrfs_format::object::FIRST_FREE_OBJECTID;
 use btr_reader_walk::{BtrRefusal, BtrRule};
-use btrfs_format::object::FIRST_FREE_OBJECTID;
 use fs_paths::NodeId;
 use indexmap::IndexSet;
 

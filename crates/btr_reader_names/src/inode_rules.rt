@@ -13,10 +13,10 @@ use crate::dir_index::OffForm;
 use crate::inodes::{InodeFound, kind_of_mode};
 use crate::links::is_open;
 use crate::table::kind_found;
+use btr_reader_walk::btrfs_format::object::FIRST_FREE_OBJECTID;
 use btr_reader_walk::{BtrRefusal, BtrRule, Inode};
-use btrfs_format::object::FIRST_FREE_OBJECTID;
 use fs_paths::NodeId;
-use fs_rows::Kind;
+use fs_paths::fs_rows::Kind;
 use indexmap::IndexSet;
 
 /// The longest target of a symlink, in bytes: Linux's PATH_MAX without the zero behind it.

@@ -2,8 +2,8 @@ ghost use Rattle.std.specs.Prelude.{◌≡◌};
 ghost use Rattle.btr_reader_names.specs.Inodes.{kind_of_mode};
 
 use btr_reader_walk::Inode;
-use fs_rows::Kind;
-use vol_block::{DT_BLK, DT_CHR, DT_DIR, DT_FIFO, DT_LNK, DT_REG, DT_SOCK};
+use btr_reader_walk::vol_block::{DT_BLK, DT_CHR, DT_DIR, DT_FIFO, DT_LNK, DT_REG, DT_SOCK};
+use fs_paths::fs_rows::Kind;
 
 /// An inode item: the leaf that it stands in, and the inode; None where its body is off the grammar.
 #[derive(Clone, Copy, Debug)]

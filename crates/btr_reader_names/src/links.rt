@@ -6,10 +6,10 @@ ghost use Rattle.btr_reader_names.specs.Steps.{inode_node, target_node, is_step,
 
 use crate::{DirIndex, NameTable};
 use btr_reader_walk::Memory;
-use btrfs_format::key::{INODE_ITEM, ROOT_ITEM};
-use btrfs_format::object::FIRST_FREE_OBJECTID;
+use btr_reader_walk::btrfs_format::key::{INODE_ITEM, ROOT_ITEM};
+use btr_reader_walk::btrfs_format::object::FIRST_FREE_OBJECTID;
+use fs_paths::fs_rows::Name;
 use fs_paths::{NodeId, NodeLink};
-use fs_rows::Name;
 use indexmap::IndexSet;
 use std::alloc::Global;
 

@@ -9,9 +9,9 @@ ghost use Rattle.btr_reader_names.specs.Table.{AreNoted, HasNotedNames, own_off_
 use crate::dir_index::{DirIndex, OffForm};
 use crate::entry::index_entry;
 use crate::inodes::{InodeFound, kind_of_mode};
+use btr_reader_walk::btrfs_format::key::{DIR_INDEX, INODE_ITEM};
 use btr_reader_walk::{DirEntry, Inode, Key, Memory, Notes};
-use btrfs_format::key::{DIR_INDEX, INODE_ITEM};
-use fs_rows::{Kind, Name};
+use fs_paths::fs_rows::{Kind, Name};
 use indexmap::IndexMap;
 use std::alloc::Global;
 

@@ -1,6 +1,6 @@
 -- What a node that was read breaks, and its children on the stack.
 use Rattle.btr_reader_walk.proofs.Imports.{◌≡◌, ℕ, zero, suc, ◌+◌, ◌-◌, ◌≤◌, ◌<◌, eqb, nat_lt, Bool, true, false, ◌||◌, List, [], ◌∷◌, ◌++◌, length, drop, get_or, map, reverse, Contains, if◌then◌else◌, ◌⊎◌, inl, inr, refl, sym, ◌∙◌, ap, subst, arith, append_assoc, drop_more, reverse-append, length-map, Contains-append_left, Contains-append_right, nat_tests, BtrRule, NodeHead, nritems, behind_head, items_in, heads_in, item_of, item_layout, HasInnerLayout, children_in, child_layout, broken, leaf_damages, inner_damages, Child, Expect, length-records_in, NodeEntry, child_entries, child_entry, content_damages, fan_out}
-use Rattle.btrfs_format.specs.declared.size.TheConstants.{ITEM_SIZE, KEY_PTR_SIZE}
+use Rattle.btr_node.specs.btrfs_format.declared.size.TheConstants.{ITEM_SIZE, KEY_PTR_SIZE}
 use Rattle.btr_reader_walk.proofs.Events.{none_both}
 
 pub count_items : (bytes : List ℕ) → length (items_in bytes) ≡ nritems bytes
@@ -23,11 +23,6 @@ pub leaf_contents : (want : Expect) (bare : Bool) (bytes : List ℕ) → want.le
     → content_damages want bare bytes ≡ leaf_damages want bytes ++ broken (bare || nat_lt 0 (nritems bytes)) NodeHead
 leaf_contents want bare bytes leaf =
     let e : eqb want.level 0 ≡ true = grind (arith, nat_tests, leaf) in
-    ap (at_level want bare bytes) e
-
-pub inner_contents : (want : Expect) (bare : Bool) (bytes : List ℕ) → 1 ≤ want.level → content_damages want bare bytes ≡ inner_damages want bytes
-inner_contents want bare bytes inner =
-    let e : eqb want.level 0 ≡ false = grind (arith, nat_tests, inner) in
     ap (at_level want bare bytes) e
 
 pub leaf_bad : (want : Expect) (bare : Bool) (bytes : List ℕ) (rule : BtrRule) → want.level ≡ 0 → Contains (leaf_damages want bytes) rule → Contains (content_damages want bare bytes) rule
@@ -78,10 +73,3 @@ pushed_more node left level child before pending some few is are =
     ap (λ z. z ++ child_entry level child ∷ []) are
     ∙ (append_assoc before (reverse later) (child_entry level child ∷ [])
     ∙ ap (λ (z : List NodeEntry). before ++ z) (sym turned ∙ ap (λ cs. reverse (map (child_entry level) cs)) (sym next)))
-
--- the children of an inner node
-pub inner_entries : (level : ℕ) (bytes : List ℕ) → 1 ≤ level → child_entries level bytes ≡ map (child_entry (level - 1)) (children_in bytes)
-inner_entries zero bytes inner = absurd (omega arith)
-inner_entries (suc level) bytes inner =
-    let e : level ≡ suc level - 1 = omega arith in
-    ap (λ (l : ℕ). map (child_entry l) (children_in bytes)) e

@@ -1,4 +1,3 @@
-pub use Rattle.btr_node.proofs.btr_keys as btr_keys
 pub use Rattle.btr_node.proofs as btr_node
 pub mod Contents
 pub mod Decides

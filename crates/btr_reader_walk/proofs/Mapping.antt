@@ -12,20 +12,6 @@ second : (a b : Bool) → (a && b) ≡ true → b ≡ true
 second true b h = h
 second false b h = absurd (cc h)
 
--- the first range that is left holds the address
-pub place_found : (ranges : List MapRange) (i a : ℕ) (r : MapRange) → i < length ranges → get_or ranges i r ≡ r → holds r a ≡ true
-    → place (drop i ranges) a ≡ Some (r.physical + (a - r.logical))
-place_found ranges i a r lt is held =
-    ap (λ rs. place rs a) (drop_more ranges i r lt ∙ ap (λ x. x ∷ drop (i + 1) ranges) is)
-    ∙ ap (λ t. if t then Some (r.physical + (a - r.logical)) else place (drop (i + 1) ranges) a) held
-
--- or it doesn't
-pub place_later : (ranges : List MapRange) (i a : ℕ) (r : MapRange) → i < length ranges → get_or ranges i r ≡ r → holds r a ≡ false
-    → place (drop i ranges) a ≡ place (drop (i + 1) ranges) a
-place_later ranges i a r lt is held =
-    ap (λ rs. place rs a) (drop_more ranges i r lt ∙ ap (λ x. x ∷ drop (i + 1) ranges) is)
-    ∙ ap (λ t. if t then Some (r.physical + (a - r.logical)) else place (drop (i + 1) ranges) a) held
-
 -- what is_none says
 pub none_some : (result other : Option ℕ) (test : Bool) → test ≡ false → is_some result ≡ not test → result ≡ other → is_some other ≡ true
 none_some result other test unset is e = ap is_some (sym e) ∙ (is ∙ ap not unset)

@@ -90,11 +90,6 @@ stack_with_children limit fan level ps (c ∷ cs) h room few =
     ∙ stack_more limit fan 0 (ps ++ turned level cs) (child_entry level c) (stack_with_children limit fan level ps cs h room (omega (arith, few)))
     (omega (arith, room, few, length-turned ps level cs, suc-mul level fan))
 
--- a node's children find room
-pub children_fit : (limit fan level held : ℕ) → 1 ≤ level → held + level * fan ≤ limit → held + fan ≤ limit
-children_fit limit fan zero held one room = absurd (omega arith)
-children_fit limit fan (suc level) held one room = omega (arith, room, suc-mul level fan)
-
 eq_test : (a b : ℕ) → eqb a b ≡ true → a ≡ b
 eq_test a b h = grind (arith, nat_tests, h)
 

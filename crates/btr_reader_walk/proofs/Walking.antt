@@ -173,33 +173,6 @@ opened w v image ranges given p k tree last none is pushed =
       order = k.order;
     }
 
--- its own items are in hand
-pub entered : (w v : TreeWalker) (image : Image) (ranges : List MapRange) (given : List TreeItem) (p : NodePointer) → IsIn p w image ranges given
-    → v.tree ≡ w.tree → v.last ≡ w.last → v.nodes ≡ w.nodes
-    → hand_events v.address w.nodes.bytes.items v.at.next v.at.left ≡ own_events p.level p.address w.nodes.bytes.items
-    → Walks v image ranges given
-entered w v image ranges given p k tree last nodes hand = record {
-  done = k.done;
-  whole = rw (tree, nodes) (ap (λ (z : List TreeEvent). k.done ++ (z ++ behind image ranges w)) hand ∙ k.whole);
-  items = k.items;
-  last = last ∙ k.last;
-  nodes = rw tree k.nodes;
-  order = k.order;
-}
-
--- all items of a leaf
-pub leaf_hand : (address level next left : ℕ) (bytes : List ℕ) → level ≡ 0 → next ≡ 0 → left ≡ length (items_in bytes)
-    → hand_events address bytes next left ≡ own_events level address bytes
-leaf_hand address zero next left bytes leaf first all =
-    ap (λ (n : ℕ). leaf_events address (take left (drop n (items_in bytes)))) first
-    ∙ ap (leaf_events address) (take_all left (items_in bytes) (omega (arith, all)))
-leaf_hand address (suc level) next left bytes leaf first all = absurd (omega arith)
-
--- an inner node has none
-pub inner_hand : (address other level next left : ℕ) (bytes : List ℕ) → 1 ≤ level → left ≡ 0 → hand_events other bytes next left ≡ own_events level address bytes
-inner_hand address other zero next left bytes inner done = absurd (omega arith)
-inner_hand address other (suc level) next left bytes inner done = hand_done other next left bytes done
-
 -- the next item in hand, and what is behind it
 hand_next : (address next left : ℕ) (bytes : List ℕ) (i : Item) → next < length (items_in bytes) → left ≡ suc (left - 1) → get_or (items_in bytes) next i ≡ i
     → hand_events address bytes next left ≡ item (in_leaf address i) ∷ hand_events address bytes (next + 1) (left - 1)

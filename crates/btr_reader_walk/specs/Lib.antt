@@ -5,6 +5,7 @@ pub use Rattle.btr_node.specs.csum_kinds as csum_kinds
 pub use Rattle.btr_node.specs.outside as outside
 pub use Rattle.btr_node.specs.refusals as refusals
 pub use Rattle.btr_node.specs.vol_block as vol_block
+pub use Rattle.btr_node.specs.btrfs_format as btrfs_format
 pub mod Events
 pub mod Laws
 pub mod Map

@@ -1,7 +1,7 @@
 -- The nodes of a tree, each with what its parent says of it.
 use Rattle.std.specs.Prelude.{ℕ, zero, suc, ◌^◌, ◌==◌, nat_le, nat_lt, Bool, ◌&&◌, ◌||◌, if◌then◌else◌, List, [], ◌∷◌, map, Option, Some, None}
 use Rattle.std.specs.List.{flat_map}
-use Rattle.btrfs_format.specs.declared.object.TheConstants.{FIRST_FREE_OBJECTID, FS_TREE}
+use Rattle.btr_node.specs.btrfs_format.declared.object.TheConstants.{FIRST_FREE_OBJECTID, FS_TREE}
 use Rattle.btr_node.specs.outside.History.{Image}
 use Rattle.btr_node.specs.refusals.declared.refusal.BtrRefusal.{BtrRefusal}
 use Rattle.btr_node.specs.refusals.declared.rule.BtrRule.{BtrRule}

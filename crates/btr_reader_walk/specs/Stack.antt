@@ -1,6 +1,6 @@
 -- The nodes that a walk has still to meet, as a stack: the next one stands last.
 use Rattle.std.specs.Prelude.{ℕ, zero, suc, ◌+◌, ◌*◌, ◌/◌, ◌==◌, nat_le, Bool, true, ◌&&◌, ◌||◌, List, [], ◌∷◌, ◌++◌}
-use Rattle.btrfs_format.specs.declared.size.TheConstants.{KEY_PTR_SIZE}
+use Rattle.btr_node.specs.btrfs_format.declared.size.TheConstants.{KEY_PTR_SIZE}
 use Rattle.btr_reader_walk.specs.declared.tree.NodeEntry.{NodeEntry}
 
 -- what is met at them, where this is what is met at one

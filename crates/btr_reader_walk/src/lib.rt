@@ -15,7 +15,8 @@ mod walker;
 pub use blocks::read_node;
 pub use btr_node::{
     Block, BlockNo, BlockSource, BtrAnswer, BtrRefusal, BtrRule, DirEntry, DirItems, DiskRange,
-    ExtentContent, Fault, Feature, FileExtent, Head, Inode, Key, Memory, Stamp, SumKind, u16_at,
+    ExtentContent, Fault, Feature, FileExtent, Head, Inode, Key, Memory, Stamp, SumKind, btr_keys,
+    btrfs_format, u16_at, vol_block,
 };
 pub use laws::{
     children_give_items, leaves_give_items, nodes_are_met, nodes_decide, subtrees_are_trees,

@@ -3,8 +3,8 @@ ghost use Rattle.btr_reader_walk.specs.Events.{may_be_bare};
 ghost use Rattle.btr_reader_walk.specs.Node.{want};
 ghost use Rattle.btr_reader_walk.specs.Nodes.{is_file_tree, owner_asked};
 
+use btr_node::btrfs_format::object::{FIRST_FREE_OBJECTID, FS_TREE};
 use btr_node::{Expect, Key, SumKind};
-use btrfs_format::object::{FIRST_FREE_OBJECTID, FS_TREE};
 
 /// What the nodes of a volume share.
 #[derive(Clone, Copy, Debug, PartialEq, Eq)]

@@ -18,8 +18,8 @@ use crate::map::MapRange;
 use crate::node::{check_leaf, open_inner};
 use crate::node_walker::NodeWalker;
 use crate::tree::{NodeEntry, NodePointer, Owners, Tree};
+use btr_node::btrfs_format::size::KEY_PTR_SIZE;
 use btr_node::{BlockSource, BtrAnswer, BtrRefusal, BtrRule, Expect, Head, Memory};
-use btrfs_format::size::KEY_PTR_SIZE;
 use std::alloc::Global;
 
 impl NodeWalker {

@@ -5,10 +5,3 @@ use Rattle.btr_space_items.specs.declared.extent_head.ExtentHead.{ExtentHead}
 pub length-head_bytes : (h : ExtentHead) → length (extent_head_bytes h) ≡ 24
 unfolding extent_head_layout
 length-head_bytes h = refl
-
-pub length-ref_bytes : (r : InlineRef) → length (inline_ref_bytes r) ≡ inline_ref_size r
-unfolding tree_block_layout shared_block_layout data_ref_layout shared_data_layout
-length-ref_bytes (TreeBlock root) = refl
-length-ref_bytes (SharedBlock parent) = refl
-length-ref_bytes (DataRef root objectid offset count) = refl
-length-ref_bytes (SharedData parent count) = refl

@@ -10,6 +10,7 @@ unfoldable pub use Rattle.btr_keys.specs.Inode.{inode_layout}
 unfoldable pub use Rattle.btr_keys.specs.Key.{key_layout}
 pub use Rattle.btr_keys.specs.Repeated.{records, starts}
 unfoldable pub use Rattle.btr_keys.specs.Stamp.{stamp_layout}
+pub use Rattle.btr_keys.specs.btrfs_format.declared.size.TheConstants.{EXTENT_ITEM_SIZE, INLINE_BLOCK_REF_SIZE, INLINE_DATA_REF_SIZE}
 pub use Rattle.btr_space_items.specs.Chunk.{chunk_bytes, make_chunk}
 unfoldable pub use Rattle.btr_space_items.specs.Chunk.{chunk_layout}
 pub use Rattle.btr_space_items.specs.Device.{make_device}
@@ -25,4 +26,3 @@ pub use Rattle.btr_space_items.specs.Stripe.{make_stripe}
 unfoldable pub use Rattle.btr_space_items.specs.Stripe.{stripe_layout}
 pub use Rattle.btr_space_items.specs.declared.inline_ref.InlineRef.{InlineRef}
 pub use Rattle.btr_space_items.specs.declared.inline_ref.InlineRef.TheVariants.{DataRef, SharedBlock, SharedData, TreeBlock}
-pub use Rattle.btrfs_format.specs.declared.size.TheConstants.{EXTENT_ITEM_SIZE, INLINE_BLOCK_REF_SIZE, INLINE_DATA_REF_SIZE}

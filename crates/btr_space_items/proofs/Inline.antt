@@ -1,6 +1,6 @@
 -- Steps over the references of an extent.
 use Rattle.btr_space_items.proofs.Imports.{◌≡◌, ◌<◌, ◌≤◌, ℕ, List, length, drop, Option, Some, None, cond, ltb, ◌==◌, Bool, true, false, refl, arith, subst, length-drop, slice_index_or, ltb-false, Shrinks, behind_inline, rest_of, INLINE_BLOCK_REF_SIZE, INLINE_DATA_REF_SIZE}
-use Rattle.btrfs_format.specs.declared.key.TheConstants.{EXTENT_DATA_REF, SHARED_BLOCK_REF, SHARED_DATA_REF, TREE_BLOCK_REF}
+use Rattle.btr_keys.specs.btrfs_format.declared.key.TheConstants.{EXTENT_DATA_REF, SHARED_BLOCK_REF, SHARED_DATA_REF, TREE_BLOCK_REF}
 use Rattle.btr_space_items.specs.declared.inline_ref.TheConstants.{INLINE_SHARED_DATA_REF_SIZE}
 
 rest_shrinks : (n : ℕ) → 0 < n → Shrinks (rest_of n)

@@ -1,6 +1,6 @@
 -- Bodies of block group items, as the Btrfs on-disk format documentation has them (struct btrfs_block_group_item).
 use Rattle.std.specs.Prelude.{ℕ, List, drop, Option}
-use Rattle.btrfs_format.specs.declared.size.TheConstants.{BLOCK_GROUP_ITEM_SIZE}
+use Rattle.btr_keys.specs.btrfs_format.declared.size.TheConstants.{BLOCK_GROUP_ITEM_SIZE}
 use Rattle.btr_keys.specs.Layout.{Layout, made_by, ◌▸◌, u64, whole, spelling}
 use Rattle.btr_space_items.specs.declared.block_group.BlockGroup.{BlockGroup}
 

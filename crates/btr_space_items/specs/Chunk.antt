@@ -1,6 +1,6 @@
 -- Bodies of chunks, as the Btrfs on-disk format documentation has them (struct btrfs_chunk).
 use Rattle.std.specs.Prelude.{ℕ, ◌+◌, ◌*◌, ◌==◌, nat_lt, if◌then◌else◌, List, length, Option, Some, None}
-use Rattle.btrfs_format.specs.declared.size.TheConstants.{CHUNK_HEAD_SIZE, STRIPE_SIZE}
+use Rattle.btr_keys.specs.btrfs_format.declared.size.TheConstants.{CHUNK_HEAD_SIZE, STRIPE_SIZE}
 use Rattle.btr_keys.specs.vol_block.Volume.{field}
 use Rattle.btr_keys.specs.Layout.{Layout, made_by, ◌▸◌, u16, u32, u64, part, spelling}
 use Rattle.btr_space_items.specs.Stripe.{stripe_layout}

@@ -1,6 +1,6 @@
 -- Bodies of device items, as the Btrfs on-disk format documentation has them (struct btrfs_dev_item).
 use Rattle.std.specs.Prelude.{ℕ, List, drop, Option}
-use Rattle.btrfs_format.specs.declared.size.TheConstants.{DEV_ITEM_SIZE}
+use Rattle.btr_keys.specs.btrfs_format.declared.size.TheConstants.{DEV_ITEM_SIZE}
 use Rattle.btr_keys.specs.Layout.{Layout, made_by, ◌▸◌, u8, u32, u64, array, whole, spelling}
 use Rattle.btr_space_items.specs.declared.device.Device.{Device}
 

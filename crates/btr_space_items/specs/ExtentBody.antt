@@ -2,7 +2,7 @@
 -- (struct btrfs_extent_item): the head, which counts all uses, and behind it the references.
 use Rattle.std.specs.Prelude.{ℕ, ◌+◌, List, ◌++◌}
 use Rattle.std.specs.List.{flat_map, sum_by}
-use Rattle.btrfs_format.specs.declared.size.TheConstants.{EXTENT_ITEM_SIZE}
+use Rattle.btr_keys.specs.btrfs_format.declared.size.TheConstants.{EXTENT_ITEM_SIZE}
 use Rattle.btr_space_items.specs.ExtentHead.{extent_head_bytes}
 use Rattle.btr_space_items.specs.InlineRef.{inline_ref_bytes, inline_ref_size, ref_uses}
 use Rattle.btr_space_items.specs.declared.inline_ref.InlineRef.{InlineRef}

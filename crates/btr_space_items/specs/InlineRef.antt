@@ -1,8 +1,8 @@
 -- References that stand in an extent or metadata item, as the Btrfs on-disk format documentation has them (struct
 -- btrfs_extent_inline_ref, struct btrfs_extent_data_ref and struct btrfs_shared_data_ref).
 use Rattle.std.specs.Prelude.{ℕ, ◌==◌, nat_lt, if◌then◌else◌, List, length, drop, slice_index, Option, Some, None}
-use Rattle.btrfs_format.specs.declared.key.TheConstants.{EXTENT_DATA_REF, SHARED_BLOCK_REF, SHARED_DATA_REF, TREE_BLOCK_REF}
-use Rattle.btrfs_format.specs.declared.size.TheConstants.{INLINE_BLOCK_REF_SIZE, INLINE_DATA_REF_SIZE}
+use Rattle.btr_keys.specs.btrfs_format.declared.key.TheConstants.{EXTENT_DATA_REF, SHARED_BLOCK_REF, SHARED_DATA_REF, TREE_BLOCK_REF}
+use Rattle.btr_keys.specs.btrfs_format.declared.size.TheConstants.{INLINE_BLOCK_REF_SIZE, INLINE_DATA_REF_SIZE}
 use Rattle.btr_keys.specs.Layout.{Layout, made_by, ◌▸◌, u8, u32, u64, spelling}
 use Rattle.btr_keys.specs.Repeated.{records}
 use Rattle.btr_space_items.specs.declared.inline_ref.InlineRef.{InlineRef}

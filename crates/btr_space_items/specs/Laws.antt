@@ -1,7 +1,7 @@
 -- What is written is read again.
 use Rattle.std.specs.Prelude.{◌≡◌, ℕ, List, ◌++◌, Some}
 use Rattle.std.specs.List.{flat_map, AllByRecursion}
-use Rattle.btrfs_format.specs.declared.size.TheConstants.{BLOCK_GROUP_ITEM_SIZE, DEV_EXTENT_SIZE, DEV_ITEM_SIZE, ROOT_ITEM_SIZE, STRIPE_SIZE}
+use Rattle.btr_keys.specs.btrfs_format.declared.size.TheConstants.{BLOCK_GROUP_ITEM_SIZE, DEV_EXTENT_SIZE, DEV_ITEM_SIZE, ROOT_ITEM_SIZE, STRIPE_SIZE}
 use Rattle.btr_keys.specs.Layout.{ReadsBack}
 use Rattle.btr_space_items.specs.declared.extent_head.ExtentHead.{ExtentHead}
 use Rattle.btr_space_items.specs.declared.chunk.Chunk.{Chunk}

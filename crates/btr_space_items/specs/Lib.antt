@@ -1,4 +1,5 @@
 pub use Rattle.btr_keys.specs as btr_keys
+pub use Rattle.btr_keys.specs.btrfs_format as btrfs_format
 pub mod BlockGroup
 pub mod Chunk
 pub mod DevExtent

@@ -1,6 +1,6 @@
 -- Bodies of root items, as the Btrfs on-disk format documentation has them (struct btrfs_root_item).
 use Rattle.std.specs.Prelude.{ℕ, List, Option}
-use Rattle.btrfs_format.specs.declared.size.TheConstants.{ROOT_ITEM_SIZE}
+use Rattle.btr_keys.specs.btrfs_format.declared.size.TheConstants.{ROOT_ITEM_SIZE}
 use Rattle.btr_keys.specs.Layout.{Layout, made_by, ◌▸◌, u8, u32, u64, array, part, reserved, whole, spelling}
 use Rattle.btr_keys.specs.Key.{key_layout}
 use Rattle.btr_keys.specs.Stamp.{stamp}

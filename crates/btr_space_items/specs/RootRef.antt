@@ -1,6 +1,6 @@
 -- Bodies of root refs and root backrefs, as the Btrfs on-disk format documentation has them (struct btrfs_root_ref).
 use Rattle.std.specs.Prelude.{ℕ, ◌+◌, ◌==◌, nat_lt, if◌then◌else◌, List, length, take, drop, Option, Some, None}
-use Rattle.btrfs_format.specs.declared.size.TheConstants.{ROOT_REF_SIZE}
+use Rattle.btr_keys.specs.btrfs_format.declared.size.TheConstants.{ROOT_REF_SIZE}
 use Rattle.btr_keys.specs.vol_block.Volume.{field}
 use Rattle.btr_keys.specs.Layout.{Layout, made_by, ◌▸◌, u16, u64}
 use Rattle.btr_space_items.specs.declared.root_ref.RootRef.{RootRef}

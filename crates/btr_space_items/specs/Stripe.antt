@@ -1,6 +1,6 @@
 -- Stripes of chunks, as the Btrfs on-disk format documentation has them (struct btrfs_stripe).
 use Rattle.std.specs.Prelude.{ℕ, List, drop, Option}
-use Rattle.btrfs_format.specs.declared.size.TheConstants.{STRIPE_SIZE}
+use Rattle.btr_keys.specs.btrfs_format.declared.size.TheConstants.{STRIPE_SIZE}
 use Rattle.btr_keys.specs.Layout.{Layout, made_by, ◌▸◌, u64, array, whole, spelling}
 use Rattle.btr_space_items.specs.declared.stripe.Stripe.{Stripe}
 

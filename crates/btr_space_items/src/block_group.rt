@@ -1,8 +1,8 @@
 ghost use Rattle.std.specs.Prelude.{◌≡◌, length};
 ghost use Rattle.btr_space_items.specs.BlockGroup.{block_group_of, block_group_bytes};
 
+use btr_keys::btrfs_format::size::BLOCK_GROUP_ITEM_SIZE;
 use btr_keys::{Field, put_fields, u64_at};
-use btrfs_format::size::BLOCK_GROUP_ITEM_SIZE;
 
 /// The body of a block group, key (logical address, 192, length), both in bytes: 24 bytes, as the Btrfs on-disk format
 /// documentation has it.

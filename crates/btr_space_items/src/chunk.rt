@@ -2,8 +2,8 @@ ghost use Rattle.std.specs.Prelude.{◌≡◌, ◌≤◌, length};
 ghost use Rattle.btr_space_items.specs.Chunk.{chunk_layout, chunk_of, chunk_bytes};
 
 use crate::stripe::Stripe;
+use btr_keys::btrfs_format::size::{CHUNK_HEAD_SIZE, CHUNK_SIZE, STRIPE_SIZE};
 use btr_keys::{Field, put_fields, u16_at, u32_at, u64_at};
-use btrfs_format::size::{CHUNK_HEAD_SIZE, CHUNK_SIZE, STRIPE_SIZE};
 
 /// The body of a chunk, key (256, 228, logical address in bytes): 48 bytes, and 32 for each stripe, as the Btrfs on-disk
 /// format documentation has it.

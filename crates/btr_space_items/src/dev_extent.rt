@@ -1,8 +1,8 @@
 ghost use Rattle.std.specs.Prelude.{◌≡◌, length};
 ghost use Rattle.btr_space_items.specs.DevExtent.{dev_extent_of, dev_extent_bytes};
 
+use btr_keys::btrfs_format::size::DEV_EXTENT_SIZE;
 use btr_keys::{Field, array_at, put_fields, u64_at};
-use btrfs_format::size::DEV_EXTENT_SIZE;
 
 /// The body of a device extent, key (device, 204, physical address in bytes): 48 bytes, as the Btrfs on-disk format
 /// documentation has it.

@@ -1,8 +1,8 @@
 ghost use Rattle.std.specs.Prelude.{◌≡◌, ◌+◌, ◌≤◌, length};
 ghost use Rattle.btr_space_items.specs.Device.{device_layout, device_at, device_of, device_bytes};
 
+use btr_keys::btrfs_format::size::DEV_ITEM_SIZE;
 use btr_keys::{Field, array_at, put_fields, u32_at, u64_at};
-use btrfs_format::size::DEV_ITEM_SIZE;
 
 /// The body of a device, key (1, 216, device): 98 bytes, as the Btrfs on-disk format documentation has it.
 #[derive(Clone, Copy, Debug, PartialEq, Eq)]

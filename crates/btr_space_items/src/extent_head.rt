@@ -1,8 +1,8 @@
 ghost use Rattle.std.specs.Prelude.{◌≡◌, length};
 ghost use Rattle.btr_space_items.specs.ExtentHead.{extent_head_of, extent_head_bytes};
 
+use btr_keys::btrfs_format::size::EXTENT_ITEM_SIZE;
 use btr_keys::{Field, put_fields, u64_at};
-use btrfs_format::size::EXTENT_ITEM_SIZE;
 
 /// The first 24 bytes of an extent, key (logical address, 168, length), or of a metadata extent, key (logical address,
 /// 169, level), as the Btrfs on-disk format documentation has it. References stand behind it.

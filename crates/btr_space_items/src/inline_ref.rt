@@ -12,9 +12,11 @@ ghost use Rattle.btr_space_items.specs.InlineRef.{
   ref_uses,
 };
 
+use btr_keys::btrfs_format::key::{
+    EXTENT_DATA_REF, SHARED_BLOCK_REF, SHARED_DATA_REF, TREE_BLOCK_REF,
+};
+use btr_keys::btrfs_format::size::{INLINE_BLOCK_REF_SIZE, INLINE_DATA_REF_SIZE};
 use btr_keys::{Field, put_fields, u32_at, u64_at};
-use btrfs_format::key::{EXTENT_DATA_REF, SHARED_BLOCK_REF, SHARED_DATA_REF, TREE_BLOCK_REF};
-use btrfs_format::size::{INLINE_BLOCK_REF_SIZE, INLINE_DATA_REF_SIZE};
 use std::marker::Model;
 
 /// An inline reference to data by a leaf: a kind, the leaf's address, and `struct btrfs_shared_data_ref`.

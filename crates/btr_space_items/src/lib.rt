@@ -19,6 +19,7 @@ mod root_ref;
 mod stripe;
 
 pub use block_group::BlockGroup;
+pub use btr_keys::btrfs_format;
 pub use chunk::Chunk;
 pub use dev_extent::DevExtent;
 pub use device::Device;

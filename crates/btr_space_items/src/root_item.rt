@@ -1,8 +1,8 @@
 ghost use Rattle.std.specs.Prelude.{◌≡◌, ◌≤◌, length};
 ghost use Rattle.btr_space_items.specs.RootItem.{root_item_layout, root_item_of, root_item_bytes};
 
+use btr_keys::btrfs_format::size::ROOT_ITEM_SIZE;
 use btr_keys::{Field, Inode, Key, Stamp, array_at, put_fields, u32_at, u64_at};
-use btrfs_format::size::ROOT_ITEM_SIZE;
 
 /// The body of a root item, key (tree, 132, offset): 439 bytes, as the Btrfs on-disk format documentation has it. The
 /// offset is 0, or the transaction that made a snapshot.

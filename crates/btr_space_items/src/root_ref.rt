@@ -3,8 +3,8 @@ ghost use Rattle.std.specs.Option.{option_map};
 ghost use Rattle.btr_keys.specs.vol_block.Volume.{field};
 ghost use Rattle.btr_space_items.specs.RootRef.{root_ref_head, root_ref_value, root_ref_of, root_ref_bytes};
 
+use btr_keys::btrfs_format::size::ROOT_REF_SIZE;
 use btr_keys::{Field, put_fields, u16_at, u64_at};
-use btrfs_format::size::ROOT_REF_SIZE;
 
 /// Where a tree stands in a directory of another: the body of a root ref, key (parent tree, 156, tree), and of a root
 /// backref, key (tree, 144, parent tree), as the Btrfs on-disk format documentation has it.

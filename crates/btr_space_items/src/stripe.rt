@@ -1,8 +1,8 @@
 ghost use Rattle.std.specs.Prelude.{◌≡◌, ◌+◌, ◌≤◌, length};
 ghost use Rattle.btr_space_items.specs.Stripe.{stripe_layout, stripe_at, stripe_of, stripe_bytes};
 
+use btr_keys::btrfs_format::size::STRIPE_SIZE;
 use btr_keys::{Field, array_at, put_fields, u64_at};
-use btrfs_format::size::STRIPE_SIZE;
 
 /// Where a chunk lies on a device: 32 bytes, as the Btrfs on-disk format documentation has it.
 #[derive(Clone, Copy, Debug, PartialEq, Eq)]

@@ -6,6 +6,7 @@ pub use Rattle.std.specs.List.{starts_with}
 pub use Rattle.btr_space_items.proofs.btr_keys.Layouts.{Reads, array_reads, part_reads, start, u16_reads, u32_reads, u64_reads, u8_reads, ◌▹◌}
 unfoldable pub use Rattle.btr_space_items.specs.Device.{device_layout}
 pub use Rattle.btr_space_items.specs.btr_keys.Layout.{Layout, spelling}
+pub use Rattle.btr_space_items.specs.btrfs_format.declared.block.TheConstants.{SUPER_INFO_OFFSET, SUPER_MAGIC_OFFSET}
 pub use Rattle.btr_super.specs.Laws.{MirrorsRead, SupersReadBack}
 pub use Rattle.btr_super.specs.Rules.{bad_field, block_rules, failing, feature_rules, field_rules, has_fields, is_super, super_refusals, unless_refused}
 unfoldable pub use Rattle.btr_super.specs.Rules.{super_of}
@@ -13,7 +14,6 @@ pub use Rattle.btr_super.specs.Sums.{csum_number, csum_type_of, has_sum, known_k
 pub use Rattle.btr_super.specs.Super.{make_super, mirror_bytes, super_bytes, super_in}
 unfoldable pub use Rattle.btr_super.specs.Super.{super_layout}
 pub use Rattle.btr_super.specs.declared.superblock.Super.{Super}
-pub use Rattle.btrfs_format.specs.declared.block.TheConstants.{SUPER_INFO_OFFSET, SUPER_MAGIC_OFFSET}
 pub use Rattle.byteorder.specs.Endian.{little_bytes, little_number}
 pub use Rattle.csum_kinds.proofs.Widths.{length-kind_sum}
 pub use Rattle.csum_kinds.specs.Kind.{kind_sum}

@@ -1,8 +1,8 @@
 -- The rules of a superblock that is read, each a test and what is answered where it fails, in their order.
 use Rattle.std.specs.Prelude.{ℕ, ◌+◌, ◌-◌, ◌*◌, ◌%◌, ◌^◌, ◌==◌, nat_lt, nat_le, Bool, ◌&&◌, ◌||◌, if◌then◌else◌, bit_and, List, [], ◌∷◌, ◌++◌, codes, is_some, Result, Ok, Err}
-use Rattle.btrfs_format.specs.declared.block.TheConstants.{SUPER_INFO_OFFSET, SUPER_MAGIC_OFFSET}
-use Rattle.btrfs_format.specs.declared.feature.TheConstants.{BIG_METADATA, COMPRESS_LZO, COMPRESS_ZSTD, DEFAULT_SUBVOL, EXTENDED_IREF, METADATA_UUID, MIXED_BACKREF, NO_HOLES, SIMPLE_QUOTA, SKINNY_METADATA}
-use Rattle.btrfs_format.specs.declared.size.TheConstants.{SYSTEM_CHUNK_ARRAY_SIZE}
+use Rattle.btr_space_items.specs.btrfs_format.declared.block.TheConstants.{SUPER_INFO_OFFSET, SUPER_MAGIC_OFFSET}
+use Rattle.btr_space_items.specs.btrfs_format.declared.feature.TheConstants.{BIG_METADATA, COMPRESS_LZO, COMPRESS_ZSTD, DEFAULT_SUBVOL, EXTENDED_IREF, METADATA_UUID, MIXED_BACKREF, NO_HOLES, SIMPLE_QUOTA, SKINNY_METADATA}
+use Rattle.btr_space_items.specs.btrfs_format.declared.size.TheConstants.{SYSTEM_CHUNK_ARRAY_SIZE}
 use Rattle.refusals.specs.declared.refusal.BtrRefusal.{BtrRefusal}
 use Rattle.refusals.specs.declared.refusal.BtrRefusal.TheVariants.{BadBtrfs, Unsupported, LogPending}
 use Rattle.refusals.specs.declared.rule.BtrRule.TheVariants.{SuperCsum, SuperField}

@@ -1,8 +1,8 @@
 -- The checksum of a superblock: the first 32 bytes, of the bytes behind them.
 use Rattle.std.specs.Prelude.{ℕ, ◌==◌, Bool, true, if◌then◌else◌, List, ◌++◌, drop, nat_eq, Option, Some, None}
 use Rattle.std.specs.List.{starts_with}
-use Rattle.btrfs_format.specs.declared.feature.TheConstants.{CSUM_TYPE_CRC32, CSUM_TYPE_SHA256}
-use Rattle.btrfs_format.specs.declared.size.TheConstants.{CSUM_SIZE}
+use Rattle.btr_space_items.specs.btrfs_format.declared.feature.TheConstants.{CSUM_TYPE_CRC32, CSUM_TYPE_SHA256}
+use Rattle.btr_space_items.specs.btrfs_format.declared.size.TheConstants.{CSUM_SIZE}
 use Rattle.csum_kinds.specs.Kind.{kind_sum}
 use Rattle.csum_kinds.specs.declared.kind.SumKind.{SumKind}
 use Rattle.csum_kinds.specs.declared.kind.SumKind.TheVariants.{Crc32c, Sha256}

@@ -1,6 +1,6 @@
 -- The superblock, as the Btrfs on-disk format documentation has it (struct btrfs_super_block).
 use Rattle.std.specs.Prelude.{ℕ, ◌*◌, ◌==◌, bit_and, if◌then◌else◌, List, ◌++◌, drop, codes, replicate}
-use Rattle.btrfs_format.specs.declared.feature.TheConstants.{METADATA_UUID}
+use Rattle.btr_space_items.specs.btrfs_format.declared.feature.TheConstants.{METADATA_UUID}
 use Rattle.refusals.specs.vol_block.Volume.{put_field}
 use Rattle.btr_space_items.specs.btr_keys.Layout.{Layout, made_by, ◌▸◌, u8, u16, u32, u64, array, part, spelling}
 use Rattle.btr_space_items.specs.Device.{device_layout}

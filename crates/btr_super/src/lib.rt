@@ -9,6 +9,7 @@ mod read;
 mod sums;
 mod superblock;
 
+pub use btr_space_items::btrfs_format;
 pub use laws::{mirrors_read, supers_read_back};
 pub use sums::{csum_type, sum_kind};
 pub use superblock::{Super, mirror};

@@ -16,12 +16,12 @@ ghost use Rattle.btr_super.specs.Rules.{
 
 use crate::sums::{has_sum, sum_kind};
 use crate::superblock::Super;
-use btrfs_format::block::{MAGIC, SUPER_INFO_OFFSET, SUPER_MAGIC_OFFSET};
-use btrfs_format::feature::{
+use btr_space_items::btrfs_format::block::{MAGIC, SUPER_INFO_OFFSET, SUPER_MAGIC_OFFSET};
+use btr_space_items::btrfs_format::feature::{
     BIG_METADATA, COMPRESS_LZO, COMPRESS_ZSTD, DEFAULT_SUBVOL, EXTENDED_IREF, METADATA_UUID,
     MIXED_BACKREF, NO_HOLES, SIMPLE_QUOTA, SKINNY_METADATA,
 };
-use btrfs_format::size::SYSTEM_CHUNK_ARRAY_SIZE;
+use btr_space_items::btrfs_format::size::SYSTEM_CHUNK_ARRAY_SIZE;
 use refusals::{Block, BlockNo, BtrRefusal, BtrRule, Feature, u16_at};
 
 /// The bits of the incompatible features that are read.

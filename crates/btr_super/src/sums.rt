@@ -1,8 +1,8 @@
 ghost use Rattle.std.specs.Prelude.{◌≡◌, ◌≤◌, drop, length, Some};
 ghost use Rattle.btr_super.specs.Sums.{known_kind, csum_number, has_sum, behind_sum, sealed};
 
-use btrfs_format::feature::{CSUM_TYPE_CRC32, CSUM_TYPE_SHA256};
-use btrfs_format::size::CSUM_SIZE;
+use btr_space_items::btrfs_format::feature::{CSUM_TYPE_CRC32, CSUM_TYPE_SHA256};
+use btr_space_items::btrfs_format::size::CSUM_SIZE;
 use csum_kinds::{SumKind, kind_sum};
 use refusals::{Block, u16_at};
 

@@ -5,8 +5,8 @@ ghost use Rattle.btr_super.specs.Super.{super_layout, super_in, super_bytes, mir
 
 use crate::sums::seal;
 use btr_space_items::Device;
-use btrfs_format::block::MAGIC;
-use btrfs_format::feature::METADATA_UUID;
+use btr_space_items::btrfs_format::block::MAGIC;
+use btr_space_items::btrfs_format::feature::METADATA_UUID;
 use refusals::{Block, BlockNo, Field, array_at, put_fields, put_u64, u16_at, u32_at, u64_at};
 
 /// The superblock of a Btrfs volume: block 16 and the copies of it, as the Btrfs on-disk format documentation has it.

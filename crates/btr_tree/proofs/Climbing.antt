@@ -61,14 +61,6 @@ climbing_begins old leaves some small made few = record {
       (append-nil (pointers_to old.generation 0 0 (length leaves) old.slots) ∙ sym (first image ranges bare stand)) (IsPermutation-refl (level_pointers old.generation 0 0 old.slots (length leaves ∷ [])));
 }
 
--- a level is a byte
-pub climbing_below : (old now : Made) (leaves children : List Child) (level : ℕ) → IsClimbing old now leaves children level → 1 < length children → level < 255
-climbing_below old now leaves children level so_far more = by_depth so_far.depth so_far.deep so_far.enough
-  where
-    by_depth : (depth : ℕ) → depth + level ≡ 255 → length children ≤ 2 ^ depth → level < 255
-    by_depth zero deep enough = absurd (omega arith)
-    by_depth (suc depth) deep enough = omega arith
-
 zeroth : (k : ℕ) → k ≡ 0 + k
 zeroth k = omega arith
 

@@ -1,6 +1,6 @@
 -- From the leaves of a tree up to its root, where nodes are written on the way.
 use Rattle.btr_tree.proofs.Imports.{◌≡◌, ℕ, ◌+◌, ◌^◌, ◌<◌, ◌≤◌, Bool, List, length, get_or, sym, ◌∙◌, subst, arith, sum, div_ceil, Image, first_keys, Ascends, Child, SubtreesAreTrees, Made, Goes, HasBack, taken, with_written, fan_out, tree_levels, IsRaised, IsClimbed, HasForest, IsRoot, HasNodes, HasWholeNodes, Root}
-use Rattle.btr_tree.proofs.Climbing.{IsClimbing, roots_ascend, climbing_begins, climbing_below, climbing_goes_on, climbing_short, climbing_count, climbing_nodes, root_of, whole_of}
+use Rattle.btr_tree.proofs.Climbing.{IsClimbing, roots_ascend, climbing_begins, climbing_goes_on, climbing_short, climbing_count, climbing_nodes, root_of, whole_of}
 use Rattle.btr_tree.proofs.RaisingFronts.{blanks, length-blanks, whole_count}
 
 pub climb_begins : (tells : Bool) (image : Image) (old : Made) (leaves : List Child) → 1 ≤ length leaves → length leaves ≤ 2 ^ 64 → taken old ≡ length leaves → taken old ≤ length old.slots
@@ -16,15 +16,8 @@ module _ (tells : Bool) (first second : Image) (old now : Made) (leaves children
   abbrev start : HasBack tells first second old now (λ m n. IsClimbing m n leaves children level) (blanks old.written)
   start = so_far (blanks old.written) (length-blanks old.written)
 
-  -- a level is a byte
-  pub climb_below : 1 < length children → level < 255
-  climb_below more = climbing_below (with_written old (blanks old.written)) (with_written now start.back) leaves children level start.now more
-
   pub climb_some : 1 ≤ length children
   climb_some = start.now.some
-
-  pub climb_few : taken now ≤ length now.slots
-  climb_few = omega (arith, start.now.few, whole_count now start.back start.count)
 
   pub climb_order : HasForest old leaves → Ascends (first_keys children)
   climb_order made =

@@ -11,9 +11,6 @@ module _ (law : LeavesGiveItems) (b : Building) (child : Child) (so_far : Standi
   pub closed_made : length closed.made.nodes ≡ length closed.children
   closed_made = (leaf_count law b child so_far hand read).0
 
-  pub closed_few : length closed.made.nodes ≤ length closed.made.slots
-  closed_few = (leaf_count law b child so_far hand read).1
-
   pub closed_forest : IsForest closed.made 0 closed.children
   closed_forest = record { items = pushed b; roots = leaf_roots law b child so_far hand read; order = so_far.order }
 

@@ -1,10 +1,6 @@
 -- The nodes that were written, and those that are held.
 use Rattle.btr_tree.proofs.Imports.{◌≡◌, ℕ, ◌+◌, ◌<◌, ◌≤◌, Bool, List, [], ◌++◌, length, take, IsTrue, refl, sym, ◌∙◌, ap, subst, arith, length-append, append-nil, length-take, get_or-take, Image, History, WritesOnly, writes_then, writes_weaker, Made, StandAt, Goes, IsLater, taken, flushed, IsInSlots}
 
--- nothing was written
-pub goes_none : (tells : Bool) (image : Image) (m : Made) → Goes tells image image m m (λ x y. y ≡ x)
-goes_none tells image m = λ front count. record { back = front; count = count; stands = λ t stand. stand; now = refl }
-
 -- the nodes that were held were written
 pub goes_flushed : (tells : Bool) (before after : Image) (old new : Made) → new ≡ flushed old
     → (IsTrue tells → (front : List (List ℕ)) → length front ≡ old.written → StandAt before old.form.nodesize old.offsets front → StandAt after old.form.nodesize old.offsets (front ++ old.nodes))

@@ -23,9 +23,6 @@ module _ (m : Made) (form : Form) (owner generation : ℕ) (chunk_tree slots off
   pub new_stands : (children : List Child) → children ≡ [] → (image : Image) → Stands (begun children) image
   new_stands children none image = subst (λ cs. Stands (begun cs) image) (sym none) (new_standing (told_nodes (begun []) image) (none_told image))
 
-  pub new_none : (children : List Child) → (image : Image) → pushed_on (begun children) image ≡ []
-  new_none children image = new_pushed (told_nodes (begun []) image) (none_told image)
-
 first_more : (key : Key) (keys : List Key) (last : Key) → 1 ≤ length keys → is_before_first key keys ≡ true → is_before_first key (keys ++ last ∷ []) ≡ true
 first_more key [] last some h = absurd (omega arith)
 first_more key (next ∷ keys) last some h = h

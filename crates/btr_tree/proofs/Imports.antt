@@ -33,6 +33,7 @@ pub use Rattle.btr_node.specs.NodeSize.{IsNodeSize}
 pub use Rattle.btr_node.specs.Order.{Ascends, ascends, is_before, is_before_first}
 pub use Rattle.btr_node.specs.Records.{records_in}
 pub use Rattle.btr_node.specs.btr_keys.declared.key.Key.{Key}
+pub use Rattle.btr_node.specs.btrfs_format.declared.size.TheConstants.{HEADER_SIZE, ITEM_SIZE, KEY_PTR_SIZE}
 pub use Rattle.btr_node.specs.declared.child.Child.{Child}
 pub use Rattle.btr_node.specs.declared.expect.Expect.{Expect}
 pub use Rattle.btr_node.specs.outside.History.{History, Image, WritesOnly, block_at, reads}
@@ -62,4 +63,3 @@ pub use Rattle.btr_tree.specs.Whole.{ArePacked, HasFirstKey, HasFirstKeys, HasLi
 pub use Rattle.btr_tree.specs.Writing.{HoldBytes, IsInNode, IsInSlots}
 pub use Rattle.btr_tree.specs.declared.builder.TreeBuilder.TheInside.{Inside}
 pub use Rattle.btr_tree.specs.declared.climb.Root.{Root}
-pub use Rattle.btrfs_format.specs.declared.size.TheConstants.{HEADER_SIZE, ITEM_SIZE, KEY_PTR_SIZE}

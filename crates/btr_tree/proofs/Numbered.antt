@@ -2,7 +2,7 @@
 use Rattle.btr_tree.proofs.Imports.{◌≡◌, ℕ, zero, suc, ◌+◌, ◌*◌, ◌%◌, ◌<◌, ◌≤◌, ◌^◌, Bool, true, false, List, [], ◌∷◌, ◌++◌, map, Ordering, Less, IsTrue, refl, sym, ◌∙◌, ap, subst, arith, range_with_len, nat_cmp_is, ordering_then, Key, Item, keys_of, ascends, is_before, Ascends, joined, AreSlots, Building, Holds, IsSameBuilding, all_made}
 use Rattle.std.proofs.Common.{nat_cmp, is_lt, All}
 use Rattle.std.proofs.lemmas.List.FromFn.{get_or-map-range_with_len, length-map-range_with_len, map-range_with_len_more}
-use Rattle.btrfs_format.specs.declared.key.TheConstants.{INODE_ITEM}
+use Rattle.btr_node.specs.btrfs_format.declared.key.TheConstants.{INODE_ITEM}
 use Rattle.btr_tree.proofs.Standing.{hand_order}
 
 -- what holds of each value of a function holds of each in a list of these

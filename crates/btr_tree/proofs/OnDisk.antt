@@ -118,11 +118,6 @@ stand_more n k slots nodes old new bytes size right inside long is so_far others
     ∙ so_far i low)
     (cases_eq i k)
 
--- a block of a node at a slot is a block of the slots
-pub in_slots : (n : ℕ) (slots : List ℕ) (k a size b : ℕ) → slice_get slots k ≡ Some a → size ≡ n → IsInNode size a b → IsInSlots n slots b
-in_slots n slots k a size b at same inside =
-    (k, a, slice_get_within slots k a at, get_or_from_slice_get slots k a a at, subst (λ (s : ℕ). IsInNode s a b) same inside)
-
 -- and of the first ones
 pub in_first : (n m : ℕ) (slots : List ℕ) (k a size b : ℕ) → k < m → slice_get slots k ≡ Some a → size ≡ n → IsInNode size a b → IsInSlots n (take m slots) b
 in_first n m slots k a size b low at same inside =

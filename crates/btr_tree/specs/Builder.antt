@@ -2,7 +2,7 @@
 use Rattle.std.specs.Prelude.{◌≡◌, ℕ, ◌+◌, ◌≤◌, ◌<◌, Bool, true, List, [], ◌∷◌, ◌++◌, length, map, slice_index_or, Option, Some, MatchOption}
 use Rattle.std.specs.List.{slice_get}
 use Rattle.std.specs.List.{All, flat_map}
-use Rattle.btrfs_format.specs.declared.size.TheConstants.{ITEM_SIZE}
+use Rattle.btr_node.specs.btrfs_format.declared.size.TheConstants.{ITEM_SIZE}
 use Rattle.btr_node.specs.outside.History.{Image}
 use Rattle.btr_node.specs.btr_keys.declared.key.Key.{Key}
 use Rattle.btr_node.specs.Draft.{node_bytes}

@@ -6,6 +6,7 @@ pub use Rattle.btr_node.specs.csum_kinds as csum_kinds
 pub use Rattle.btr_node.specs.outside as outside
 pub use Rattle.btr_node.specs.refusals as refusals
 pub use Rattle.btr_node.specs.vol_block as vol_block
+pub use Rattle.btr_node.specs.btrfs_format as btrfs_format
 pub mod Answers
 pub mod Builder
 pub mod Building

@@ -2,7 +2,7 @@ ghost use Rattle.std.specs.Prelude.{◌≡◌, ◌<◌, ◌^◌};
 ghost use Rattle.btr_node.specs.NodeSize.{IsNodeSize};
 ghost use Rattle.btr_tree.specs.Counting.{node_bound};
 
-use btrfs_format::size::HEADER_SIZE;
+use btr_node::btrfs_format::size::HEADER_SIZE;
 
 /// The bytes of a node's checksum and head, as the Btrfs on-disk format documentation has them.
 pub const HEAD_SIZE: u64 = HEADER_SIZE as u64;

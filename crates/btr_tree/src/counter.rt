@@ -5,7 +5,7 @@ ghost use Rattle.btr_tree.specs.Packing.{fan_out};
 
 use crate::bound::HEAD_SIZE;
 use crate::levels::{count_nodes, nodes_at};
-use btrfs_format::size::{ITEM_SIZE, KEY_PTR_SIZE};
+use btr_node::btrfs_format::size::{ITEM_SIZE, KEY_PTR_SIZE};
 use std::marker::Model;
 
 /// The bytes of an item's head in a leaf.

@@ -23,7 +23,8 @@ pub use answer::TreeAnswer;
 pub use bound::node_bound;
 pub use btr_node::{
     Access, Block, BlockSource, CopyList, DirEntry, Disk, Extref, Fault, Ids, Inode, InodeRef, Key,
-    Memory, SumKind, VolAnswer, VolumeRefusal, data_ref_hash, kind_sum, kind_width, name_hash,
+    Memory, SumKind, VolAnswer, VolumeRefusal, btrfs_format, data_ref_hash, kind_sum, kind_width,
+    name_hash, vol_block,
 };
 pub use builder::TreeBuilder;
 pub use climb::Root;

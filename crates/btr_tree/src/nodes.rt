@@ -14,9 +14,9 @@ use crate::NodeSlots;
 use crate::bound::HEAD_SIZE;
 use crate::counter::CHILD_SIZE;
 use crate::write::write_node;
+use btr_node::btrfs_format::size::{ITEM_SIZE, KEY_PTR_SIZE};
 use btr_node::{Access, Child, Disk, Expect, Fault, Key, Memory, NodeWriter};
 use btr_reader_walk::Form;
-use btrfs_format::size::{ITEM_SIZE, KEY_PTR_SIZE};
 use std::alloc::Global;
 use std::marker::Model;
 

@@ -14,6 +14,7 @@ mod write;
 mod writer;
 
 pub use answer::WriteAnswer;
+pub use btr_tree::btrfs_format;
 pub use form::NodeForm;
 pub use laws::{trees_stand_by_nodes, trees_stand_by_offsets};
 pub use list::ListItems;

@@ -19,20 +19,6 @@ refuses o image (answer.ImageShared tree) reiser is = is
 refuses o image answer.Fault reiser is = tt
 refuses o image answer.Memory reiser is = tt
 
-pub answers : (a : Answer) → IsPrepareAnswer a → IsConvertAnswer a
-answers (answer.Volume r) is = tt
-answers (answer.Btr r) is = is
-answers (answer.NoSpace needed free run_needed longest) is = tt
-answers answer.WrongFormat is = tt
-answers answer.ImageMissing is = is
-answers (answer.ImageMoved block) is = is
-answers (answer.ImageDamaged r) is = is
-answers (answer.ReservedUsed block) is = is
-answers (answer.NotSound part address) is = is
-answers (answer.ImageShared tree) is = is
-answers answer.Fault is = tt
-answers answer.Memory is = tt
-
 -- a failure refuses nothing
 pub fails : (image : Image) (o : Options) (a : Answer) → (a ≡ answer.Fault) ⊎ (a ≡ answer.Memory) → RefusesConversion image o a
 fails image o a is = ⊎_elim (λ fault. subst (RefusesConversion image o) (sym fault) tt) (λ memory. subst (RefusesConversion image o) (sym memory) tt) is

@@ -8,15 +8,14 @@ pub use Rattle.std.proofs.lemmas.Option.{get_or_from_slice_get, slice_get_within
 pub use Rattle.std.proofs.lemmas.Result.{MatchResult-weaker, err_from_is_err_and}
 pub use Rattle.std.specs.List.{AllByRecursion, flat_map, range_with_len}
 pub use Rattle.std.specs.Prelude.{All, AllPairs, Contains, IfErr, IsTrue, MatchOption, Result, codes, if◌then◌else◌, nat_le, slice_get}
-pub use Rattle.btrfs_format.specs.declared.block.TheConstants.{FIRST_MIRROR, SECOND_MIRROR, SUPER_BLOCK}
-pub use Rattle.btrfs_format.specs.declared.object.TheConstants.{CHUNK_TREE, EXTENT_CSUM_OBJECTID, EXTENT_TREE, ROOT_TREE}
+pub use Rattle.btr_tree_writer.specs.btrfs_format.declared.block.TheConstants.{FIRST_MIRROR, SECOND_MIRROR, SUPER_BLOCK}
+pub use Rattle.btr_tree_writer.specs.btrfs_format.declared.object.TheConstants.{CHUNK_TREE, EXTENT_CSUM_OBJECTID, EXTENT_TREE, ROOT_TREE}
 pub use Rattle.convert_core.specs.Answers.{IsConvertAnswer, RefusesConvert, by_writer}
 pub use Rattle.convert_core.specs.Converted.{DiffersInFree, IsConvertPlace, IsConverted, IsConvertible, IsEither, IsFree, IsHalfConverted, IsLeftByConvert, IsNew, IsPutDown, IsTaken, KeepsOldVolume, StandsConverted}
 pub use Rattle.convert_core.specs.Copied.{begins_with_super, copy_in}
 pub use Rattle.convert_core.specs.Surveyed.{IsSummary, summary_by}
 pub use Rattle.convert_core.specs.Whole.{IsWhole}
 pub use Rattle.convert_core.specs.declared.volume.Written.{Written}
-pub use Rattle.convert_options.specs.declared.options.Options.{Options}
 pub use Rattle.convert_steps.proofs.command_answers.Handed.{handed_on, volume_cause}
 pub use Rattle.convert_steps.specs.Making.{IsMaking, Making, chunk_slots, label_by, label_field, new_ids, slots}
 pub use Rattle.convert_steps.specs.Moved.{CanMove, HasOwner, HoldMoved, IsMovedPlace, IsMovedTo}
@@ -70,6 +69,7 @@ unfoldable pub use Rattle.unit_plan.specs.Places.{node_places}
 pub use Rattle.unit_plan.specs.btr_node.Leaf.{Item}
 pub use Rattle.unit_plan.specs.btr_node.NodeSize.{IsNodeSize}
 pub use Rattle.unit_plan.specs.btr_tree.Writing.{IsInNode, IsInSlots}
+pub use Rattle.unit_plan.specs.convert_options.declared.options.Options.{Options}
 pub use Rattle.unit_plan.specs.declared.chunk.PlannedChunk.{PlannedChunk}
 pub use Rattle.unit_plan.specs.declared.counts.Counts.{Counts}
 pub use Rattle.unit_plan.specs.declared.need.Need.{Need}

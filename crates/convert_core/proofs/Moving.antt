@@ -48,13 +48,6 @@ taken_cases plan b taken =
     ⊎_elim (λ system. inl system) (λ others. inr (or_cases (is_among plan.metadata (b / 256)) (is_among plan.data_ (b / 256)) others))
     (or_cases (is_among plan.system (b / 256)) (is_among plan.metadata (b / 256) || is_among plan.data_ (b / 256)) taken)
 
--- the superblock and its copies lie in no free unit
-pub superblock_not_free : (image : Image) → IsFree image 16 → ⊥
-superblock_not_free image free = free.unreserved 16 refl (inl (omega arith))
-
-pub mirror_not_free : (image : Image) (b : ℕ) → IsMirror b → IsFree image b → ⊥
-mirror_not_free image b is free = free.unreserved b refl (⊎_elim (λ second. at_second b (length (used_of image)) second) (λ third. at_third b (length (used_of image)) third) is)
-
 -- ---- tails
 
 -- a file that the piece is for has a name

@@ -2,7 +2,7 @@
 use Rattle.convert_core.proofs.Imports.{◌≡◌, ◌∙◌, ℕ, zero, suc, ◌+◌, ◌-◌, ◌*◌, ◌^◌, ◌<◌, ◌≤◌, min, List, [], ◌∷◌, ◌++◌, map, take, refl, ap, arith, Contains, flat_map, range_with_len, EXTENT_CSUM_OBJECTID, Image, block_at, Item, contains_head, contains_tail, Piece}
 use Rattle.std.specs.Int.{div_ceil}
 use Rattle.std.proofs.Math.Nat.{min-le_right}
-use Rattle.btrfs_format.specs.declared.key.TheConstants.{EXTENT_CSUM}
+use Rattle.btr_tree_writer.specs.btrfs_format.declared.key.TheConstants.{EXTENT_CSUM}
 use Rattle.unit_plan.specs.btr_keys.Key.{make_key}
 use Rattle.unit_plan.specs.csum_kinds.Kind.{kind_sum, kind_width}
 use Rattle.unit_plan.specs.csum_kinds.declared.kind.SumKind.{SumKind}

@@ -18,15 +18,6 @@ pub record ArePlacedTo (pieces : List Piece) (blocks end i : ℕ) : Type 0 where
   pub before : (k : ℕ) (d : Piece) → k < i → (get_or pieces k d).place + (get_or pieces k d).count ≤ end
   pub behind : Ascend pieces → (k : ℕ) (d : Piece) → i ≤ k → k < length pieces → end ≤ (get_or pieces k d).place
 
-pub placed_none : (pieces : List Piece) (blocks : ℕ) → ArePlacedTo pieces blocks 0 0
-placed_none pieces blocks = record {
-  small = λ k d h. absurd (omega arith);
-  inside = λ k d h. absurd (omega arith);
-  ascending = λ k l d order h. absurd (omega arith);
-  before = λ k d h. absurd (omega arith);
-  behind = λ all k d low h. omega arith;
-}
-
 module _ (pieces : List Piece) (blocks end i : ℕ) (p : Piece) (at : (d : Piece) → get_or pieces i d ≡ p) (old : ArePlacedTo pieces blocks end i) where
   pub placed_more : end ≤ p.place → IsSmallPiece p → p.place + p.count ≤ blocks → i < length pieces → ArePlacedTo pieces blocks (p.place + p.count) (i + 1)
   placed_more order small inside more = record {
@@ -46,16 +37,6 @@ module _ (pieces : List Piece) (blocks end i : ℕ) (p : Piece) (at : (d : Piece
         (cases_lt k i);
     behind = λ all k d low h. subst (λ (q : Piece). q.place + q.count ≤ (get_or pieces k d).place) (at d) (all i k d (omega (arith, low)) h);
   }
-
-  -- one that lies before the end of the last does not ascend
-  pub placed_not : p.place < end → i < length pieces → Ascend pieces → ⊥
-  placed_not less more all = let low : end ≤ p.place = subst (λ (q : Piece). end ≤ q.place) (at p) (old.behind all i p (omega arith) more) in omega (arith, less, low)
-
-pub placed_all : (pieces : List Piece) (blocks end i : ℕ) → length pieces ≤ i → ArePlacedTo pieces blocks end i → ArePieces pieces × All (λ q. q.place + q.count ≤ blocks) pieces
-placed_all pieces blocks end i all to = (
-  record { small = λ k d h. to.small k d (omega (arith, h, all)); ascending = λ k l d order h. to.ascending k l d order (omega (arith, h, all)) },
-  λ k d h. to.inside k d (omega (arith, h, all)),
-)
 
 -- ---- what was prepared
 

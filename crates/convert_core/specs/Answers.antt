@@ -8,7 +8,7 @@ use Rattle.reiser_volume.specs.refusals.declared.refusal.VolumeRefusal.TheVarian
 use Rattle.reiser_volume.specs.refusals.declared.rule.Rule.TheVariants.{Reread}
 use Rattle.btr_tree_writer.specs.declared.answer.WriteAnswer.{WriteAnswer}
 use Rattle.btr_tree_writer.specs.declared.answer.WriteAnswer.TheVariants as writer
-use Rattle.convert_options.specs.declared.options.Options.{Options}
+use Rattle.unit_plan.specs.convert_options.declared.options.Options.{Options}
 use Rattle.reiser_volume.specs.vol_block.declared.format.Format.TheVariants.{Btrfs}
 use Rattle.convert_steps.specs.Prepared.{LacksSpace}
 use Rattle.reiser_volume.specs.Volume.{IsRefusal}

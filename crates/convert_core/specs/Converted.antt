@@ -1,6 +1,6 @@
 -- The disk before, while and after a volume is converted.
 use Rattle.std.specs.Prelude.{◌≡◌, ◌≢◌, ◌≤◌, ◌<◌, ◌⊎◌, ℕ, ◌/◌, true, List, length}
-use Rattle.btrfs_format.specs.declared.block.TheConstants.{SUPER_BLOCK}
+use Rattle.btr_tree_writer.specs.btrfs_format.declared.block.TheConstants.{SUPER_BLOCK}
 use Rattle.reiser_volume.specs.outside.Format.{format_in}
 use Rattle.reiser_volume.specs.outside.History.{Image, block_at}
 use Rattle.reiser_volume.specs.vol_block.declared.format.Format.TheVariants.{Btrfs}
@@ -23,7 +23,7 @@ use Rattle.reiser_volume.specs.Volume.{superblock, used_of, volume_items}
 use Rattle.convert_steps.specs.space_items.declared.node.TreeNode.{TreeNode}
 use Rattle.unit_plan.specs.Choice.{HasEnoughSpace, is_chosen}
 use Rattle.unit_plan.specs.Needed.{need}
-use Rattle.convert_options.specs.declared.options.Options.{Options}
+use Rattle.unit_plan.specs.convert_options.declared.options.Options.{Options}
 use Rattle.unit_plan.specs.declared.plan.Plan.{Plan}
 use Rattle.super_turn.specs.PutBack.{IsPuttingBack, is_half_turned, put_back}
 use Rattle.convert_core.specs.Surveyed.{IsSummary}

@@ -1,6 +1,6 @@
 -- Where the copy of block 16 lies among the pieces of a conversion.
 use Rattle.std.specs.Prelude.{ℕ, ◌==◌, Bool, false, if◌then◌else◌, List, [], ◌∷◌, Option, Some, None}
-use Rattle.btrfs_format.specs.declared.block.TheConstants.{SUPER_BLOCK}
+use Rattle.btr_tree_writer.specs.btrfs_format.declared.block.TheConstants.{SUPER_BLOCK}
 use Rattle.unit_plan.specs.declared.piece.Piece.{Piece}
 
 -- the first block that a piece holds is that of the superblock

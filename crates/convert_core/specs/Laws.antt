@@ -1,7 +1,7 @@
 -- What holds of surveys.
 use Rattle.std.specs.Prelude.{◌≡◌}
 use Rattle.reiser_volume.specs.outside.History.{Image}
-use Rattle.convert_options.specs.declared.options.Options.{Options}
+use Rattle.unit_plan.specs.convert_options.declared.options.Options.{Options}
 use Rattle.convert_core.specs.declared.survey.Survey.{Survey}
 use Rattle.convert_core.specs.Surveyed.{IsSurvey}
 

@@ -2,7 +2,7 @@ pub use Rattle.convert_steps.specs.btr_item_list as btr_item_list
 pub use Rattle.unit_plan.specs.btr_tree as btr_tree
 pub use Rattle.btr_tree_writer.specs as btr_tree_writer
 pub use Rattle.convert_steps.specs.command_answers as command_answers
-pub use Rattle.convert_options.specs as convert_options
+pub use Rattle.unit_plan.specs.convert_options as convert_options
 pub use Rattle.convert_steps.specs as convert_steps
 pub use Rattle.convert_trees_laws.specs as convert_trees_laws
 pub use Rattle.extent_pieces.specs as extent_pieces

@@ -8,7 +8,7 @@ use Rattle.reiser_volume.specs.reiser_volume_objects.declared.naming.Naming.{Nam
 use Rattle.reiser_volume.specs.Volume.{volume_items}
 use Rattle.unit_plan.specs.declared.counts.Counts.{Counts}
 use Rattle.unit_plan.specs.declared.need.Need.{Need}
-use Rattle.convert_options.specs.declared.options.Options.{Options}
+use Rattle.unit_plan.specs.convert_options.declared.options.Options.{Options}
 use Rattle.unit_plan.specs.Needed.{need}
 use Rattle.extent_pieces.specs.Found.{counts_of}
 use Rattle.convert_core.specs.declared.summary.ConvertSummary.{ConvertSummary}

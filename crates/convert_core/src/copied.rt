@@ -2,7 +2,7 @@
 ghost use Rattle.std.specs.Prelude.{◌≡◌};
 ghost use Rattle.convert_core.specs.Copied.{begins_with_super, copy_in};
 
-use btrfs_format::block::SUPER_BLOCK;
+use btr_tree_writer::btrfs_format::block::SUPER_BLOCK;
 use reiser_volume::BlockNo;
 use unit_plan::{Piece, PieceList};
 

@@ -13,11 +13,11 @@ ghost use Rattle.super_turn.specs.PutBack.{IsPutBackAlone, put_back};
 
 use crate::summary::ConvertSummary;
 use crate::volume::write_volume;
-use convert_options::Options;
 use convert_steps::{Answer, FormatFound, find_format, switch_to};
 use reiser_volume::{Access, Disk, Format, Ids};
 use std::alloc::Global;
 use super_turn::put_back;
+use unit_plan::convert_options::Options;
 
 /// Converts the ReiserFS volume of a disk to Btrfs, in place. `ids` are the identifiers that the new volume gets, and `now` is
 /// the time of the conversion in seconds since the start of 1970, below 2^63.

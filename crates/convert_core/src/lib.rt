@@ -18,3 +18,4 @@ pub use in_place::convert;
 pub use laws::surveys_are_one;
 pub use summary::ConvertSummary;
 pub use survey::Survey;
+pub use unit_plan::convert_options;

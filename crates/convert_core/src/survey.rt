@@ -11,10 +11,10 @@ ghost use Rattle.reiser_volume.specs.Volume.{IsAccepted};
 ghost use Rattle.unit_plan.specs.Choice.{IsSmallNeed};
 ghost use Rattle.convert_core.specs.Surveyed.{IsSurvey};
 
-use convert_options::Options;
 use extent_pieces::Pieces;
 use reiser_volume::{BlockSource, VolAnswer, Volume};
 use std::alloc::Global;
+use unit_plan::convert_options::Options;
 use unit_plan::{Counts, Need, needed};
 
 /// What a conversion counts of a volume, and the space that it needs.

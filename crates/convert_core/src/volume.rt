@@ -23,12 +23,12 @@ use crate::answers::{changed, write_answer};
 use crate::copied::superblock_copy;
 use crate::summary::{ConvertSummary, summary_of};
 use crate::whole::is_whole;
-use convert_options::Options;
 use convert_steps::{Answer, NewRoots, Prepared, prepare, superblock, write_moved};
 use convert_trees::write_trees;
 use convert_trees_laws::plans_suffice;
 use reiser_volume::{Access, Block, BlockNo, BlockSource, Cached, Disk, Ids, Room};
 use std::alloc::Global;
+use unit_plan::convert_options::Options;
 
 /// How many blocks are kept in memory while the volume is read and its trees are written.
 const CACHED: usize = 1024;

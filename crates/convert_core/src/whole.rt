@@ -5,7 +5,7 @@ ghost use Rattle.convert_core.specs.Whole.{IsWhole};
 ghost use Rattle.convert_steps.specs.Prepared.{IsPrepared};
 ghost use Rattle.reiser_volume.specs.outside.History.{Image};
 ghost use Rattle.convert_steps.specs.space_items.Stream.{ArePieces, IsSmallPiece};
-ghost use Rattle.convert_options.specs.declared.options.Options.{Options as OptionsOf};
+ghost use Rattle.unit_plan.specs.convert_options.declared.options.Options.{Options as OptionsOf};
 ghost use Rattle.reiser_volume.specs.vol_block.declared.ids.Ids.{Ids as IdsOf};
 
 use convert_steps::Prepared;

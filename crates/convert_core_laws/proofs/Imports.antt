@@ -2,7 +2,7 @@
 pub use Rattle.std.proofs.Common.{Bool, Err, List, None, Ok, Option, Some, [], ap, append_assoc, ap₂, arith, cond, count_by, drop, eqb, false, filter, get_or, inl, inr, leb, length, length-append, length-drop, ltb, map, max, min, nat_le, nat_lt, not, refl, replicate, subst, suc, sym, take, true, true≢false, zero, ℕ, ⊎_elim, ◌%◌, ◌&&◌, ◌*◌, ◌++◌, ◌+◌, ◌-◌, ◌/◌, ◌<◌, ◌==◌, ◌^◌, ◌||◌, ◌∙◌, ◌∷◌, ◌≡◌, ◌≢◌, ◌≤◌, ◌⊎◌}
 pub use Rattle.std.proofs.Math.Nat.{mul-suc, mul-zero, pow-suc}
 pub use Rattle.std.proofs.Math.Seq.{drop-append-add, drop-append_seam, take-add, take-append_seam}
-pub use Rattle.std.proofs.lemmas.Bool.{and_from, and_parts, both_ways, cases_Bool, cases_eq, cases_lt, eq-eqb, eqb-true, false≢true, le-leb, le-ltb, leb-true, lt-ltb, ltb-true, ne_eqb, not_from_false, or_left, or_right}
+pub use Rattle.std.proofs.lemmas.Bool.{and_from, and_parts, both_ways, cases_Bool, cases_eq, cases_lt, eq-eqb, eqb-true, false_from_ne_true, false≢true, le-leb, le-ltb, leb-true, lt-ltb, ltb-true, ne_eqb, not_from_false, or_left, or_right}
 pub use Rattle.std.proofs.lemmas.Bool.Decides.{nat_tests}
 pub use Rattle.std.proofs.lemmas.Int.{fits_signed_from_abs}
 pub use Rattle.std.proofs.lemmas.List.{append-nil, drop-drop, drop-take, drop_at, get_or-append_right, get_or-replicate, get_or-take, get_or_append_left, get_or_default, get_or_past, length-map, length-replicate, length-take, length_push, map-append, take-take, take_at}
@@ -15,7 +15,7 @@ pub use Rattle.std.proofs.lemmas.List.Sums.{count_by-le-length, sum_by-append, s
 pub use Rattle.std.proofs.lemmas.Nat.{mul-le}
 pub use Rattle.std.proofs.lemmas.Simd.{map-map}
 pub use Rattle.std.specs.Int.{div_ceil, w64}
-pub use Rattle.std.specs.List.{AllByRecursion, flat_map, list_any, range_with_len, sum, sum_by}
+pub use Rattle.std.specs.List.{AllByRecursion, flat_map, list_all, list_any, range_with_len, sum, sum_by}
 pub use Rattle.std.specs.List.Sorted.{IsPermutation}
 pub use Rattle.std.specs.Option.{option_and_then, option_map, option_map_or}
 pub use Rattle.std.specs.Ordering.{is_lt, nat_cmp, ordering_reverse, ordering_then}
@@ -23,22 +23,27 @@ pub use Rattle.std.specs.Prelude.{All, AllPairs, Contains, MatchOption, bit_and,
 pub use Rattle.std.specs.declared.cmp.Ordering.{Ordering}
 pub use Rattle.std.specs.declared.cmp.Ordering.TheVariants.{Equal, Greater, Less}
 pub use Rattle.btr_check_rules.proofs.At.{each_at, pairs_at}
+pub use Rattle.btr_check_rules.proofs.Distinct.{AreDistinct, distinct_flat, distinct_nil, distinct_one, none_pass, one_passes, pairs_flat, pairs_in, two_pass}
+pub use Rattle.btr_check_rules.proofs.OwnWalk.{met_alone, told}
 pub use Rattle.btr_check_rules.specs.Files.{EndsInFile, KeepsExtent, KeepsExtents, covered}
 pub use Rattle.btr_check_rules.specs.Groups.{AreRanges, AreTotals, IsChunkOn, IsChunkTreeItem, IsExtentOf, IsGroupOf, IsOfChunk, IsStripe, KeepsBlockGroups, KeepsChunks, KeepsTotals, TellsDevice, bytes_used_in, chunk_span, data_bytes_in, dev_extents, dev_items, group_used, groups, node_bytes_in, stripe_bytes, stripe_spans, stripes_of}
 pub use Rattle.btr_check_rules.specs.Inodes.{ComesToEnd, HasInode, HasKind, KeepsFields, below, directory_size, entry_type, extents_in, has_no_sums, inode_nbytes, is_of_inode, is_orphan, nbytes_of, other_flags, ref_name_count, unnamed}
-pub use Rattle.btr_check_rules.specs.Names.{BackName, DifferInName, IndexEntry, IsEntry, IsInodeNumber, IsOnForm, IsThere, IsToldBy, KeepsRootRefs, NamedEntry, back_name, dir_of, dir_told, entry_of, given_names, hashed_entries, index_entries, names_inode_item, or_none, own_name, ref_names, tells_tree, told_by_tree}
+pub use Rattle.btr_check_rules.specs.Names.{BackName, DifferInName, IndexEntry, IsEntry, IsInodeNumber, IsOnForm, IsThere, IsToldBy, KeepsRootRefs, NamedEntry, back_name, dir_of, dir_told, entry_of, file_kinds, given_names, hashed_entries, index_entries, names_inode_item, or_none, own_name, ref_names, tells_tree, told_by_tree}
+pub use Rattle.btr_check_rules.specs.Nodes.{HasFirstKey, KeepsChildren, KeepsNode, KeepsNodes, is_relocated, node_bytes}
 pub use Rattle.btr_check_rules.specs.Places.{EndsBefore, IsExtent, IsUncrossed, KeepsPlacement, KeepsReserved, LiesIn, a_node, kind_alone, node_kind, some_data}
-pub use Rattle.btr_check_rules.specs.Recount.{DataUse, EachAt, HasItem, IsData, Recount, RootOn, Span, TreeOn, added_chunk, all_roots, all_trees, chunks_on, data_uses, has_feature, has_tree, holds_files, is_subvolume, is_within, map_of, object_of, of_kind, recount, recount_by, recount_of, recounted_items, root_by, roots_in, span_of, tree_on, use_by, use_in, uses_in}
-pub use Rattle.btr_check_rules.specs.References.{CountsUses, FitFeatures, HasRefs, IsDataItem, IsNodeItem, IsWhole, KeepsReferences, StandsBefore, is_group, is_of_range, is_use, same_ref}
+pub use Rattle.btr_check_rules.specs.Plain.{ArePlainReferences, AreUnshared, CountsUses, IsDataItem, IsNodeItem, IsOwnNode, IsOwnTree, IsWhole, TellsRefs, is_group, is_of_range, is_use}
+pub use Rattle.btr_check_rules.specs.Recount.{DataUse, EachAt, HasItem, IsData, PairsAt, Recount, RootOn, TreeOn, added_chunk, all_trees, chunks_on, data_uses, file_trees, has_feature, has_tree, holds_files, is_file_tree, is_within, last_snapshot_of, map_of, node_addresses, nodes_met, object_of, of_kind, plain_root, recount, recount_by, recount_of, recounted_items, root_by, roots_in, span_of, tree_on, use_by, use_in, uses_in}
+pub use Rattle.btr_check_rules.specs.References.{FitFeatures, KeepsReferences, StandsBefore}
 pub use Rattle.btr_check_rules.specs.Sound.{BlockGroups, Chunks, Keeps, Placement, References, Reserved, SoundPart, Totals, Trees}
 pub use Rattle.btr_check_rules.specs.Sums.{HasBlockSum, IsReadBy, IsSumItem, IsSumRight, KeepsCover, KeepsSums, most_sums, read_span, sum_count, sum_end, sums_of}
-pub use Rattle.btr_check_rules.specs.Trees.{IsArray, IsRootItem, KeepsSuper, KeepsTrees, chunk_by, is_root_ref, is_system, needed_trees, referring, refused_at, system_chunks}
+pub use Rattle.btr_check_rules.specs.Trees.{IsArray, IsRootItem, KeepsSuper, KeepsTrees, chunk_by, has_own_tree, is_root_ref, is_system, needed_trees, own_kinds, referring, refused_at, system_chunks, tree_faults}
+pub use Rattle.btr_check_rules.specs.declared.span.Span.{Span}
 pub use Rattle.btr_reader.proofs.ArrayBack.{arrays_read_back, chunk_made}
 pub use Rattle.btr_reader.proofs.btr_keys.Records.{dir_items_read_back, extrefs_read_back, file_extents_read_back, inode_refs_read_back, inodes_read_back}
 pub use Rattle.btr_reader.proofs.btr_space_items.Records.{block_groups_read_back, dev_extents_read_back, devices_read_back, extent_heads_read_back, root_items_read_back, root_refs_read_back}
 pub use Rattle.btr_reader.proofs.btr_super.SumNumbers.{known-number, number-small}
 pub use Rattle.btr_reader.specs.Apart.{AreExtentsApart, AreNodesApart, IsSpareFree, IsVolumeApart, boot_map, is_spare, is_spare_in}
-pub use Rattle.btr_reader.specs.Chunks.{beside_refusals, chunk_in, chunk_item_refusals, chunk_refusals, chunks_refusals, data_kind, is_chunk_key, is_read_kind, items_refusals, lies_on, new_chunk, overlap, placed_chunk, range_of, same_body, same_chunk, same_mirror, same_stripe, with_chunk, with_items}
+pub use Rattle.btr_reader.specs.Chunks.{beside_refusals, chunk_in, chunk_item_refusals, chunk_refusals, chunks_refusals, data_kind, is_chunk_key, is_read_kind, items_refusals, lies_on, metadata_kind, new_chunk, overlap, placed_chunk, range_of, same_body, same_chunk, same_mirror, same_stripe, system_kind, with_chunk, with_items}
 pub use Rattle.btr_reader.specs.Image.{ImageFile, after_pointer, after_root, block_by_extent, content_block, entry_named, entry_refusals, file_if_image, file_refusals, if_there, image_at, image_below, image_entry, image_from, image_in, image_place, image_refusals_in, index_refusals, index_refusals_at, inode_number, is_called, is_image, is_inline, is_root_directory, items_at, location_refusals, name_refusals, own_index_refusals, own_refusals, pointer_in, refusals_below, root_refusals, saved_image, saved_location, twice_refusals}
 pub use Rattle.btr_reader.specs.Laws.{BtrfsRowsAreOne, FitsArray, array_entry}
 pub use Rattle.btr_reader.specs.Opening.{IsBtrfsOpened, boot_chunks, boot_list, boot_refusals, chunk_map, chunk_tree, form_of, map_from, or_later, refusals_after, root_tree, super_on, tree_of, trees_refusals}
@@ -62,9 +67,10 @@ unfoldable pub use Rattle.btr_reader.specs.btr_keys.Stamp.{stamp_layout}
 pub use Rattle.btr_reader.specs.btr_keys.declared.file_extent.DiskRange.{DiskRange}
 pub use Rattle.btr_reader.specs.btr_keys.declared.inode.Inode.{Inode}
 pub use Rattle.btr_reader.specs.btr_keys.declared.key.Key.{Key}
+pub use Rattle.btr_reader.specs.btr_node.Head.{behind_head, head_in}
 pub use Rattle.btr_reader.specs.btr_node.Leaf.{Item, heads_in, keys_of}
 pub use Rattle.btr_reader.specs.btr_node.NodeSize.{IsNodeSize}
-pub use Rattle.btr_reader.specs.btr_node.Order.{ascends, is_before}
+pub use Rattle.btr_reader.specs.btr_node.Order.{Ascends, ascends, is_before}
 pub use Rattle.btr_reader.specs.btr_reader_contents.Extents.{at_unmapped, byte_from, byte_of_place, bytes_of_inode, content_byte, covered_after, covered_by, covers, end_after, extent_length, extent_refusals, extents_of, extents_refusals, has_form, is_aligned, is_extent_key, is_extent_of, is_hole, place_refusals, refusals_at, refused_unless, unmapped_in}
 pub use Rattle.btr_reader.specs.btr_reader_names.Inodes.{find_inode_item, inode_on, kind_of_mode}
 pub use Rattle.btr_reader.specs.btr_reader_names.Links.{dir_indexes, index_entry, is_index, is_name, is_saved_name, names_inode, names_tree, naming_at, naming_of, only_one, own_naming}
@@ -73,7 +79,7 @@ pub use Rattle.btr_reader.specs.btr_reader_names.Rules.{AreIn, BreaksNames, IsOp
 pub use Rattle.btr_reader.specs.btr_reader_names.declared.dir_index.DirIndex.{DirIndex}
 pub use Rattle.btr_reader.specs.btr_reader_walk.Events.{TreeEvent, TreeItem, may_be_bare, nodes_in, walk_events}
 unfoldable pub use Rattle.btr_reader.specs.btr_reader_walk.Events.{node_events}
-pub use Rattle.btr_reader.specs.btr_reader_walk.Map.{holds, identity, place, second_place}
+pub use Rattle.btr_reader.specs.btr_reader_walk.Map.{holds, identity, node_at, place, second_place}
 pub use Rattle.btr_reader.specs.btr_reader_walk.Tree.{IsTree, bare_item, leaf_items, tree_refusals, when_sound}
 pub use Rattle.btr_reader.specs.btr_reader_walk.Walks.{found, wrong}
 pub use Rattle.btr_reader.specs.btr_reader_walk.declared.map.MapRange.{MapRange}
@@ -84,12 +90,15 @@ pub use Rattle.btr_reader.specs.btr_space_items.Device.{device_bytes, device_of}
 unfoldable pub use Rattle.btr_reader.specs.btr_space_items.Device.{device_layout}
 pub use Rattle.btr_reader.specs.btr_space_items.InlineRef.{FitsInline, inline_ref_bytes, inline_refs_of, ref_uses}
 unfoldable pub use Rattle.btr_reader.specs.btr_space_items.InlineRef.{data_ref_layout, tree_block_layout}
+pub use Rattle.btr_reader.specs.btr_space_items.RootItem.{root_item_bytes, root_item_of}
+unfoldable pub use Rattle.btr_reader.specs.btr_space_items.RootItem.{root_item_layout}
 pub use Rattle.btr_reader.specs.btr_space_items.RootRef.{RootRefValue, root_ref_of}
 unfoldable pub use Rattle.btr_reader.specs.btr_space_items.RootRef.{root_ref_head}
 pub use Rattle.btr_reader.specs.btr_space_items.declared.block_group.BlockGroup.{BlockGroup}
 pub use Rattle.btr_reader.specs.btr_space_items.declared.device.Device.{Device}
 pub use Rattle.btr_reader.specs.btr_space_items.declared.inline_ref.InlineRef.{InlineRef}
 pub use Rattle.btr_reader.specs.btr_space_items.declared.inline_ref.InlineRef.TheVariants.{DataRef, TreeBlock}
+pub use Rattle.btr_reader.specs.btr_space_items.declared.root_item.RootItem.{RootItem}
 pub use Rattle.btr_reader.specs.btr_space_items.declared.stripe.Stripe.{Stripe}
 pub use Rattle.btr_reader.specs.btr_super.Rules.{bad_field, failing, field_rules, has_fields, is_node_size, is_super, super_refusals, unless_refused, unread_bits}
 unfoldable pub use Rattle.btr_reader.specs.btr_super.Rules.{super_of}
@@ -97,15 +106,16 @@ pub use Rattle.btr_reader.specs.btr_super.Sums.{csum_number, csum_type_of, has_s
 pub use Rattle.btr_reader.specs.btr_super.Super.{node_fsid, super_bytes, super_in}
 unfoldable pub use Rattle.btr_reader.specs.btr_super.Super.{super_layout}
 pub use Rattle.btr_reader.specs.btr_super.declared.superblock.Super.{Super}
+pub use Rattle.btr_reader.specs.btrfs_format.declared.block.TheConstants.{SUPER_BLOCK, SUPER_INFO_OFFSET, SUPER_MAGIC_OFFSET}
+pub use Rattle.btr_reader.specs.btrfs_format.declared.feature.TheConstants.{BIG_METADATA, EXTENDED_IREF, METADATA_UUID, MIXED_BACKREF, NO_HOLES, SKINNY_METADATA}
+pub use Rattle.btr_reader.specs.btrfs_format.declared.flag.TheConstants.{EXTENT_FLAG_DATA, EXTENT_FLAG_TREE_BLOCK, FT_DIR, INODE_APPEND, INODE_IMMUTABLE, INODE_NOATIME, INODE_NODATASUM, INODE_NODUMP, INODE_SYNC}
+pub use Rattle.btr_reader.specs.btrfs_format.declared.key.TheConstants.{BLOCK_GROUP_ITEM, CHUNK_ITEM, DEV_EXTENT, DEV_ITEM, DIR_INDEX, DIR_ITEM, EXTENT_DATA, EXTENT_ITEM, INODE_EXTREF, INODE_ITEM, INODE_REF, METADATA_ITEM, ROOT_BACKREF, ROOT_ITEM, ROOT_REF}
+pub use Rattle.btr_reader.specs.btrfs_format.declared.object.TheConstants.{CHUNK_TREE, CONV_IMAGE_SUBVOL, CSUM_TREE, DATA_RELOC_TREE, DEV_ITEMS_OBJECTID, DEV_TREE, EXTENT_TREE, FIRST_CHUNK_TREE_OBJECTID, FIRST_FREE_OBJECTID, FS_TREE, ROOT_TREE, ROOT_TREE_DIR_OBJECTID, TREE_RELOC}
 pub use Rattle.btr_reader.specs.csum_kinds.Kind.{kind_sum, kind_width}
 pub use Rattle.btr_reader.specs.csum_kinds.declared.kind.SumKind.{SumKind}
 pub use Rattle.btr_reader.specs.csum_kinds.declared.kind.SumKind.TheVariants.{Crc32c, Sha256}
 pub use Rattle.btr_reader.specs.declared.chunk.ChunkAt.{ChunkAt}
-pub use Rattle.btrfs_format.specs.declared.block.TheConstants.{SUPER_BLOCK, SUPER_INFO_OFFSET, SUPER_MAGIC_OFFSET}
-pub use Rattle.btrfs_format.specs.declared.feature.TheConstants.{BIG_METADATA, EXTENDED_IREF, METADATA_UUID, MIXED_BACKREF, NO_HOLES, SKINNY_METADATA}
-pub use Rattle.btrfs_format.specs.declared.flag.TheConstants.{EXTENT_FLAG_DATA, EXTENT_FLAG_TREE_BLOCK, FT_DIR, INODE_APPEND, INODE_IMMUTABLE, INODE_NOATIME, INODE_NODATASUM, INODE_NODUMP, INODE_SYNC}
-pub use Rattle.btrfs_format.specs.declared.key.TheConstants.{BLOCK_GROUP_ITEM, CHUNK_ITEM, DEV_EXTENT, DEV_ITEM, DIR_INDEX, DIR_ITEM, EXTENT_DATA, EXTENT_ITEM, INODE_EXTREF, INODE_ITEM, INODE_REF, METADATA_ITEM, ROOT_BACKREF, ROOT_ITEM, ROOT_REF}
-pub use Rattle.btrfs_format.specs.declared.object.TheConstants.{CHUNK_TREE, CONV_IMAGE_SUBVOL, CSUM_TREE, DATA_RELOC_TREE, DEV_ITEMS_OBJECTID, DEV_TREE, EXTENT_TREE, FIRST_CHUNK_TREE_OBJECTID, FIRST_FREE_OBJECTID, FS_TREE, ROOT_TREE, ROOT_TREE_DIR_OBJECTID, TREE_RELOC}
+pub use Rattle.btr_reader.specs.vol_block.declared.mode.TheConstants.{DIRECTORY_MODE, IMAGE_MODE}
 pub use Rattle.convert_core.proofs.Moving.{can_move, metadata_free, piece_not_metadata, piece_not_system, sound, stays_or_moves, system_free, taken_free, well}
 pub use Rattle.convert_core.proofs.Reserved.{piece_apart}
 pub use Rattle.convert_core.proofs.Slots.{slot_unit}
@@ -139,7 +149,7 @@ pub use Rattle.convert_core.specs.btr_tree.Counting.{tree_nodes}
 pub use Rattle.convert_core.specs.btr_tree.Laws.{GivesItself, IsSameBy}
 pub use Rattle.convert_core.specs.btr_tree.Packing.{capacity, fan_out, level_sizes, packed_from, packed_leaves, tree_levels, weight}
 pub use Rattle.convert_core.specs.btr_tree.Roots.{lengths_of, level_pointers, pointers_to}
-pub use Rattle.convert_core.specs.btr_tree.Whole.{ArePacked, HasLinuxForm}
+pub use Rattle.convert_core.specs.btr_tree.Whole.{ArePacked, HasLinuxForm, IsWholeTree}
 pub use Rattle.convert_core.specs.btr_tree.Writing.{IsInNode, IsInSlots}
 pub use Rattle.convert_core.specs.btr_tree.declared.climb.Root.{Root}
 pub use Rattle.convert_core.specs.btr_tree_writer.Trees.{TreeStands, pointer_to_root}
@@ -168,7 +178,7 @@ pub use Rattle.convert_core.specs.space_items.Extents.{bytes_of_nodes, bytes_of_
 pub use Rattle.convert_core.specs.space_items.Laws.{AreIds}
 pub use Rattle.convert_core.specs.space_items.Merging.{item_cmp, merged}
 pub use Rattle.convert_core.specs.space_items.Nodes.{AreNodes, merged_nodes, nodes_of_tree}
-pub use Rattle.convert_core.specs.space_items.Roots.{default_item, default_name, is_file_tree, other_root_items, root_body, root_dirid, root_items, saved_ref, tree_root_item, tree_uuid}
+pub use Rattle.convert_core.specs.space_items.Roots.{default_item, default_name, other_root_items, root_body, root_dirid, root_items, saved_ref, tree_root_item, tree_uuid}
 pub use Rattle.convert_core.specs.space_items.Sums.{block_sum, run_items, sum_items, sums_item}
 pub use Rattle.convert_core.specs.space_items.declared.node.TreeNode.{TreeNode}
 pub use Rattle.convert_core.specs.space_items.declared.node.TreeRoot.{TreeRoot}
@@ -200,7 +210,7 @@ pub use Rattle.convert_core_laws.specs.reading.Laws.{ChunksMap, ConvertedIsReada
 pub use Rattle.convert_core_laws.specs.reading.Opened.{AreRangesFor, GivesItsOwn, IsNewVolume, ReadsTree, ReadsTrees, boot_part, chunk_at, map_for, other_part, range_for, super_for}
 pub use Rattle.convert_core_laws.specs.reading.Saved.{HasSavedImage, IsImageOf, KeepsFileNames, ReadsSavedImage, SavedImageIsReadable, SavedImageReads}
 pub use Rattle.convert_core_laws.specs.soundness.Laws.{ConvertedBlockGroupsAreSound, ConvertedChecksumsAreSound, ConvertedChunksAreSound, ConvertedFileExtentsAreSound, ConvertedInodesAreSound, ConvertedNamesAreSound, ConvertedPlacementIsSound, ConvertedReferencesAreSound, ConvertedReservedAreSound, ConvertedTotalsAreSound, ConvertedTreesAreSound, ConvertedVolumesAreRecounted}
-pub use Rattle.convert_core_laws.specs.soundness.Recounted.{named_on, recount_for, tree_for, trees_for}
+pub use Rattle.convert_core_laws.specs.soundness.Recounted.{Walked, named_on, recount_for, tree_for, trees_for, walked, walked_tree}
 pub use Rattle.convert_core_laws.specs.soundness.Wholes.{AreExtents, AreInodes, AreTreeNames, IsDirEntry, IsInode, IsOwned, IsTreeEntry, KeepsInode, SameName}
 pub use Rattle.convert_trees_laws.proofs.Booting.{blocks_are, boot_fits, chunks_of, used_few}
 pub use Rattle.convert_trees_laws.proofs.Keys.{file_keys_ascend, inodes_climb, root_first}
@@ -262,7 +272,6 @@ pub use Rattle.reiser_volume.specs.vol_block.Format.{format, has_bytes_at, has_r
 pub use Rattle.reiser_volume.specs.vol_block.Volume.{IsReserved, is_reserved, zeros}
 pub use Rattle.reiser_volume.specs.vol_block.declared.format.Format.TheVariants.{Btrfs, Neither, Reiser}
 pub use Rattle.reiser_volume.specs.vol_block.declared.ids.Ids.{Ids}
-pub use Rattle.vol_block.specs.declared.mode.TheConstants.{DIRECTORY_MODE, IMAGE_MODE}
 pub use Rattle.volume_state.specs.Saved.{block_or_hole, file_blocks, place_by_file, saved_file, saved_place}
 unfoldable pub use Rattle.volume_state.specs.Saved.{image_blocks}
-pub use Rattle.volume_state.specs.Using.{HasPlace, HoldsExtent, HoldsNodeOf, HoldsPartOf, IsInUse, IsReservedFree, chunk_node, content_range, file_part, file_pointer, file_trees, named_by, root_node, tree_if}
+pub use Rattle.volume_state.specs.Using.{HasPlace, HoldsExtent, HoldsNodeOf, HoldsPartOf, IsInUse, IsReservedFree, chunk_node, content_range, file_part, file_pointer, named_by, root_node, tree_if}

@@ -1,4 +1,5 @@
 pub mod AllUses
+mod Alone
 pub mod Among
 pub mod Apart
 mod Assembling
@@ -7,7 +8,6 @@ mod Bodies
 mod Checksums
 pub mod ChunkList
 mod DataItems
-mod Distinct
 mod Entered
 mod FileExtents
 mod FileInodes
@@ -20,13 +20,15 @@ mod KeptFiles
 mod Keyed
 mod Listed
 pub mod Lists
+mod MetOnce
 mod NameLists
 mod Names
 pub mod Nodes
 pub mod Numbers
 mod Objects
-pub mod Recounting
+mod OwnKinds
 mod Parts
+pub mod Recounting
 mod References
 mod RootTree
 pub mod Row

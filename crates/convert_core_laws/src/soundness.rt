@@ -25,11 +25,15 @@ pub fn converted_volumes_are_recounted()
     new_ids_fit();
 }
 
-/// The root items, the nodes, the superblock and the bootstrap array of a converted volume keep the rules of Linux.
+/// The root items, the nodes, the superblock and the bootstrap array of a converted volume keep the rules of Linux, and its items
+/// stand in trees that have such.
 pub fn converted_trees_are_sound()
     ensures { ConvertedTreesAreSound }
 {
     new_ids_fit();
+    files_are_held();
+    image_keys_ascend();
+    inodes_are_there();
 }
 
 /// No two of its nodes and ranges of data overlap, and each lies in one chunk of its kind.

@@ -132,18 +132,6 @@ pub told_step : (word : List ℕ) (rest : List (List ℕ)) (met : Bool) → (not
 told_step word rest true other s behind is = refl
 told_step word rest false other s behind is = (goes word rest other).verbose s behind is
 
--- `--verbose` itself
-pub left_met : (g : Given) (o : Options) (word : List ℕ) (rest : List (List ℕ)) (met : Bool) → (not met && is_verbose word) ≡ true → rest_of g o (left met (word ∷ rest)) ≡ rest_of g o (left true rest)
-left_met g o word rest true is = cc
-left_met g o word [] false is = ap (λ (b : Bool). rest_of g o (cond b [] (word ∷ []))) is
-left_met g o word (value ∷ more) false is =
-    ap (λ (b : Bool). rest_of g o (cond b (value ∷ more) (elim (alone word) [ Some s ↦ word ∷ without_verbose (value ∷ more) | None ↦ word ∷ value ∷ without_verbose more ]))) is
-
-pub told_met : (word : List ℕ) (rest : List (List ℕ)) (met : Bool) → (not met && is_verbose word) ≡ true → told met (word ∷ rest) ≡ told true rest
-told_met word rest true is = refl
-told_met word [] false is = is
-told_met word (value ∷ more) false is = ap (λ (b : Bool). b || elim (alone word) [ Some s ↦ has_verbose (value ∷ more) | None ↦ has_verbose more ]) is
-
 -- nothing is left
 pub left_end : (g : Given) (o : Options) (met : Bool) → rest_of g o (left met []) ≡ Some o
 left_end g o true = refl

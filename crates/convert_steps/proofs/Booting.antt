@@ -30,10 +30,6 @@ record_made into key body K B long short is_key is_body =
     ∙ (ap (λ (l : List ℕ). key ++ l) (append-nil body) ∙ (ap (λ (l : List ℕ). l ++ body) is_key ∙ ap (λ (l : List ℕ). K ++ l) is_body))
 
 module _ (ids : Ids) where
-  -- what one chunk adds
-  part : PlannedChunk → List ℕ
-  part c = cond (is_system_role c.role) (record_bytes (chunk_item ids c)) []
-
   boot_append : (xs ys : List PlannedChunk) → boot_bytes ids (xs ++ ys) ≡ boot_bytes ids xs ++ boot_bytes ids ys
   boot_append xs ys =
       ap (flat_map (λ c. record_bytes (chunk_item ids c))) (filter-append (λ c. is_system_role c.role) xs ys)

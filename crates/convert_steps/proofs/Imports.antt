@@ -10,16 +10,15 @@ pub use Rattle.std.specs.List.{All, AllPairs, flat_map, sum_by}
 pub use Rattle.std.specs.Prelude.{Contains, slice_get, ◌==◌}
 pub use Rattle.std.specs.Result.{MatchResult}
 pub use Rattle.btr_super.specs.Super.{mirror_bytes, super_bytes}
+pub use Rattle.btr_super.specs.btrfs_format.declared.block.TheConstants.{FIRST_MIRROR, SECOND_MIRROR, SUPER_BLOCK, SUPER_INFO_OFFSET}
+pub use Rattle.btr_super.specs.btrfs_format.declared.object.TheConstants.{EXTENT_TREE, ROOT_TREE_DIR_OBJECTID}
 pub use Rattle.btr_tree_writer.specs.btr_space_items.Chunk.{chunk_bytes}
 unfoldable pub use Rattle.btr_tree_writer.specs.btr_space_items.Chunk.{chunk_layout}
-pub use Rattle.btrfs_format.specs.declared.block.TheConstants.{FIRST_MIRROR, SECOND_MIRROR, SUPER_BLOCK, SUPER_INFO_OFFSET}
-pub use Rattle.btrfs_format.specs.declared.object.TheConstants.{EXTENT_TREE, ROOT_TREE_DIR_OBJECTID}
 pub use Rattle.command_answers.proofs.outside.Crash.{reads_only, sync_only, write_only, writes_length, writes_then, writes_weaker}
 pub use Rattle.command_answers.proofs.outside.Phases.{left_outside, left_then, on_ok, reads_outside, set_stands, sync_reads, write_reads}
 pub use Rattle.command_answers.specs.outside.History.{History, Image, IsSettled, LeftSince, WritesBlock, WritesOnly, block_at, clock, reads}
 pub use Rattle.command_answers.specs.refusals.declared.answer.VolAnswer.{VolAnswer}
 pub use Rattle.command_answers.specs.vol_block.declared.ids.Ids.{Ids}
-pub use Rattle.convert_options.specs.declared.options.Options.{Options}
 pub use Rattle.convert_steps.specs.Making.{before_zero, ids_by, label_by, label_field}
 pub use Rattle.convert_steps.specs.Moved.{CanMove, CanWrite, HasOwner, HasPlace, HoldMoved, HoldsPiece, IsMovedPlace, IsMovedTo}
 pub use Rattle.convert_steps.specs.Prepared.{IsPrepareAnswer, RefusesConversion, by_plan}
@@ -40,6 +39,7 @@ pub use Rattle.reiser_volume.specs.reiser_volume_objects.declared.key.ObjectKey.
 pub use Rattle.space_items.specs.Chunks.{chunk_body, chunk_item, device_body}
 pub use Rattle.unit_plan.specs.Choice.{HasEnoughSpace, IsAnswer, IsPlan, TellsSpace}
 pub use Rattle.unit_plan.specs.Needed.{AreSmall, need}
+pub use Rattle.unit_plan.specs.convert_options.declared.options.Options.{Options}
 pub use Rattle.unit_plan.specs.declared.chunk.PlannedChunk.{PlannedChunk}
 pub use Rattle.unit_plan.specs.declared.counts.Counts.{Counts}
 pub use Rattle.unit_plan.specs.declared.piece.Piece.{Piece}

@@ -1,7 +1,7 @@
 -- The fields of a new superblock.
 use Rattle.convert_steps.proofs.Imports.{◌≡◌, ℕ, ◌*◌, ◌-◌, ◌++◌, List, length, replicate, ◌∙◌, ap, SUPER_INFO_OFFSET, device_body, PlannedChunk, Ids, boot_bytes, features, new_super, ROOT_TREE_DIR_OBJECTID}
-use Rattle.btrfs_format.specs.declared.flag.TheConstants.{HEADER_FLAG_WRITTEN}
-use Rattle.btrfs_format.specs.declared.size.TheConstants.{SYSTEM_CHUNK_ARRAY_SIZE}
+use Rattle.btr_super.specs.btrfs_format.declared.flag.TheConstants.{HEADER_FLAG_WRITTEN}
+use Rattle.btr_super.specs.btrfs_format.declared.size.TheConstants.{SYSTEM_CHUNK_ARRAY_SIZE}
 use Rattle.btr_tree_writer.specs.btr_space_items.declared.device.Device.{Device}
 use Rattle.btr_super.specs.declared.superblock.Super.{Super}
 use Rattle.btr_super.specs.Sums.{csum_number}

@@ -1,6 +1,6 @@
 -- What is found of a disk before its volume is looked at.
 use Rattle.std.specs.Prelude.{◌≡◌}
-use Rattle.btrfs_format.specs.declared.block.TheConstants.{SUPER_BLOCK}
+use Rattle.btr_super.specs.btrfs_format.declared.block.TheConstants.{SUPER_BLOCK}
 use Rattle.command_answers.specs.outside.Format.{format_in}
 use Rattle.command_answers.specs.outside.History.{Image, block_at}
 use Rattle.command_answers.specs.vol_block.declared.format.Format.TheVariants.{Btrfs}

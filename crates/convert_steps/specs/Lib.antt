@@ -3,13 +3,13 @@ pub use Rattle.btr_tree_writer.specs.btr_space_items as btr_space_items
 pub use Rattle.btr_super.specs as btr_super
 pub use Rattle.btr_tree.specs as btr_tree
 pub use Rattle.command_answers.specs as command_answers
-pub use Rattle.convert_options.specs as convert_options
+pub use Rattle.unit_plan.specs.convert_options as convert_options
 pub use Rattle.extent_pieces.specs as extent_pieces
 pub use Rattle.file_items.specs as file_items
 pub use Rattle.reiser_volume.specs.reiser_bitmap as reiser_bitmap
 pub use Rattle.reiser_volume.specs.reiser_items as reiser_items
 pub use Rattle.reiser_volume.specs.reiser_node as reiser_node
-pub use Rattle.reiser_super.specs as reiser_super
+pub use Rattle.reiser_volume.specs.reiser_super as reiser_super
 pub use Rattle.reiser_volume.specs as reiser_volume
 pub use Rattle.reiser_volume.specs.reiser_volume_contents as reiser_volume_contents
 pub use Rattle.reiser_volume.specs.reiser_volume_files as reiser_volume_files

@@ -5,18 +5,18 @@ use Rattle.command_answers.specs.outside.History.{Image}
 use Rattle.command_answers.specs.vol_block.declared.ids.Ids.{Ids}
 use Rattle.convert_steps.specs.Source.{HasPieces}
 use Rattle.reiser_volume.specs.reiser_volume_objects.Keys.{root, same_key}
-use Rattle.reiser_super.specs.declared.superblock.Super.{Super}
+use Rattle.reiser_volume.specs.reiser_super.declared.superblock.Super.{Super}
 use Rattle.reiser_volume.specs.Opened.{links_in}
 use Rattle.reiser_volume.specs.declared.volume.Volume.{Volume}
 use Rattle.unit_plan.specs.Chunks.{AreChunks}
 use Rattle.unit_plan.specs.Places.{node_places}
 use Rattle.unit_plan.specs.declared.chunk.PlannedChunk.{PlannedChunk}
-use Rattle.convert_options.specs.Identifier.{is_nil}
-use Rattle.convert_options.specs.declared.options.LabelChoice.{LabelChoice}
-use Rattle.convert_options.specs.declared.options.LabelChoice.TheVariants as label
-use Rattle.convert_options.specs.declared.options.Options.{Options}
-use Rattle.convert_options.specs.declared.options.UuidChoice.{UuidChoice}
-use Rattle.convert_options.specs.declared.options.UuidChoice.TheVariants as uuid
+use Rattle.unit_plan.specs.convert_options.Identifier.{is_nil}
+use Rattle.unit_plan.specs.convert_options.declared.options.LabelChoice.{LabelChoice}
+use Rattle.unit_plan.specs.convert_options.declared.options.LabelChoice.TheVariants as label
+use Rattle.unit_plan.specs.convert_options.declared.options.Options.{Options}
+use Rattle.unit_plan.specs.convert_options.declared.options.UuidChoice.{UuidChoice}
+use Rattle.unit_plan.specs.convert_options.declared.options.UuidChoice.TheVariants as uuid
 use Rattle.unit_plan.specs.declared.piece.Piece.{Piece}
 use Rattle.unit_plan.specs.declared.plan.Plan.{Plan}
 

@@ -15,7 +15,7 @@ use Rattle.extent_pieces.specs.Laws.{AreSortedKeys}
 use Rattle.reiser_volume.specs.Volume.{IsRefusal, used_of, volume_items}
 use Rattle.unit_plan.specs.Choice.{HasEnoughSpace, IsPlan, TellsSpace}
 use Rattle.unit_plan.specs.Needed.{need as need_of}
-use Rattle.convert_options.specs.declared.options.Options.{Options}
+use Rattle.unit_plan.specs.convert_options.declared.options.Options.{Options}
 use Rattle.unit_plan.specs.declared.plan.PlanAnswer.{PlanAnswer}
 use Rattle.unit_plan.specs.declared.plan.PlanAnswer.TheVariants as plan
 use Rattle.convert_steps.specs.declared.prepared.Prepared.{Prepared}

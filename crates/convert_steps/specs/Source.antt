@@ -20,7 +20,7 @@ use Rattle.reiser_volume.specs.reiser_volume_objects.Keys.{items_of}
 use Rattle.reiser_volume.specs.Opened.{IsOpened, links_in}
 use Rattle.reiser_volume.specs.Volume.{IsAccepted}
 use Rattle.reiser_volume.specs.declared.volume.Volume.{Volume}
-use Rattle.convert_options.specs.declared.options.Options.{Options}
+use Rattle.unit_plan.specs.convert_options.declared.options.Options.{Options}
 use Rattle.unit_plan.specs.declared.piece.Piece.{Piece}
 use Rattle.unit_plan.specs.declared.plan.Plan.{Plan}
 

@@ -1,7 +1,7 @@
 -- The trees of a converted volume.
 use Rattle.std.specs.Prelude.{◌≡◌, ◌≤◌, ℕ, ◌+◌, ◌*◌, List, [], ◌∷◌, ◌++◌, All, length, drop, map, take, if◌then◌else◌}
 use Rattle.std.specs.List.{sum_by}
-use Rattle.btrfs_format.specs.declared.object.TheConstants.{CHUNK_TREE, EXTENT_TREE, ROOT_TREE}
+use Rattle.btr_super.specs.btrfs_format.declared.object.TheConstants.{CHUNK_TREE, EXTENT_TREE, ROOT_TREE}
 use Rattle.command_answers.specs.outside.History.{Image}
 use Rattle.btr_tree.specs.btr_node.Leaf.{Item}
 use Rattle.btr_tree.specs.Counting.{node_bound, tree_nodes}
@@ -24,7 +24,7 @@ use Rattle.reiser_volume.specs.reiser_volume_contents.Laws.{SameUsed}
 use Rattle.reiser_volume.specs.Volume.{used_of}
 use Rattle.reiser_volume.specs.declared.volume.Volume.{Volume}
 use Rattle.btr_tree_writer.specs.Trees.{TreeStands}
-use Rattle.convert_options.specs.declared.options.Options.{Options}
+use Rattle.unit_plan.specs.convert_options.declared.options.Options.{Options}
 use Rattle.unit_plan.specs.declared.chunk.PlannedChunk.{PlannedChunk}
 use Rattle.unit_plan.specs.declared.piece.Piece.{Piece}
 use Rattle.unit_plan.specs.declared.plan.Plan.{Plan}

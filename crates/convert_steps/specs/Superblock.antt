@@ -1,11 +1,11 @@
 -- The superblock of a converted volume.
 use Rattle.std.specs.Prelude.{ℕ, ◌*◌, ◌-◌, ◌==◌, List, ◌++◌, length, replicate, if◌then◌else◌, Bool, true, false, filter, ◌+◌}
 use Rattle.std.specs.List.{flat_map}
-use Rattle.btrfs_format.specs.declared.block.TheConstants.{SUPER_INFO_OFFSET}
-use Rattle.btrfs_format.specs.declared.feature.TheConstants.{BIG_METADATA, EXTENDED_IREF, MIXED_BACKREF, NO_HOLES, SKINNY_METADATA}
-use Rattle.btrfs_format.specs.declared.flag.TheConstants.{HEADER_FLAG_WRITTEN}
-use Rattle.btrfs_format.specs.declared.object.TheConstants.{ROOT_TREE_DIR_OBJECTID}
-use Rattle.btrfs_format.specs.declared.size.TheConstants.{SYSTEM_CHUNK_ARRAY_SIZE}
+use Rattle.btr_super.specs.btrfs_format.declared.block.TheConstants.{SUPER_INFO_OFFSET}
+use Rattle.btr_super.specs.btrfs_format.declared.feature.TheConstants.{BIG_METADATA, EXTENDED_IREF, MIXED_BACKREF, NO_HOLES, SKINNY_METADATA}
+use Rattle.btr_super.specs.btrfs_format.declared.flag.TheConstants.{HEADER_FLAG_WRITTEN}
+use Rattle.btr_super.specs.btrfs_format.declared.object.TheConstants.{ROOT_TREE_DIR_OBJECTID}
+use Rattle.btr_super.specs.btrfs_format.declared.size.TheConstants.{SYSTEM_CHUNK_ARRAY_SIZE}
 use Rattle.command_answers.specs.vol_block.declared.ids.Ids.{Ids}
 use Rattle.btr_tree.specs.btr_keys.Key.{key_bytes}
 use Rattle.btr_tree.specs.btr_node.Leaf.{Item}

@@ -1,6 +1,6 @@
 -- What the switch to a Btrfs superblock leaves.
 use Rattle.std.specs.Prelude.{◌≡◌, ◌≢◌, ◌⊎◌, ℕ, ◌+◌, ◌^◌, ◌<◌, nat_lt, if◌then◌else◌, Option, Some, None, List, [], ◌∷◌, length}
-use Rattle.btrfs_format.specs.declared.block.TheConstants.{FIRST_MIRROR, SECOND_MIRROR, SUPER_BLOCK}
+use Rattle.btr_super.specs.btrfs_format.declared.block.TheConstants.{FIRST_MIRROR, SECOND_MIRROR, SUPER_BLOCK}
 use Rattle.command_answers.specs.outside.History.{Image, block_at}
 use Rattle.btr_super.specs.Super.{mirror_bytes}
 use Rattle.super_turn.specs.Marked.{IsHalf}

@@ -7,20 +7,22 @@ ghost use Rattle.space_items.specs.Chunks.{chunk_item};
 ghost use Rattle.unit_plan.specs.Chunks.{AreChunks, FitsVolume};
 ghost use Rattle.unit_plan.specs.declared.chunk.PlannedChunk.{PlannedChunk as PlannedChunkOf};
 
-use btr_super::{Super, csum_type};
-use btr_tree::{Key, Root};
-use btrfs_format::block::SUPER_INFO_OFFSET;
-use btrfs_format::feature::{
+use btr_super::btrfs_format::block::SUPER_INFO_OFFSET;
+use btr_super::btrfs_format::feature::{
     BIG_METADATA, EXTENDED_IREF, MIXED_BACKREF, NO_HOLES, SKINNY_METADATA,
 };
-use btrfs_format::flag::HEADER_FLAG_WRITTEN;
-use btrfs_format::key::CHUNK_ITEM;
-use btrfs_format::object::{FIRST_CHUNK_TREE_OBJECTID, ROOT_TREE_DIR_OBJECTID};
-use btrfs_format::size::{KEY_SIZE, LABEL_SIZE, SYSTEM_CHUNK_ARRAY_SIZE, SYSTEM_CHUNK_SIZE};
+use btr_super::btrfs_format::flag::HEADER_FLAG_WRITTEN;
+use btr_super::btrfs_format::key::CHUNK_ITEM;
+use btr_super::btrfs_format::object::{FIRST_CHUNK_TREE_OBJECTID, ROOT_TREE_DIR_OBJECTID};
+use btr_super::btrfs_format::size::{
+    KEY_SIZE, LABEL_SIZE, SYSTEM_CHUNK_ARRAY_SIZE, SYSTEM_CHUNK_SIZE,
+};
+use btr_super::{Super, csum_type};
+use btr_tree::{Key, Root};
 use command_answers::{Block, Ids, Memory};
-use convert_options::Options;
 use space_items::{chunk_body, device_body};
 use std::alloc::Global;
+use unit_plan::convert_options::Options;
 use unit_plan::{Chunks, Plan, PlannedChunk, Role, chunks_of};
 
 /// The features that each new volume has.

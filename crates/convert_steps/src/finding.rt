@@ -4,7 +4,7 @@ ghost use Rattle.command_answers.specs.outside.Fault.{HasCause};
 ghost use Rattle.command_answers.specs.outside.History.{OverTold};
 ghost use Rattle.convert_steps.specs.Found.{IsFoundOn};
 
-use btrfs_format::block::SUPER_BLOCK;
+use btr_super::btrfs_format::block::SUPER_BLOCK;
 use command_answers::{Block, BlockSource, Fault};
 use reiser_volume::{Format, format_of};
 

@@ -1,11 +1,11 @@
 // What goes into each node and the superblock by the options.
 ghost use Rattle.std.specs.Prelude.{◌≡◌, if◌then◌else◌};
-ghost use Rattle.convert_options.specs.Identifier.{is_nil};
+ghost use Rattle.unit_plan.specs.convert_options.Identifier.{is_nil};
 ghost use Rattle.convert_steps.specs.Making.{before_zero, ids_by, label_by, label_field};
 
 use command_answers::Ids;
-use convert_options::{LabelChoice, Options, UuidChoice, is_nil};
-use reiser_super::Super;
+use reiser_volume::reiser_super::Super;
+use unit_plan::convert_options::{LabelChoice, Options, UuidChoice, is_nil};
 
 /// The identifiers of the converted volume: that of the file system is a new one, the old volume's if that is not nil,
 /// or a given one.

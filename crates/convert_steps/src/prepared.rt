@@ -8,10 +8,10 @@ ghost use Rattle.convert_steps.specs.Prepared.{HasPlanFor, IsPrepared, IsPrepare
 
 use crate::form::{ids_of, label_of};
 use command_answers::{Answer, BlockSource, Ids};
-use convert_options::Options;
 use extent_pieces::Pieces;
 use reiser_volume::Volume;
 use std::alloc::Global;
+use unit_plan::convert_options::Options;
 use unit_plan::{Need, Plan, PlanAnswer, choose, needed};
 
 /// All that is known before the first write.

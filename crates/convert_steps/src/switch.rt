@@ -5,8 +5,8 @@ ghost use Rattle.command_answers.specs.outside.History.{block_at, reads, IsSettl
 ghost use Rattle.btr_super.specs.Super.{mirror_bytes};
 ghost use Rattle.convert_steps.specs.Switch.{IsMirror, IsSwitchPart, IsCopy, IsCopyAt, IsLeftBySwitch, IsSwitched, HasCopies, mirror_places, on_volume};
 
+use btr_super::btrfs_format::block::{FIRST_MIRROR, SECOND_MIRROR};
 use btr_super::mirror;
-use btrfs_format::block::{FIRST_MIRROR, SECOND_MIRROR};
 use command_answers::{Access, Block, BlockNo, Disk, Fault};
 use super_turn::to_btrfs;
 

@@ -35,7 +35,3 @@ failed (Err x) e P told is = subst IsFailure (sym told) is
 pub handed : {T : Type 0} (r : Result T WriteAnswer) (e a : WriteAnswer) → IsErrAnd r (λ x. x ≡ e) → e ≡ a → IfErr r (λ x. x ≡ a)
 handed (Ok x) e a told is = absurd told
 handed (Err x) e a told is = told ∙ is
-
-pub answered : {T : Type 0} (r : Result T WriteAnswer) (e : WriteAnswer) (P : WriteAnswer → Type 0) → IsErrAnd r (λ x. x ≡ e) → P e → IfErr r P
-answered (Ok x) e P told is = absurd told
-answered (Err x) e P told is = subst P (sym told) is

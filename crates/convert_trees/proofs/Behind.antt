@@ -20,9 +20,6 @@ pub record IsLater (row later : Trees) : Type 0 where
 pub later_by : (row later : Trees) (n : ℕ) → (later.form ≡ row.form) × (later.slots ≡ row.slots) → later.taken ≡ row.taken + n → IsLater row later
 later_by row later n same taken = record { form = same.0; slots = same.1; more = omega (arith, taken) }
 
-pub later_then : (row mid later : Trees) → IsLater row mid → IsLater mid later → IsLater row later
-later_then row mid later first then = record { form = then.form ∙ first.form; slots = then.slots ∙ first.slots; more = omega (arith, first.more, then.more) }
-
 -- a block of the slots behind some is one of all
 pub in_left : (nodesize taken : ℕ) (slots : List ℕ) (b : ℕ) → IsInSlots nodesize (drop taken slots) b → IsInSlots nodesize slots b
 in_left nodesize taken slots b found =

@@ -43,14 +43,6 @@ goes_by row later n old new same taken only = record { form = same.0; slots = sa
 pub goes_later : (row later : Trees) (n : ℕ) (old new : History) → Goes row later n old new → IsLater row later
 goes_later row later n old new goes = later_by row later n (goes.form, goes.slots) goes.taken
 
-pub goes_then : (row mid later : Trees) (n m : ℕ) (old between new : History) → Goes row mid n old between → Goes mid later m between new → Goes row later (n + m) old new
-goes_then row mid later n m old between new first then = record {
-  form = then.form ∙ first.form;
-  slots = then.slots ∙ first.slots;
-  taken = omega (arith, first.taken, then.taken);
-  only = writes_behind row mid old between new (goes_later row mid n old between first) first.only then.only;
-}
-
 pub still_apart : (needs : ℕ → Type 0) (row later : Trees) (n : ℕ) (old new : History) → Goes row later n old new → LieApart needs row.form.nodesize row.slots → LieApart needs later.form.nodesize later.slots
 still_apart needs row later n old new goes apart =
     subst (λ (f : NodeForm). LieApart needs f.nodesize later.slots) (sym goes.form) (subst (λ (s : List ℕ). LieApart needs row.form.nodesize s) (sym goes.slots) apart)

@@ -20,6 +20,8 @@ unfoldable pub use Rattle.btr_tree.specs.btr_keys.Key.{key_layout}
 pub use Rattle.btr_tree.specs.btr_node.Leaf.{Item}
 pub use Rattle.btr_tree.specs.btr_node.NodeSize.{IsNodeSize}
 pub use Rattle.btr_tree.specs.btr_reader_walk.declared.tree.Form.{Form}
+pub use Rattle.btr_tree.specs.btrfs_format.declared.key.TheConstants.{EXTENT_CSUM, ROOT_ITEM}
+pub use Rattle.btr_tree.specs.btrfs_format.declared.object.TheConstants.{CHUNK_TREE, EXTENT_CSUM_OBJECTID, EXTENT_TREE, ROOT_TREE}
 pub use Rattle.btr_tree.specs.declared.climb.Root.{Root}
 pub use Rattle.btr_tree.specs.outside.History.{History, Image, WritesOnly, block_at, reads}
 pub use Rattle.btr_tree.specs.vol_block.declared.ids.Ids.{Ids}
@@ -32,9 +34,6 @@ pub use Rattle.btr_tree_writer.specs.Trees.{AreWritable, TreeStands, read_form}
 pub use Rattle.btr_tree_writer.specs.declared.answer.WriteAnswer.{WriteAnswer}
 pub use Rattle.btr_tree_writer.specs.declared.form.NodeForm.{NodeForm}
 pub use Rattle.btr_tree_writer.specs.declared.trees.Trees.{Trees}
-pub use Rattle.btrfs_format.specs.declared.key.TheConstants.{EXTENT_CSUM, ROOT_ITEM}
-pub use Rattle.btrfs_format.specs.declared.object.TheConstants.{CHUNK_TREE, EXTENT_CSUM_OBJECTID, EXTENT_TREE, ROOT_TREE}
-pub use Rattle.convert_options.specs.declared.options.Options.{Options}
 pub use Rattle.convert_steps.proofs.Row.{ascends, behind-append, behind_each, behind_least, few_told, items_by, nodes-append, nodes_by, numbers_apart, numbers_of, roots_few, row_counted, stand-append, stand_by}
 pub use Rattle.convert_steps.proofs.extent_pieces.Lists.{all_at, pairs_head, pairs_tail}
 pub use Rattle.convert_steps.specs.Making.{IsMaking, Making, chunk_slots, new_ids, slots}
@@ -81,6 +80,7 @@ pub use Rattle.unit_plan.specs.Pieces.{ArePlaced}
 pub use Rattle.unit_plan.specs.Places.{ArePlaces, places_in}
 unfoldable pub use Rattle.unit_plan.specs.Places.{node_places}
 pub use Rattle.unit_plan.specs.Trees.{new_trees, tree_number}
+pub use Rattle.unit_plan.specs.convert_options.declared.options.Options.{Options}
 pub use Rattle.unit_plan.specs.declared.chunk.PlannedChunk.{PlannedChunk}
 pub use Rattle.unit_plan.specs.declared.piece.Piece.{Piece}
 pub use Rattle.unit_plan.specs.declared.plan.Plan.{Plan}

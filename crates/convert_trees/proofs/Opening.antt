@@ -8,10 +8,6 @@ use Rattle.convert_trees.proofs.Behind.{IsInRest, row_is}
 use Rattle.convert_trees.proofs.Going.{Goes, row_stands, same_where, still_apart}
 use Rattle.convert_trees.proofs.Sums.{sum_items_same}
 
--- nothing was written yet
-pub goes_none : (row : Trees) (h : History) → Goes row row 0 h h
-goes_none row h = record { form = refl; slots = refl; taken = omega arith; only = writes_none (λ b _. IsInRest row b) h }
-
 -- the items of the file tree, read off these blocks
 abbrev pub files_in : Volume → Options → List Piece → Image → List Item
 files_in volume o pieces image = fs_tree_items (source_of volume pieces o.inline o.datasum image)

@@ -1,7 +1,7 @@
 -- One more tree in a row of slots.
 use Rattle.std.specs.Prelude.{◌≡◌, ℕ, ◌++◌, List, drop}
 use Rattle.std.specs.List.{sum_by}
-use Rattle.btrfs_format.specs.declared.object.TheConstants.{EXTENT_TREE}
+use Rattle.btr_tree.specs.btrfs_format.declared.object.TheConstants.{EXTENT_TREE}
 use Rattle.btr_tree.specs.outside.History.{Image}
 use Rattle.btr_tree.specs.btr_node.Leaf.{Item}
 use Rattle.btr_tree.specs.Roots.{lengths_of}

@@ -13,7 +13,7 @@ use Rattle.space_items.specs.StreamLaws.{FitLeaves}
 use Rattle.btr_tree_writer.specs.Trees.{read_form}
 use Rattle.btr_tree_writer.specs.declared.trees.Trees.{Trees}
 use Rattle.unit_plan.specs.declared.chunk.PlannedChunk.{PlannedChunk}
-use Rattle.convert_options.specs.declared.options.Options.{Options}
+use Rattle.unit_plan.specs.convert_options.declared.options.Options.{Options}
 use Rattle.unit_plan.specs.declared.piece.Piece.{Piece}
 use Rattle.unit_plan.specs.declared.tree.NewTree.{NewTree}
 use Rattle.btr_tree.specs.vol_block.declared.ids.Ids.{Ids}

@@ -1,7 +1,7 @@
 -- The root tree in a row of slots, and the extent tree behind it.
 use Rattle.std.specs.Prelude.{◌≡◌, ℕ, ◌+◌, ◌*◌, ◌++◌, count_by, List, drop, take}
 use Rattle.std.specs.List.{sum_by}
-use Rattle.btrfs_format.specs.declared.object.TheConstants.{EXTENT_TREE, ROOT_TREE}
+use Rattle.btr_tree.specs.btrfs_format.declared.object.TheConstants.{EXTENT_TREE, ROOT_TREE}
 use Rattle.btr_tree.specs.outside.History.{Image}
 use Rattle.btr_tree.specs.btr_node.Leaf.{Item}
 use Rattle.btr_tree.specs.Counting.{node_bound, tree_nodes}

@@ -26,11 +26,11 @@ ghost use Rattle.convert_trees.specs.First.{first_items};
 use crate::sources::{FileItems, SumItems};
 use crate::writing::Writing;
 use btr_item_list::ItemList;
-use btr_tree::{Access, Disk, Root};
-use btr_tree_writer::{ListItems, Trees, WriteAnswer};
-use btrfs_format::object::{
+use btr_tree::btrfs_format::object::{
     CHUNK_TREE, CONV_IMAGE_SUBVOL, CSUM_TREE, DATA_RELOC_TREE, DEV_TREE, FS_TREE,
 };
+use btr_tree::{Access, Disk, Root};
+use btr_tree_writer::{ListItems, Trees, WriteAnswer};
 use file_items::Items;
 use space_items::{checksums, chunks, devices};
 use unit_plan::{NewTree, PieceList};

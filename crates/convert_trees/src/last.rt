@@ -20,9 +20,9 @@ ghost use Rattle.convert_trees.specs.Adding.{Adds, AddsExtents};
 
 use crate::sources::ExtentItems;
 use crate::writing::Writing;
+use btr_tree::btrfs_format::object::EXTENT_TREE;
 use btr_tree::{Access, Disk, Memory, Root, node_bound};
 use btr_tree_writer::{Trees, WriteAnswer};
-use btrfs_format::object::EXTENT_TREE;
 use space_items::{NodeList, extents, merged, own_nodes, with_own};
 use unit_plan::item_bytes::{BLOCK_GROUP_BYTES, EXTENT_BYTES, NODE_BYTES};
 use unit_plan::{PieceList, chunks_of};

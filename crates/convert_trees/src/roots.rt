@@ -15,8 +15,8 @@ ghost use Rattle.convert_trees.specs.Roots.{AreFew};
 
 use crate::writing::Writing;
 use btr_item_list::ItemList;
+use btr_tree::btrfs_format::object::EXTENT_TREE;
 use btr_tree::{Counter, Memory, Root};
-use btrfs_format::object::EXTENT_TREE;
 use convert_steps::{PlacedTree, PlacedTrees};
 use reiser_volume::{InodeNumbers, Volume};
 use space_items::{RootList, TreeRoot, roots};

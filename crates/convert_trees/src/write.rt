@@ -26,10 +26,10 @@ use crate::root_tree::write_last;
 use crate::writing::Writing;
 use btr_tree::{Access, Disk, Ids};
 use btr_tree_writer::{NodeForm, Trees, WriteAnswer};
-use convert_options::Options;
 use convert_steps::{NewRoots, PlacedTree, PlacedTrees};
 use reiser_volume::Volume;
 use std::alloc::Global;
+use unit_plan::convert_options::Options;
 use unit_plan::{NewTree, PieceList, Plan, Units, new_trees, slots_of};
 
 /// Writes all trees of a converted volume: the chunk tree to the plan's units for it, and all others to those for metadata.

@@ -1,7 +1,7 @@
 use btr_tree_writer::NodeForm;
-use convert_options::Options;
 use reiser_volume::Volume;
 use std::alloc::Global;
+use unit_plan::convert_options::Options;
 use unit_plan::{PieceList, Plan};
 
 /// What the trees are made from.

@@ -115,10 +115,6 @@ module _ (s : Source) (key : ObjectKey) where
   root_is : same_key key root ≡ true → root_weight ≡ 175
   root_is is = ap (λ (n : ℕ). cond (256 == n) 175 0) (root_first s.keys key is)
 
-  some : (b : Bool) → cond b 175 0 ≤ 175
-  some true = omega arith
-  some false = omega arith
-
   names_take : sum_by item_weight (name_items s key) + cond (same_key key root) 138 0 ≤ names_weight + root_weight
   names_take = by (same_key key root) refl
     where

@@ -42,6 +42,9 @@ pub use Rattle.btr_reader.specs.btr_reader_names.Rules.{AreIn, BreaksNames, bad_
 pub use Rattle.btr_reader.specs.btr_reader_names.declared.dir_index.DirIndex.{DirIndex}
 pub use Rattle.btr_reader.specs.btr_reader_walk.Events.{TreeItem}
 pub use Rattle.btr_reader.specs.btr_reader_walk.Tree.{bare_item}
+pub use Rattle.btr_reader.specs.btrfs_format.declared.key.TheConstants.{DEV_ITEM, DIR_INDEX, DIR_ITEM, EXTENT_DATA, INODE_EXTREF, INODE_ITEM, INODE_REF, ROOT_ITEM}
+pub use Rattle.btr_reader.specs.btrfs_format.declared.object.TheConstants.{CONV_IMAGE_SUBVOL, DEV_ITEMS_OBJECTID, FIRST_FREE_OBJECTID}
+pub use Rattle.btr_reader.specs.btrfs_format.declared.size.TheConstants.{DIR_ITEM_SIZE, INODE_EXTREF_SIZE, INODE_REF_SIZE, ITEM_SIZE}
 pub use Rattle.btr_reader.specs.castagnoli.Castagnoli.{extref_hash, name_hash}
 pub use Rattle.btr_reader.specs.csum_kinds.declared.kind.SumKind.{SumKind}
 pub use Rattle.btr_reader.specs.csum_kinds.declared.kind.SumKind.TheVariants.{Crc32c, Sha256}
@@ -50,9 +53,7 @@ pub use Rattle.btr_reader.specs.fs_rows.Rows.{NameList, WholeRow}
 pub use Rattle.btr_reader.specs.fs_rows.declared.row.Kind.{Kind}
 pub use Rattle.btr_reader.specs.fs_rows.declared.row.Kind.TheVariants.{Block, Character, Directory, Fifo, File, Socket, Subvolume, Symlink}
 pub use Rattle.btr_reader.specs.outside.History.{Image, block_at}
-pub use Rattle.btrfs_format.specs.declared.key.TheConstants.{DEV_ITEM, DIR_INDEX, DIR_ITEM, EXTENT_DATA, INODE_EXTREF, INODE_ITEM, INODE_REF, ROOT_ITEM}
-pub use Rattle.btrfs_format.specs.declared.object.TheConstants.{CONV_IMAGE_SUBVOL, DEV_ITEMS_OBJECTID, FIRST_FREE_OBJECTID}
-pub use Rattle.btrfs_format.specs.declared.size.TheConstants.{DIR_ITEM_SIZE, INODE_EXTREF_SIZE, INODE_REF_SIZE, ITEM_SIZE}
+pub use Rattle.btr_reader.specs.vol_block.declared.mode.TheConstants.{DIRECTORY_MODE, IMAGE_MODE}
 pub use Rattle.convert_steps.proofs.btr_item_list.Grouping.{Above, Rising, of_number_grouped, other, rising_grouped, same_test}
 pub use Rattle.convert_steps.proofs.btr_item_list.Sorting.{Sorted, ascending_filter, ascending_sorted, ascending_sum}
 pub use Rattle.convert_steps.proofs.extent_pieces.Apart.{places_are_apart, plans_have_room}
@@ -150,4 +151,3 @@ pub use Rattle.convert_trees_laws.specs.Names.{HasSamePaths, NamesAreKept, Names
 pub use Rattle.convert_trees_laws.specs.Rows.{HasBytes, InodesAreRead, KeepsBytes, RowsAreKept}
 pub use Rattle.indexmap.specs.IndexMap.{keys}
 pub use Rattle.unit_plan.specs.declared.item_bytes.TheConstants.{BLOCK_GROUP_BYTES, CHUNK_BYTES, DEV_EXTENT_BYTES, EXTENT_BYTES, FILE_EXTENT_BYTES, IMAGE_ROOM, INLINE_BYTES, INODE_BYTES, NAME_BYTES, NODE_BYTES, RELOCATION_ROOM, ROOT_TREE_ROOM}
-pub use Rattle.vol_block.specs.declared.mode.TheConstants.{DIRECTORY_MODE, IMAGE_MODE}

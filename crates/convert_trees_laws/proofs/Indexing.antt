@@ -68,9 +68,6 @@ not_none e r some none = absurd (cc)
 index_readable : (e : DirEntryValue) → dir_entry_head.fits e → index_entry (dir_entry_bytes e) ≡ None → ⊥
 index_readable e fits = not_none e (index_entry (dir_entry_bytes e)) (ap only_one (ap dir_items_of (sym (append-nil (dir_entry_bytes e))) ∙ dir_items_read_back e [] (fits, tt)))
 
-other_kind : (k : ℕ) (r : Option DirEntryValue) → k ≤ 95 → k ≡ DIR_INDEX → r ≡ None → ⊥
-other_kind k r low is none = omega (arith, low, is)
-
 module _ (s : Source) (fit : (key : ObjectKey) → AllByRecursion (λ (e : Indexed). dir_entry_head.fits e.1) (indexed_in (kind_in s) s.keys s.links key)) where
   entries_readable : (ino : ℕ) (list : List Indexed) → AllByRecursion (λ (e : Indexed). dir_entry_head.fits e.1) list → AllByRecursion IsReadable (entry_items ino list)
   entries_readable ino list all =

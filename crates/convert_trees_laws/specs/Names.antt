@@ -1,6 +1,6 @@
 -- What the names of a tree of the file tree's items are.
 use Rattle.std.specs.Prelude.{◌≡◌, ℕ, Bool, not, List, [], ◌∷◌, map, filter, Contains}
-use Rattle.btrfs_format.specs.declared.object.TheConstants.{FIRST_FREE_OBJECTID}
+use Rattle.btr_reader.specs.btrfs_format.declared.object.TheConstants.{FIRST_FREE_OBJECTID}
 use Rattle.btr_reader.specs.outside.History.{Image}
 use Rattle.btr_reader.specs.btr_reader_names.Links.{Target, inode, dir_indexes, is_followed, LeadsToTarget as LeadsOn}
 use Rattle.btr_reader.specs.btr_reader_names.Rules.{KeepsNames}

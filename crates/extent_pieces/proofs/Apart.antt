@@ -2,7 +2,7 @@
 use Rattle.extent_pieces.proofs.Imports.{◌≡◌, ℕ, zero, suc, ◌+◌, ◌-◌, ◌*◌, ◌/◌, ◌^◌, ◌<◌, ◌≤◌, ◌==◌, ◌&&◌, ◌||◌, ltb, Bool, true, false, List, [], ◌∷◌, ◌++◌, length, map, get_or, take, drop, Option, Some, None, refl, sym, ◌∙◌, ap, arith, subst, ⊎_elim, length-append, eq-eqb, Contains, All, AllPairs, MatchOption, filter, nat_lt, if◌then◌else◌, unwrap_or, div_ceil, range_with_len, IsPermutation, and_from, and_parts, both_ways, cases_Bool, cases_lt, lt-ltb, ltb-true, length-map, Contains-append_cases, Contains-get_or, Contains-permutation, IsPermutation-sym, IsDistinct-IsPermutation, IsDistinct-from_apart, apart_from_distinct, AllPairs-cons, from_filter, from_flat_map, from_map, Image, has, IsFreeUnit, all_from_contains, contains_cases, contains_head, contains_tail, range_contains, disk_or_hole, is_held, named_block, ObjectStat, no_stat, stat_at, used_of, volume_items, accepted_is_small, used_length, is_among, Counts, Piece, IsSoundPlan, plans_sound, need, Pieces, Tail, is_tail, FileAt, file_at, file_blocks, file_tails, has_tail, is_file_inline, owner, tails, files_of, AreKeptPieces, HasPlan, IsKeptPiece, LieWell, LiesInUnit, PlacesAreApart, PlansHaveRoom, Owners, advanced, copied_pieces, kept_pieces, tail_piece, WerePlaced, FitsPlan, at_place, at_places, blocks_of_units}
 use Rattle.std.proofs.Math.Seq.{drop-append_seam, take-append_seam}
 use Rattle.reiser_volume_files.specs.declared.map.RunFrom.TheVariants.{Tail as InTree}
-use Rattle.convert_options.specs.declared.options.Options.{Options}
+use Rattle.unit_plan.specs.convert_options.declared.options.Options.{Options}
 use Rattle.unit_plan.specs.declared.plan.Plan.{Plan}
 use Rattle.extent_pieces.proofs.Covering.{IsCopied, is_copied_piece, used_inside}
 use Rattle.extent_pieces.proofs.Ending.{data_used}

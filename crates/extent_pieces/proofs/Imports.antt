@@ -15,7 +15,6 @@ pub use Rattle.std.specs.List.{find, flat_map, list_any, range_with_len}
 pub use Rattle.std.specs.List.Sorted.{IsNonDecreasingBy, IsPartitionPoint, IsPermutation}
 pub use Rattle.std.specs.Option.{option_map}
 pub use Rattle.std.specs.Prelude.{All, AllPairs, Any, Contains, MatchOption, filter, if◌then◌else◌, nat_le, nat_lt, slice_get, sum_by, unwrap_or, ◌≢◌}
-pub use Rattle.btrfs_format.specs.declared.block.TheConstants.{FIRST_MIRROR, FIRST_MIRROR_END, SECOND_MIRROR, SECOND_MIRROR_END}
 pub use Rattle.extent_pieces.specs.Files.{FileAt, file_at, file_blocks, file_tails, files, has_tail, inline_files, is_file_at, is_file_inline, is_in_block, is_symlink_at, owns, tails}
 unfoldable pub use Rattle.extent_pieces.specs.Files.{files_among, owner, symlinks_among}
 pub use Rattle.extent_pieces.specs.Found.{IsFound, counts_of, files_of}
@@ -29,8 +28,6 @@ pub use Rattle.extent_pieces.specs.declared.parts.FileParts.{FileParts}
 pub use Rattle.extent_pieces.specs.declared.pieces.Pieces.{Pieces}
 pub use Rattle.extent_pieces.specs.declared.run.OwnedRun.{OwnedRun}
 pub use Rattle.extent_pieces.specs.declared.tail.Tail.{Tail}
-pub use Rattle.fs_rows.specs.declared.row.Kind.{Kind}
-pub use Rattle.fs_rows.specs.declared.row.Kind.TheVariants.{Block, Character, Directory, Fifo, File, Socket, Subvolume, Symlink}
 pub use Rattle.indexmap.specs.IndexMap.{get, keys}
 pub use Rattle.reiser_bitmap.proofs.Ends.{IsEnd, end_facts, end_is}
 pub use Rattle.reiser_bitmap.proofs.MaximalRuns.{mapped, starts_ascend}
@@ -71,9 +68,12 @@ pub use Rattle.reiser_volume_objects.specs.Rules.{IsObject}
 pub use Rattle.reiser_volume_objects.specs.declared.key.ObjectKey.{ObjectKey}
 pub use Rattle.reiser_volume_objects.specs.declared.naming.Naming.{Naming}
 pub use Rattle.reiser_volume_objects.specs.declared.stat.ObjectStat.{ObjectStat}
+pub use Rattle.reiser_volume_objects.specs.fs_rows.declared.row.Kind.{Kind}
+pub use Rattle.reiser_volume_objects.specs.fs_rows.declared.row.Kind.TheVariants.{Block, Character, Directory, Fifo, File, Socket, Subvolume, Symlink}
 pub use Rattle.unit_plan.proofs.Sound.{plans_sound}
 pub use Rattle.unit_plan.specs.Choice.{is_among, is_data}
 pub use Rattle.unit_plan.specs.Laws.{IsSoundPlan}
 pub use Rattle.unit_plan.specs.Needed.{AreSmall, need}
+pub use Rattle.unit_plan.specs.btrfs_format.declared.block.TheConstants.{FIRST_MIRROR, FIRST_MIRROR_END, SECOND_MIRROR, SECOND_MIRROR_END}
 pub use Rattle.unit_plan.specs.declared.counts.Counts.{Counts}
 pub use Rattle.unit_plan.specs.declared.piece.Piece.{Piece}

@@ -11,7 +11,7 @@ use Rattle.reiser_volume_objects.specs.declared.key.ObjectKey.{ObjectKey}
 use Rattle.reiser_volume_objects.specs.Keys.{items_of}
 use Rattle.reiser_volume_objects.specs.Kinds.{is_file, is_symlink}
 use Rattle.reiser_volume.specs.reiser_volume_names.Names.{ino_of_key}
-use Rattle.fs_rows.specs.declared.row.Kind.TheVariants.{File}
+use Rattle.reiser_volume_objects.specs.fs_rows.declared.row.Kind.TheVariants.{File}
 use Rattle.reiser_volume.specs.Inline.{stays_in_tree, is_tail}
 use Rattle.reiser_volume.specs.Made.{stat_at, kind_by}
 use Rattle.extent_pieces.specs.declared.tail.Tail.{Tail as TailBlock}

@@ -9,7 +9,7 @@ use Rattle.reiser_volume.specs.reiser_volume_names.Links.{AreLinks, AreNamedKeys
 use Rattle.reiser_volume.specs.reiser_volume_names.Names.{ino_of_key}
 use Rattle.reiser_volume.specs.Owners.{Owns}
 use Rattle.reiser_volume.specs.Volume.{used_of, volume_items, IsAccepted}
-use Rattle.convert_options.specs.declared.options.Options.{Options}
+use Rattle.unit_plan.specs.convert_options.declared.options.Options.{Options}
 use Rattle.unit_plan.specs.declared.piece.Piece.{Piece}
 use Rattle.unit_plan.specs.declared.plan.Plan.{Plan}
 use Rattle.unit_plan.specs.Choice.{HasEnoughSpace, IsPlan, is_among, is_data}

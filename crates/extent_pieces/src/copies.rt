@@ -7,9 +7,9 @@ ghost use Rattle.extent_pieces.specs.Pieces.{Owners, copied_pieces};
 
 use crate::owned::owner_of;
 use crate::run::OwnedRun;
-use btrfs_format::block::{FIRST_MIRROR, SECOND_MIRROR};
 use reiser_bitmap::{Bitmap, BlockNo, Memory, is_reserved};
 use unit_plan::Piece;
+use unit_plan::btrfs_format::block::{FIRST_MIRROR, SECOND_MIRROR};
 
 /// Appends a piece for each used block that is reserved, ascending. It has no place yet.
 pub fn add_copies(items: &mut Vec<Piece>, map: &Bitmap, owned: &[OwnedRun]) -> Result<(), Memory>

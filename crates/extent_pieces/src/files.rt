@@ -14,10 +14,10 @@ ghost use Rattle.extent_pieces.specs.Parts.{AreParts, Gathers, Gains, adds_file,
 use crate::parts::FileParts;
 use crate::run::OwnedRun;
 use crate::tail::Tail;
-use fs_rows::Kind;
 use reiser_bitmap::{BlockSource, Memory, VolAnswer};
 use reiser_volume::Volume;
 use reiser_volume_files::{FileMap, FileRun, RunFrom};
+use reiser_volume_objects::fs_rows::Kind;
 use reiser_volume_objects::kind_of_mode;
 use std::alloc::Global;
 

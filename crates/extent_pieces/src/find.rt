@@ -21,11 +21,11 @@ use crate::counts::{are_small, counts_of};
 use crate::divide::{add_kept, count_kept};
 use crate::parts::FileParts;
 use crate::tail::Tail;
-use convert_options::Options;
 use reiser_bitmap::{BlockNo, BlockSource, Memory, Rule, VolAnswer, VolumeRefusal};
 use reiser_volume::Volume;
 use std::alloc::Global;
 use unit_plan::Piece;
+use unit_plan::convert_options::Options;
 
 /// The most blocks of a volume that are reserved.
 const MOST_COPIES: usize = 303;

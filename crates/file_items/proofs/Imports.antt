@@ -17,8 +17,8 @@ pub use Rattle.btr_item_list.specs.Extents.{extent_item, inline_extent, regular_
 pub use Rattle.btr_item_list.specs.Groups.{ascending, grouped}
 pub use Rattle.btr_item_list.specs.Lists.{joined, joined_item, offset_of}
 pub use Rattle.btr_item_list.specs.Spots.{is_under}
+pub use Rattle.btr_item_list.specs.btrfs_format.declared.key.TheConstants.{DIR_ITEM, INODE_EXTREF, INODE_ITEM, INODE_REF}
 pub use Rattle.btr_item_list.specs.declared.spot.Spot.{Spot}
-pub use Rattle.btrfs_format.specs.declared.key.TheConstants.{DIR_ITEM, INODE_EXTREF, INODE_ITEM, INODE_REF}
 pub use Rattle.file_items.specs.Contents.{HoldsBy, HoldsDirectBytes, HoldsInline, begins_in_tail}
 pub use Rattle.file_items.specs.Extents.{by_block, extents_at, file_block, is_owned_by, owner_inode, piece_bytes, pieces_of, pieces_of_volume, source_block}
 pub use Rattle.file_items.specs.Gathered.{AreExtrefs, HasEntries, HasEntry, HasName, HasNames}
@@ -38,9 +38,6 @@ pub use Rattle.file_items.specs.declared.files.FileInHand.{FileInHand}
 pub use Rattle.file_items.specs.declared.files.FileTree.{FileTree}
 pub use Rattle.file_items.specs.declared.items.Items.{Items}
 pub use Rattle.file_items.specs.declared.link_index.LinkIndex.{LinkIndex}
-pub use Rattle.fs_rows.specs.Kinds.{is_directory}
-pub use Rattle.fs_rows.specs.declared.row.Kind.{Kind}
-pub use Rattle.fs_rows.specs.declared.row.Kind.TheVariants.{Block, Character, Directory, Fifo, File, Socket, Subvolume, Symlink}
 pub use Rattle.indexmap.specs.IndexMap.{IndexMap, get, keys}
 pub use Rattle.reiser_volume.proofs.Bounds.{accepted_is_small}
 pub use Rattle.reiser_volume.proofs.reiser_volume_names.Uniqueness.{links_one}
@@ -64,6 +61,9 @@ pub use Rattle.reiser_volume_objects.specs.Keys.{items_of, root, same_key}
 pub use Rattle.reiser_volume_objects.specs.declared.key.ObjectKey.{ObjectKey}
 pub use Rattle.reiser_volume_objects.specs.declared.naming.Naming.{Naming}
 pub use Rattle.reiser_volume_objects.specs.declared.stat.ObjectStat.{ObjectStat}
+pub use Rattle.reiser_volume_objects.specs.fs_rows.Kinds.{is_directory}
+pub use Rattle.reiser_volume_objects.specs.fs_rows.declared.row.Kind.{Kind}
+pub use Rattle.reiser_volume_objects.specs.fs_rows.declared.row.Kind.TheVariants.{Block, Character, Directory, Fifo, File, Socket, Subvolume, Symlink}
 pub use Rattle.unit_plan.specs.btr_keys.DirEntry.{DirEntryValue, dir_entry_bytes, dir_entry_value}
 pub use Rattle.unit_plan.specs.btr_keys.Extref.{ExtrefValue, extref_bytes}
 pub use Rattle.unit_plan.specs.btr_keys.InodeRef.{InodeRefValue, inode_ref_bytes}

@@ -170,10 +170,6 @@ pub unwrapped : (o : Option (ℕ × ℕ)) (t : ℕ × ℕ) → t ≡ unwrap_or o
 unwrapped None t is = ap (λ (x : ℕ × ℕ). x.0) is
 unwrapped (Some x) t is = ap (λ (y : ℕ × ℕ). y.0) is
 
-pub unwrapped_block : (o : Option (ℕ × ℕ)) (t : ℕ × ℕ) → t ≡ unwrap_or o (0, 0) → t.1 ≡ option_map_or (λ x. x.1) o 0
-unwrapped_block None t is = ap (λ (x : ℕ × ℕ). x.1) is
-unwrapped_block (Some x) t is = ap (λ (y : ℕ × ℕ). y.1) is
-
 pub owner_more : (pieces told : List Piece) (spots new : List Spot) (i number under : ℕ) (p : Piece) → TellsPieces pieces owner_inode spots (take i told) → slice_get pieces number ≡ Some p → under ≡ owner_inode p → take (i + 1) told ≡ take i told ++ p ∷ []
     → new ≡ spots ++ record { of = under; number = number } ∷ [] → TellsPieces pieces owner_inode new (take (i + 1) told)
 owner_more pieces told spots new i number under p tells there under_is more new_is =

@@ -20,10 +20,3 @@ none_left [] zero within = refl
 none_left [] (suc n) within = refl
 none_left (x ∷ xs) zero within = absurd (omega (arith, within))
 none_left (x ∷ xs) (suc n) within = none_left xs n (omega (arith, within))
-
--- one of the last n
-pub next_last : {A : Type 0} (xs : List A) (n m : ℕ) → 0 < m → m ≤ length xs → last_of n xs ≡ last_of m xs → IsNext xs (length xs - m)
-next_last xs n m some within same = next_of xs (length xs - m) (omega (arith, some, within))
-
-pub last_rest : {A : Type 0} (xs : List A) (m : ℕ) → 0 < m → m ≤ length xs → drop (length xs - m + 1) xs ≡ last_of (m - 1) xs
-last_rest xs m some within = let same : length xs - m + 1 ≡ length xs - (m - 1) = omega (arith, some, within) in ap (λ (k : ℕ). drop k xs) same

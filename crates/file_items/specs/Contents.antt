@@ -1,6 +1,6 @@
 -- What is held in the tree itself.
 use Rattle.std.specs.Prelude.{◌≡◌, ℕ, Bool, false, true, List, [], ◌∷◌, Option, Some, None}
-use Rattle.fs_rows.specs.declared.row.Kind.{Kind}
+use Rattle.reiser_volume_objects.specs.fs_rows.declared.row.Kind.{Kind}
 use Rattle.reiser_volume_files.specs.Bytes.{tail_block}
 use Rattle.reiser_volume_files.specs.declared.map.FileRun.{FileRun}
 use Rattle.reiser_volume.specs.Inline.{is_tail, stays_in_tree}

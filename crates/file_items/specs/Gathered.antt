@@ -1,6 +1,6 @@
 -- What was gathered of an object, in the order of the links.
 use Rattle.std.specs.Prelude.{◌≡◌, ℕ, ◌+◌, not, List, [], ◌∷◌, ◌++◌, map, filter, length, if◌then◌else◌}
-use Rattle.btrfs_format.specs.declared.key.TheConstants.{INODE_EXTREF}
+use Rattle.btr_item_list.specs.btrfs_format.declared.key.TheConstants.{INODE_EXTREF}
 use Rattle.unit_plan.specs.btr_keys.Key.{make_key}
 use Rattle.unit_plan.specs.btr_node.Leaf.{Item}
 use Rattle.btr_item_list.specs.Groups.{ascending}

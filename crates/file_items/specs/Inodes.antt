@@ -1,9 +1,9 @@
 -- The inode of an object of a ReiserFS volume.
 use Rattle.std.specs.Prelude.{ℕ, ◌+◌, ◌*◌, ◌^◌, Bool, not, ◌&&◌, if◌then◌else◌}
-use Rattle.btrfs_format.specs.declared.flag.TheConstants.{INODE_APPEND, INODE_IMMUTABLE, INODE_NOATIME, INODE_NODATASUM, INODE_NODUMP, INODE_SYNC}
+use Rattle.btr_item_list.specs.btrfs_format.declared.flag.TheConstants.{INODE_APPEND, INODE_IMMUTABLE, INODE_NOATIME, INODE_NODATASUM, INODE_NODUMP, INODE_SYNC}
 use Rattle.unit_plan.specs.btr_keys.declared.inode.Inode.{Inode}
-use Rattle.fs_rows.specs.Kinds.{is_device, is_file, is_symlink}
-use Rattle.fs_rows.specs.declared.row.Kind.{Kind}
+use Rattle.reiser_volume_objects.specs.fs_rows.Kinds.{is_device, is_file, is_symlink}
+use Rattle.reiser_volume_objects.specs.fs_rows.declared.row.Kind.{Kind}
 use Rattle.btr_item_list.specs.Inodes.{stamp_of, new_inode}
 use Rattle.reiser_volume_objects.specs.declared.stat.ObjectStat.{ObjectStat}
 use Rattle.reiser_volume.specs.Rows.{flag, major_of, minor_of}

@@ -1,17 +1,17 @@
 -- The items of a file tree that tell names, for the links of a ReiserFS volume.
 use Rattle.std.specs.Prelude.{ℕ, ◌+◌, ◌-◌, ◌^◌, nat_lt, Bool, not, List, [], ◌∷◌, ◌++◌, map, filter, count_by, sum_by, length, if◌then◌else◌}
 use Rattle.std.specs.List.{flat_map}
-use Rattle.btrfs_format.specs.declared.flag.TheConstants.{FT_BLKDEV, FT_CHRDEV, FT_DIR, FT_FIFO, FT_REG_FILE, FT_SOCK, FT_SYMLINK}
-use Rattle.btrfs_format.specs.declared.key.TheConstants.{DIR_INDEX, DIR_ITEM, INODE_EXTREF, INODE_ITEM, INODE_REF, ROOT_ITEM}
-use Rattle.btrfs_format.specs.declared.object.TheConstants.{CONV_IMAGE_SUBVOL, FIRST_FREE_OBJECTID}
+use Rattle.btr_item_list.specs.btrfs_format.declared.flag.TheConstants.{FT_BLKDEV, FT_CHRDEV, FT_DIR, FT_FIFO, FT_REG_FILE, FT_SOCK, FT_SYMLINK}
+use Rattle.btr_item_list.specs.btrfs_format.declared.key.TheConstants.{DIR_INDEX, DIR_ITEM, INODE_EXTREF, INODE_ITEM, INODE_REF, ROOT_ITEM}
+use Rattle.btr_item_list.specs.btrfs_format.declared.object.TheConstants.{CONV_IMAGE_SUBVOL, FIRST_FREE_OBJECTID}
 use Rattle.reiser_volume.specs.castagnoli.Castagnoli.{name_hash, extref_hash}
 use Rattle.unit_plan.specs.btr_keys.DirEntry.{DirEntryValue, dir_entry_bytes}
 use Rattle.unit_plan.specs.btr_keys.Extref.{ExtrefValue, extref_bytes}
 use Rattle.unit_plan.specs.btr_keys.InodeRef.{InodeRefValue, inode_ref_bytes}
 use Rattle.unit_plan.specs.btr_keys.Key.{make_key}
 use Rattle.unit_plan.specs.btr_node.Leaf.{Item}
-use Rattle.fs_rows.specs.declared.row.Kind.{Kind}
-use Rattle.fs_rows.specs.declared.row.Kind.TheVariants.{Directory, File, Symlink, Character, Block, Fifo, Socket, Subvolume}
+use Rattle.reiser_volume_objects.specs.fs_rows.declared.row.Kind.{Kind}
+use Rattle.reiser_volume_objects.specs.fs_rows.declared.row.Kind.TheVariants.{Directory, File, Symlink, Character, Block, Fifo, Socket, Subvolume}
 use Rattle.reiser_volume.specs.reiser_volume_names.Names.{ino_of_key, reference_size, saved_name}
 use Rattle.reiser_volume_objects.specs.declared.key.ObjectKey.{ObjectKey}
 use Rattle.reiser_volume_objects.specs.declared.naming.Naming.{Naming}

@@ -1,10 +1,10 @@
 -- The items of the tree of the saved image, and of the relocation tree.
 use Rattle.std.specs.Prelude.{ℕ, ◌*◌, List, [], ◌∷◌, ◌++◌, codes, if◌then◌else◌, Bool, ◌+◌}
-use Rattle.btrfs_format.specs.declared.flag.TheConstants.{INODE_NODATASUM, INODE_READONLY}
-use Rattle.btrfs_format.specs.declared.object.TheConstants.{FIRST_FREE_OBJECTID}
-use Rattle.vol_block.specs.declared.mode.TheConstants.{DIRECTORY_MODE, IMAGE_MODE}
+use Rattle.btr_item_list.specs.btrfs_format.declared.flag.TheConstants.{INODE_NODATASUM, INODE_READONLY}
+use Rattle.btr_item_list.specs.btrfs_format.declared.object.TheConstants.{FIRST_FREE_OBJECTID}
+use Rattle.btr_item_list.specs.vol_block.declared.mode.TheConstants.{DIRECTORY_MODE, IMAGE_MODE}
 use Rattle.unit_plan.specs.btr_node.Leaf.{Item}
-use Rattle.fs_rows.specs.declared.row.Kind.TheVariants.{File}
+use Rattle.reiser_volume_objects.specs.fs_rows.declared.row.Kind.TheVariants.{File}
 use Rattle.unit_plan.specs.declared.piece.Piece.{Piece}
 use Rattle.file_items.specs.Extents.{pieces_of_volume, source_block, piece_bytes, extents_at}
 use Rattle.file_items.specs.Names.{root_ref, entry_to, entry_items, Indexed, letters}

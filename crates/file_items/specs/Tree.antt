@@ -5,9 +5,9 @@ use Rattle.indexmap.specs.IndexMap.{keys}
 use Rattle.reiser_volume.specs.outside.History.{Image}
 use Rattle.unit_plan.specs.btr_keys.declared.inode.Inode.{Inode}
 use Rattle.unit_plan.specs.btr_node.Leaf.{Item}
-use Rattle.fs_rows.specs.Kinds.{is_directory}
-use Rattle.fs_rows.specs.declared.row.Kind.{Kind}
-use Rattle.fs_rows.specs.declared.row.Kind.TheVariants.{Directory, File, Symlink, Character, Block, Fifo, Socket, Subvolume}
+use Rattle.reiser_volume_objects.specs.fs_rows.Kinds.{is_directory}
+use Rattle.reiser_volume_objects.specs.fs_rows.declared.row.Kind.{Kind}
+use Rattle.reiser_volume_objects.specs.fs_rows.declared.row.Kind.TheVariants.{Directory, File, Symlink, Character, Block, Fifo, Socket, Subvolume}
 use Rattle.reiser_volume_files.specs.Bytes.{target_bytes}
 use Rattle.reiser_volume.specs.reiser_volume_names.Names.{ino_of_key}
 use Rattle.reiser_volume_objects.specs.declared.key.ObjectKey.{ObjectKey}

@@ -16,9 +16,9 @@ ghost use Rattle.reiser_volume.specs.Volume.{IsAccepted, volume_items};
 ghost use Rattle.file_items.specs.Contents.{begins_in_tail, HoldsDirectBytes, HoldsInline};
 ghost use Rattle.file_items.specs.Spots.{IsObjectAt};
 
-use fs_rows::Kind;
 use reiser_volume::{Block, BlockSource, Rule, VolAnswer, Volume, VolumeRefusal};
 use reiser_volume_files::{FileMap, RunFrom};
+use reiser_volume_objects::fs_rows::Kind;
 use std::alloc::Global;
 
 /// How many bytes an inline file has at most.

@@ -14,12 +14,14 @@ ghost use Rattle.file_items.specs.Spots.{IsObjectAt};
 ghost use Rattle.file_items.specs.Names.{entry_kind, entry_to, entry_items, Indexed, indexed, indexed_in, names_in, saved_entry};
 
 use crate::link_index::{LinkIndex, index_at};
+use btr_item_list::btrfs_format::flag::{
+    FT_BLKDEV, FT_CHRDEV, FT_DIR, FT_FIFO, FT_REG_FILE, FT_SOCK, FT_SYMLINK,
+};
+use btr_item_list::btrfs_format::key::{DIR_INDEX, DIR_ITEM, INODE_ITEM, ROOT_ITEM};
+use btr_item_list::btrfs_format::object::CONV_IMAGE_SUBVOL;
 use btr_item_list::{ItemList, key_of, put_dir_entry, short};
-use btrfs_format::flag::{FT_BLKDEV, FT_CHRDEV, FT_DIR, FT_FIFO, FT_REG_FILE, FT_SOCK, FT_SYMLINK};
-use btrfs_format::key::{DIR_INDEX, DIR_ITEM, INODE_ITEM, ROOT_ITEM};
-use btrfs_format::object::CONV_IMAGE_SUBVOL;
-use fs_rows::Kind;
 use reiser_volume::{InodeNumbers, Memory, Volume, name_hash};
+use reiser_volume_objects::fs_rows::Kind;
 use reiser_volume_objects::kind_of_mode;
 use std::alloc::Global;
 use unit_plan::{DirEntry, Key};

@@ -2,7 +2,7 @@ ghost use Rattle.std.specs.Prelude.{◌≡◌, ◌≤◌, ◌<◌, ◌++◌, ◌
 ghost use Rattle.std.specs.Option.{option_map_or};
 ghost use Rattle.std.specs.Result.{MatchResult};
 ghost use Rattle.indexmap.specs.IndexMap.{keys, get};
-ghost use Rattle.fs_rows.specs.Kinds.{is_directory};
+ghost use Rattle.reiser_volume_objects.specs.fs_rows.Kinds.{is_directory};
 ghost use Rattle.btr_item_list.specs.Spots.{is_under};
 ghost use Rattle.reiser_volume.specs.reiser_volume_contents.Answers.{IsFileAnswer, IsFaultOrMemory};
 ghost use Rattle.reiser_volume.specs.outside.Fault.{HasCauseOf};
@@ -31,10 +31,10 @@ use crate::object_names::ObjectNames;
 use crate::order::by_owner;
 use crate::small::add_root_ref;
 use btr_item_list::{Extent, ItemList, Spots, add_extent, add_inline, add_inode};
-use convert_options::Options;
-use fs_rows::Kind;
 use reiser_volume::{Block, BlockSource, InodeNumbers, Memory, VolAnswer, Volume};
+use reiser_volume_objects::fs_rows::Kind;
 use std::alloc::Global;
+use unit_plan::convert_options::Options;
 use unit_plan::{Piece, PieceList};
 
 /// What of a volume and its pieces the file tree is made by: the same as long as its items are given.

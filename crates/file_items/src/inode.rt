@@ -2,12 +2,12 @@ ghost use Rattle.std.specs.Prelude.{◌≡◌, ◌≤◌, ◌<◌};
 ghost use Rattle.reiser_volume.specs.Rows.{flag};
 ghost use Rattle.file_items.specs.Inodes.{if_set, inode_flags, device_number, inode_from};
 
-use btr_item_list::{new_inode, stamp_of};
-use btrfs_format::flag::{
+use btr_item_list::btrfs_format::flag::{
     INODE_APPEND, INODE_IMMUTABLE, INODE_NOATIME, INODE_NODATASUM, INODE_NODUMP, INODE_SYNC,
 };
-use fs_rows::Kind;
+use btr_item_list::{new_inode, stamp_of};
 use reiser_volume_objects::ObjectStat;
+use reiser_volume_objects::fs_rows::Kind;
 use unit_plan::Inode;
 
 /// What an inode has that is not in the stat data of its object.

@@ -16,9 +16,9 @@ use crate::files::FileTree;
 use crate::image::{ImageExtents, image_blocks};
 use crate::small::{image_head, relocation_items};
 use btr_item_list::ItemList;
-use convert_options::Options;
 use reiser_volume::{BlockSource, Memory, VolAnswer, Volume};
 use std::alloc::Global;
+use unit_plan::convert_options::Options;
 use unit_plan::{Key, PieceList};
 
 /// What comes behind the items in hand.

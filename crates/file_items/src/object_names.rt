@@ -8,8 +8,8 @@ ghost use Rattle.file_items.specs.Spots.{IsObjectAt};
 ghost use Rattle.file_items.specs.Names.{IndexedLink, indexed_links, names_of, inode_refs, extrefs};
 
 use crate::link_index::LinkIndex;
+use btr_item_list::btrfs_format::key::{INODE_EXTREF, INODE_REF};
 use btr_item_list::{ItemList, key_of, put_extref, put_inode_ref, short};
-use btrfs_format::key::{INODE_EXTREF, INODE_REF};
 use reiser_volume::{InodeNumbers, Memory, Volume, extref_hash};
 use std::alloc::Global;
 use unit_plan::{Extref, InodeRef};

@@ -4,15 +4,15 @@ ghost use Rattle.file_items.specs.Names.{root_ref, entry_items};
 ghost use Rattle.file_items.specs.Small.{relocation_items, image_head, image_entries, image_flags};
 
 use crate::directory::new_entry;
+use btr_item_list::btrfs_format::flag::{INODE_NODATASUM, INODE_READONLY};
+use btr_item_list::btrfs_format::key::{DIR_INDEX, DIR_ITEM, INODE_ITEM};
+use btr_item_list::btrfs_format::object::FIRST_FREE_OBJECTID;
+use btr_item_list::vol_block::{DIRECTORY_MODE, IMAGE_MODE};
 use btr_item_list::{ItemList, add_inode, add_ref, inode_made, key_of, put_dir_entry};
-use btrfs_format::flag::{INODE_NODATASUM, INODE_READONLY};
-use btrfs_format::key::{DIR_INDEX, DIR_ITEM, INODE_ITEM};
-use btrfs_format::object::FIRST_FREE_OBJECTID;
-use fs_rows::Kind;
 use reiser_volume::{Memory, name_hash};
+use reiser_volume_objects::fs_rows::Kind;
 use std::alloc::Global;
 use unit_plan::InodeRef;
-use vol_block::{DIRECTORY_MODE, IMAGE_MODE};
 
 /// The name of the image.
 const IMAGE: &[u8] = b"image";

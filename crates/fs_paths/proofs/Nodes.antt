@@ -12,15 +12,6 @@ same_node-true a b is =
 pub same_node-self : (a : NodeId) → same_node a a ≡ true
 same_node-self a = grind (arith, nat_tests)
 
-pub same_node-flip : (a b : NodeId) → same_node a b ≡ same_node b a
-same_node-flip a b = by (same_node a b) (same_node b a) refl refl
-  where
-    by : (x y : Bool) → same_node a b ≡ x → same_node b a ≡ y → x ≡ y
-    by true true one other = refl
-    by false false one other = refl
-    by true false one other = absurd (true≢false (sym (same_node-self b) ∙ (ap (same_node b) (sym (same_node-true a b one)) ∙ other)))
-    by false true one other = absurd (true≢false (sym (same_node-self a) ∙ (ap (same_node a) (sym (same_node-true b a other)) ∙ one)))
-
 -- lists of equal length whose elements are the same, where the test decides that
 pub pointwise-true : {X : Type 0} (E : X → X → Bool) → ((x y : X) → E x y ≡ true → x ≡ y) → (xs ys : List X) → pointwise E xs ys ≡ true → xs ≡ ys
 pointwise-true E same [] [] is = refl

@@ -58,10 +58,6 @@ placed {S} old new all f place has updates is = record { each = λ node. by node
         let now = updates.0 node ∙ ap (λ (b : Bool). cond b (Some place) (get same_node old node)) other in
         subst (λ (o : Option FirstPath). IsFirstPath (all ++ f ∷ []) node o) (sym now) (place_kept all f node (get same_node old node) (has.each node) other)
 
--- no place before the first path
-pub no_places : {S : Type 0} (places : IndexMap NodeId FirstPath S) → places.entries ≡ [] → HasFirstPaths places []
-no_places places empty = record { each = λ node. subst (λ (o : Option FirstPath). IsFirstPath [] node o) (sym (ap (λ (es : List (NodeId × FirstPath)). lookup (same_node node) es) empty)) (refl, refl) }
-
 -- no more paths to it than there are
 pub few_names : (all : List PathFound) (node : NodeId) (bound : ℕ) (o : Option FirstPath) → IsFirstPath all node o → length all < bound → IfSome o (λ p. p.names < bound)
 few_names all node bound None is less = tt
@@ -77,9 +73,3 @@ has_place {S} places all f has among = by (get same_node places f.target) (has.e
         let own : ◌≡◌ {A = ℕ} (cond (finds f.target (get_or all among.0 f)) 1 0) 1 = ap (λ (g : PathFound). cond (finds f.target g) 1 0) among.2 ∙ ap (λ (b : Bool). cond b 1 0) (same_node-self f.target) in
         absurd (omega (arith, part, own, is.1))
     by (Some place) is = refl
-
-pub numbered_is : {S : Type 0} (places : IndexMap NodeId FirstPath S) (all : List PathFound) (f : PathFound) (place : FirstPath) → HasFirstPaths places all → get same_node places f.target ≡ Some place
-    → record { path = f.path; target = f.target; least = place.first; names = place.names } ≡ numbered all f
-numbered_is places all f place has at =
-    let is = subst (λ (o : Option FirstPath). IsFirstPath all f.target o) at (has.each f.target) in
-    λ j. record { path = f.path; target = f.target; least = is.1 j; names = is.2 j }

@@ -144,13 +144,6 @@ module _ (links : List NodeLink) (root : NodeId) where
       all_of (IsReached links root) queue (named_by links dir) all
       (named_all links (IsReached links root) dir (λ link among of. (suc here.0, (link, among, refl, subst (IsReachedBy links root here.0) (sym of) here.1))))
 
-  short : (queue : List NodeId) (i : ℕ) → Queue links root queue i → i ≤ length queue
-  short _ _ start = omega arith
-  short _ _ (step queue i dir before within at) =
-      let tail = all_tail queue (named_by links dir) in
-      let long = ap (λ (l : List NodeId). length l) tail.1 ∙ length-append queue tail.0 in
-      omega (arith, long)
-
   root_in : (queue : List NodeId) (i : ℕ) → Queue links root queue i → in_queue queue root ≡ true
   root_in _ _ start = ap (λ (b : Bool). b || false) (same_node-self root)
   root_in _ _ (step queue i dir before within at) = kept queue (named_by links dir) root (root_in queue i before)

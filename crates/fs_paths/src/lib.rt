@@ -14,6 +14,8 @@ mod path_found;
 mod reach;
 mod spread;
 
+pub use fs_rows;
+pub use fs_rows::vol_block;
 pub use list::paths;
 pub use node::NodeId;
 pub use node_link::{NodeLink, PathTo};

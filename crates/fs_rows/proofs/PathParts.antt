@@ -22,17 +22,6 @@ all_count parts rest cut =
     let count = names_count parts cut.whole in
     omega (arith, long, count)
 
--- one name more in the last names
-pub rest_more : (parts : List Names) (rest : Names) (name : List ℕ) → joined_parts parts (rest ++ name ∷ []) ≡ joined_parts parts rest ++ name ∷ []
-rest_more parts rest name = sym (append_assoc (names_in parts) rest (name ∷ []))
-
--- the last names make a part
-pub part_more : (parts : List Names) (part : Names) → joined_parts (parts ++ part ∷ []) [] ≡ joined_parts parts part
-part_more parts part =
-    append-nil (names_in (parts ++ part ∷ []))
-    ∙ (flat_map-append (λ (p : Names). p) parts (part ∷ [])
-    ∙ ap (λ (l : Names). names_in parts ++ l) (append-nil part))
-
 -- name i stands in part i / 64
 pub name_in_part : (parts : List Names) (rest : Names) (i : ℕ) (part : Names) (name : List ℕ) → IsCut parts rest → i / 64 < length parts
     → part ≡ get_or parts (i / 64) part → name ≡ get_or part (i % 64) name → slice_get (joined_parts parts rest) i ≡ Some name

@@ -1,4 +1,5 @@
 pub use Rattle.sink_text.specs.outside as outside
+pub use Rattle.vol_block.specs as vol_block
 pub mod Bytes
 pub mod Content
 pub mod Held

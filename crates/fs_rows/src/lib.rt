@@ -31,4 +31,5 @@ pub use row::{Kind, Row, Time};
 pub use row_place::RowPlace;
 pub use rows::Rows;
 pub use sink_text::{Access, Disk, Fault, Memory};
+pub use vol_block;
 pub use write::write_rows;

@@ -8,8 +8,8 @@ use crate::opened::{FailedWrite, Opened};
 use crate::told::ToldBlocks;
 use crate::trouble::{Cause, DiskCall, Trouble};
 use crate::{FileIdentity, Signature, Use};
-use btrfs_format::block::SUPER_BLOCK;
 use host_edge_progress::{StatusLine, Task, Watch};
+use outside::btrfs_format::block::SUPER_BLOCK;
 use outside::{Access, Block, BlockNo, BlockSource, Disk, Fault, Format, format_of};
 use std::fs::{File, Files, OpenOptions};
 use std::io::ErrorKind;
@@ -38,7 +38,7 @@ use std::{fs, io};
 ///
 /// Of the blocks that it is told will be read, those of a window of at most 64 MiB are read ahead in ascending order, once the reads reach the
 /// window, so that the system has them in memory when they are asked for. A failure there is none of the disk's: the block is read again where it
-/// is asked for. After one nothing more is read ahead of what was told.
+/// is asked for. After one nothing more is read ahead of what was told. What is read ahead counts for the line on the terminal as it comes in.
 #[derive(Drop)]
 pub struct FileDisk<'a, R: Files<File = File> + AllocGlobal + Clock + Clone + Drop> {
     files: R,
@@ -142,7 +142,8 @@ impl<'a, R: Files<File = File> + AllocGlobal + Clock + Clone + Drop> FileDisk<'a
         }
         let window = self.told.open_window();
         if let Some(opened) = &self.opened {
-            if opened.read_window(&self.told, &window).is_err() {
+            let done = opened.read_window(&self.told, &window, &mut self.watch, &self.files);
+            if done.is_err() {
                 self.told.forget();
             }
         }

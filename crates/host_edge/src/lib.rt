@@ -34,7 +34,7 @@ pub use caches::drop_caches;
 pub use devices::{DeviceNumber, is_held, is_read_only};
 pub use file_disk::FileDisk;
 pub use file_identity::FileIdentity;
-pub use generation::generation_at;
+pub use generation::{csum_type_at, generation_at};
 pub use host_edge_progress::{StatusLine, Task};
 pub use in_use::{Use, is_told};
 pub use line_sink::LineSink;

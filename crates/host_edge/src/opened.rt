@@ -2,11 +2,13 @@ ghost use Rattle.std.specs.Prelude.{◌≡◌, ◌≤◌, ◌<◌, ◌*◌, ◌^
 
 use crate::told::{BlockRun, RUN, ToldBlocks, Window};
 use crate::trouble::Cause;
+use host_edge_progress::Watch;
 use outside::{Access, Block, BlockNo};
 use std::fs::File;
 use std::io;
 use std::io::{ErrorKind, Seek, SeekFrom};
 use std::os::unix::fs::FileExt;
+use std::time::Clock;
 
 const BLOCK_BYTES: u64 = 4096;
 
@@ -60,24 +62,37 @@ impl Opened {
         Ok(())
     }
 
-    /// Reads blocks that follow one another, for the system to keep them in memory.
-    pub fn read_run(&self, run: &BlockRun, room: &mut [u8]) -> io::Result<()>
+    /// Reads blocks that follow one another, for the system to keep them in memory, and has them watched.
+    pub fn read_run<R: Clock + AllocGlobal>(
+        &self,
+        run: &BlockRun,
+        room: &mut [u8],
+        watch: &mut Watch<'_>,
+        rt: &R,
+    ) -> io::Result<()>
         requires inside { run.now.first < self.now.blocks }
         requires room { 4096 * run.now.count ≤ length room.old }
     {
-        match self
-            .file
-            .read_at(&mut room[..4096 * run.count], run.first * BLOCK_BYTES)
-        {
+        let part = &mut room[..4096 * run.count];
+        match self.file.read_at(part, run.first * BLOCK_BYTES) {
             Ok(0) => Err(io::Error::from(ErrorKind::UnexpectedEof)),
-            Ok(_) => Ok(()),
+            Ok(count) => {
+                watch.reads_ahead(&part[..count], rt);
+                Ok(())
+            }
             Err(e) => Err(e),
         }
     }
 
-    /// Reads the blocks of a window, for the system to keep them in memory. Those that the file has not come last, and
-    /// are left out.
-    pub fn read_window(&self, told: &ToldBlocks, window: &Window) -> io::Result<()>
+    /// Reads the blocks of a window, for the system to keep them in memory, and has them watched. Those that the file has not
+    /// come last, and are left out.
+    pub fn read_window<R: Clock + AllocGlobal>(
+        &self,
+        told: &ToldBlocks,
+        window: &Window,
+        watch: &mut Watch<'_>,
+        rt: &R,
+    ) -> io::Result<()>
         requires order { window.now.start ≤ window.now.end }
         requires within { window.now.end ≤ length told.now.blocks.items }
     {
@@ -88,7 +103,7 @@ impl Opened {
             if run.first >= self.blocks {
                 return Ok(());
             }
-            self.read_run(&run, &mut room)?;
+            self.read_run(&run, &mut room, watch, rt)?;
             at += run.count;
         }
         Ok(())

@@ -25,6 +25,8 @@ pub struct Census {
     round: Round,
     /// The key of the last leaf.
     last: u128,
+    /// How many leaves were counted as they were read ahead, and are still to be asked for.
+    ahead: u64,
     /// What is accounted for in this round.
     done: u64,
 }
@@ -38,6 +40,7 @@ impl Census {
             front: 0,
             round: Round::First,
             last: 0,
+            ahead: 0,
             done: 0,
         }
     }
@@ -57,17 +60,41 @@ impl Census {
                 if leaf.key < self.last && self.round == Round::First {
                     self.round = Round::Second;
                     self.last = 0;
+                    self.ahead = 0;
                     self.done = self.front;
                 }
                 if leaf.key > self.last {
                     self.last = leaf.key;
-                    self.count(1);
-                    if self.round == Round::First || !with_files {
-                        self.count(leaf.pointers);
-                    }
+                    self.asks_for(&leaf, with_files);
                 }
             }
             None => self.count(1),
+        }
+    }
+
+    /// Takes in a block that is read ahead of the command. What matters is a leaf in the first round: it is counted now, and no more where the
+    /// command asks for it. What stands before the tree is looked through by then, whether all of it was read or not.
+    pub fn reads_ahead(&mut self, block: &Block) {
+        if self.round == Round::First {
+            if let Some(leaf) = Leaf::of(block) {
+                self.count(self.volume.front.saturating_sub(self.front));
+                self.front = self.volume.front;
+                self.ahead = self.ahead.saturating_add(1);
+                self.count(1);
+                self.count(leaf.pointers);
+            }
+        }
+    }
+
+    /// Counts a leaf that the command asks for, unless it was counted as it was read ahead.
+    fn asks_for(&mut self, leaf: &Leaf, with_files: bool) {
+        if self.ahead > 0 {
+            self.ahead = self.ahead.saturating_sub(1);
+            return;
+        }
+        self.count(1);
+        if self.round == Round::First || !with_files {
+            self.count(leaf.pointers);
         }
     }
 

@@ -1,6 +1,6 @@
 // How much of a volume is in use, as the block of its superblock tells.
 use outside::{Block, Format, format_of, u32_at, u64_at};
-use reiserfs_format::block::BITS_IN_BLOCK;
+use reiser_node::reiserfs_format::block::BITS_IN_BLOCK;
 
 /// The bytes of a block.
 const BLOCK_BYTES: u64 = 4096;

@@ -4,7 +4,7 @@ use crate::stage_line::stage_text;
 use crate::status_line::StatusLine;
 use crate::steps::{Stage, Step, Task};
 use crate::volume_use::VolumeUse;
-use btrfs_format::block::SUPER_BLOCK;
+use outside::btrfs_format::block::SUPER_BLOCK;
 use outside::{Block, BlockNo, Format, format_of};
 use std::alloc::Global;
 use std::time::{Clock, Duration, Instant};
@@ -84,6 +84,22 @@ impl<'a> Watch<'a> {
         }
     }
 
+    /// Blocks are read ahead of the command, which stand one behind the other in these bytes. Where anybody sees the line, they are counted as far as
+    /// they tell how far the command is, and it is looked whether it is time to tell.
+    pub fn reads_ahead<R: Clock + AllocGlobal>(&mut self, bytes: &[u8], rt: &R) {
+        if self.began.is_none() {
+            return;
+        }
+        if let Some(census) = &mut self.census {
+            let mut block = Block::zero();
+            for part in bytes.chunks_exact(4096) {
+                block.bytes.copy_from_slice(part);
+                census.reads_ahead(&block);
+            }
+        }
+        self.look_now(rt);
+    }
+
     fn look_for_volume(&mut self, n: BlockNo, block: &Block) {
         let is_first = n == SUPER_BLOCK && self.volume.is_none();
         if !is_first && (self.task != Task::Rollback || self.volume.is_none()) {
@@ -137,11 +153,16 @@ impl<'a> Watch<'a> {
 
     /// Looks whether it is time to tell how far it is.
     pub fn look<R: Clock + AllocGlobal>(&mut self, rt: &R) {
+        if self.blocks() % CALLS == 0 {
+            self.look_now(rt);
+        }
+    }
+
+    /// The same by the clock, whatever the number of calls.
+    fn look_now<R: Clock + AllocGlobal>(&mut self, rt: &R) {
         if let Some(began) = self.began {
-            if self.blocks() % CALLS == 0 {
-                if let Ok(time) = began.elapsed(rt) {
-                    self.tell(rt.alloc(), millis(time));
-                }
+            if let Ok(time) = began.elapsed(rt) {
+                self.tell(rt.alloc(), millis(time));
             }
         }
     }

@@ -146,3 +146,33 @@ fn files_that_are_read_are_not_counted_twice(rt: HostRuntime) {
         ],
     );
 }
+
+/// Of two blocks before the tree one is read. Then two leaves are read ahead, the last one first, and with them an inner node. They count then, and so
+/// does the other block before them; they count no more when they are asked for, but they do in the second round.
+#[test]
+fn what_is_read_ahead_counts_at_once_and_once(rt: HostRuntime) {
+    let mut census = Census::new(
+        16,
+        VolumeUse {
+            used: 100,
+            journal: 1,
+            front: 2,
+        },
+    );
+    let (first, last) = (leaf(7, 1, &[3, 4]), leaf(7, 9, &[5]));
+    census.reads(17, &Block::zero(), false);
+    for (block, done) in [(&last, 4), (&first, 7), (&Block::zero(), 7)] {
+        census.reads_ahead(block);
+        assert_eq!(rt; census.done(), done);
+    }
+    for (block, round, done) in [
+        (&first, Round::First, 7),
+        (&last, Round::First, 7),
+        (&first, Round::Second, 5),
+        (&last, Round::Second, 7),
+    ] {
+        census.reads(40, block, false);
+        assert!(rt; census.round() == round);
+        assert_eq!(rt; census.done(), done);
+    }
+}

@@ -90,17 +90,6 @@ module _ (old new : Image) (n : ℕ) (others : (m : ℕ) → m ≢ n → block_a
         (cases_eq m n)
 
   module _ (kept : List (ℕ × Block)) (are : AreOf old kept) where
-    -- block n is not kept
-    pub none_of : is_some (lookup (nat_eq n) kept) ≡ false → AreOf new kept
-    none_of none m block found = ⊎_elim
-        (λ same. absurd (not_some (lookup (nat_eq n) kept) block none (ap (λ (k : ℕ). lookup (nat_eq k) kept) (sym same) ∙ found)))
-        (λ other. are m block found ∙ sym (others m other))
-        (cases_eq m n)
-      where
-        not_some : (o : Option Block) (x : Block) → is_some o ≡ false → o ≡ Some x → ⊥
-        not_some None x none some = cc
-        not_some (Some y) x none some = cc
-
     -- block n is dropped
     pub dropped_of : IsDistinct nat_eq (keys_of kept) → AreOf new (remove_entry (nat_eq n) kept)
     dropped_of distinct m block found = ⊎_elim

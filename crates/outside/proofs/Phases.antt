@@ -18,10 +18,6 @@ pub sync_reads : {T E : Type 0} (old new : History) (result : Result T E) → Sy
 sync_reads old new (Ok x) did = ap reads did
 sync_reads old new (Err e) same = ap reads same
 
-pub sync_settles : {T E : Type 0} (old new : History) (result : Result T E) → Syncs old result new → OnOk result (IsSettled new)
-sync_settles old new (Ok x) did = subst IsSettled (sym did) (λ b bytes waits. waits)
-sync_settles old new (Err e) same = tt
-
 -- a block that was written stands there
 pub set_stands : {T E : Type 0} (result : Result T E) (old new : Image) (n : ℕ) (bytes : List ℕ) → n < length old → OnOk result (new ≡ set old n bytes) → OnOk result (block_at new n ≡ bytes)
 set_stands (Ok x) old new n bytes fits is = ap (λ (image : Image). block_at image n) is ∙ get_or-set_same old n bytes [] fits

@@ -16,16 +16,6 @@ module _ {X : Type 0} (at : X → ℕ) (bytes : X → List ℕ) (xs : List X) wh
   pub has_place : (i : ℕ) (d : X) → i < length xs → IsPlaceOf (at (get_or xs i d))
   has_place i d inside = (i, get_or xs i d, inside, get_or_default xs i (get_or xs i d) d inside, refl)
 
-  -- what was written, with one more
-  pub only_more : (i : ℕ) (d : X) (start old new : History) {T E : Type 0} (result : Result T E) → i < length xs
-      → WritesOnly (λ b _. IsPlaceOf b) start old → WritesBlock old (at (get_or xs i d)) (bytes (get_or xs i d)) result new → WritesOnly (λ b _. IsPlaceOf b) start new
-  only_more i d start old new result inside before effect =
-      writes_then (λ b _. IsPlaceOf b) start old new before (write_only (λ b _. IsPlaceOf b) old new (at (get_or xs i d)) (bytes (get_or xs i d)) result (has_place i d inside) effect)
-
-  -- and with the sync behind them
-  pub only_synced : (start old new : History) {T E : Type 0} (result : Result T E) → WritesOnly (λ b _. IsPlaceOf b) start old → Syncs old result new → WritesOnly (λ b _. IsPlaceOf b) start new
-  only_synced start old new result before effect = writes_then (λ b _. IsPlaceOf b) start old new before (sync_only (λ b _. IsPlaceOf b) old new result effect)
-
   module _ (i : ℕ) (d : X) (image : Image) (inside : i < length xs) (apart : AllPairs (λ p q. at p ≢ at q) xs) where
     abbrev here : X
     here = get_or xs i d

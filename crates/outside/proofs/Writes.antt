@@ -4,10 +4,6 @@ use Rattle.outside.specs.Writes.{View, Writes}
 use Rattle.outside.proofs.Crash.{writes_none, writes_then, writes_weaker, write_only, sync_only}
 
 module _ {D : Type 0} {d : View D} where
-  -- nothing was written
-  pub no_writes : {P : ℕ → List ℕ → Type 0} (a : D) → Writes d P a a
-  no_writes {P} a = record { opened = refl; size = refl; borrow = refl; only = λ tells. writes_none P (d.history a) }
-
   -- one part, and then another
   pub then_writes : {P : ℕ → List ℕ → Type 0} {a b c : D} → Writes d P a b → Writes d P b c → Writes d P a c
   then_writes {P} {a} {b} {c} first second = record {
@@ -25,10 +21,6 @@ module _ {D : Type 0} {d : View D} where
     borrow = part.borrow;
     only = λ tells. writes_weaker P Q turn (d.history a) (d.history b) (part.only tells);
   }
-
-  -- the same, known of the writes as a whole
-  pub turned_writes : {P Q : ℕ → List ℕ → Type 0} {a b : D} → (WritesOnly P (d.history a) (d.history b) → WritesOnly Q (d.history a) (d.history b)) → Writes d P a b → Writes d Q a b
-  turned_writes turn part = record { opened = part.opened; size = part.size; borrow = part.borrow; only = λ tells. turn (part.only tells) }
 
   -- one write that has P, by the clauses of `write`
   pub one_write : {P : ℕ → List ℕ → Type 0} {a b : D} (n : ℕ) (bytes : List ℕ) {T E : Type 0} (result : Result T E) → P n bytes

@@ -1,6 +1,6 @@
 -- The format of a disk.
 use Rattle.std.specs.Prelude.{length, nat_le, if◌then◌else◌}
-use Rattle.btrfs_format.specs.declared.block.TheConstants.{SUPER_BLOCK}
+use Rattle.vol_block.specs.btrfs_format.declared.block.TheConstants.{SUPER_BLOCK}
 use Rattle.vol_block.specs.declared.format.Format.{Format}
 use Rattle.vol_block.specs.declared.format.Format.TheVariants.{Neither}
 use Rattle.vol_block.specs.Format.{format}

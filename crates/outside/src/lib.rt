@@ -24,9 +24,10 @@ pub use laws::{
 pub use list::CopyList;
 pub use sink::Sink;
 pub use source::BlockSource;
+pub use vol_block;
 pub use vol_block::{
-    Block, BlockNo, Field, Format, Ids, array_at, format_of, has_magic, has_reiser_magic,
-    is_reserved, put_fields, put_u64, u16_at, u32_at, u64_at, usable_end,
+    Block, BlockNo, Field, Format, Ids, array_at, btrfs_format, format_of, has_magic,
+    has_reiser_magic, is_reserved, put_fields, put_u64, u16_at, u32_at, u64_at, usable_end,
 };
 
 #[cfg(test)]

@@ -16,6 +16,8 @@ pub use Rattle.std.specs.Ordering.{is_eq, nat_cmp}
 pub use Rattle.std.specs.Prelude.{All}
 pub use Rattle.outside.proofs.Crash.{length-reads_from, whole_may}
 pub use Rattle.outside.specs.History.{Call, EachWrite, History, Image, IsTorn, MayLeave, Waits, after, block_at, reads, reads_from, sector, synced, synced_from, wrote}
+pub use Rattle.outside.specs.vol_block.Volume.{zeros}
+pub use Rattle.outside.specs.vol_block.declared.block.Block.{Block}
 pub use Rattle.outside_mem.specs.Choice.{HasWholeBlocks, IsLeftWhole, by_number, choice_for, crash_image, is_waiting, number_for, numbers_for, torn_by, torn_image, values, waiting_blocks, written}
 unfoldable pub use Rattle.outside_mem.specs.Choice.{sectors_of}
 pub use Rattle.outside_mem.specs.Disk.{State, after_refusal, after_sync, after_write, fresh}
@@ -25,5 +27,3 @@ pub use Rattle.outside_mem.specs.Laws.{readable, readable_len}
 pub use Rattle.outside_mem.specs.Store.{IsConsistent, bytes_at, bytes_or, chosen_or, has_key, image_of, made_or, torn_or, undone_at}
 pub use Rattle.outside_mem.specs.declared.store.Done.{Done}
 pub use Rattle.outside_mem.specs.declared.store.Done.TheVariants.{Synced, Wrote}
-pub use Rattle.vol_block.specs.Volume.{zeros}
-pub use Rattle.vol_block.specs.declared.block.Block.{Block}

@@ -33,10 +33,6 @@ above_from_less n (k ∷ ks) all = (lt_from_less n k all.0, above_from_less n ks
 pub head_below : (k : ℕ) (ks : List ℕ) → IsStrictlySortedBy nat_cmp (k ∷ ks) → AllAbove k ks
 head_below k ks ordered = above_from_less k ks (sorted_head nat_cmp k ks ordered)
 
-pub above_lower : (m n : ℕ) → m ≤ n → (ks : List ℕ) → AllAbove n ks → AllAbove m ks
-above_lower m n le [] all = tt
-above_lower m n le (k ∷ ks) all = (omega (arith, le, all.0), above_lower m n le ks all.1)
-
 -- what a test adds to a count
 abbrev tally : Bool → ℕ
 tally t = cond t 1 0
@@ -145,9 +141,6 @@ module _ (w : ℕ → Bool) (n : ℕ) where
   passing_below = All-filter w (λ q. q < n) (range_with_len 0 n) (λ k d below.
       let within : k < n = omega (arith, below, length-range_with_len 0 n) in
       omega (arith, within, get_or-range_with_len 0 n k d within))
-
-  pub passing_pass : All (λ q. w q ≡ true) passing
-  passing_pass = filter_passes w (range_with_len 0 n)
 
 -- a number that passes has a place among them
 pub passing_place : (w : ℕ → Bool) (m a q : ℕ) → a ≤ q → q < a + m → w q ≡ true → (j : ℕ) × (j < length (filter w (range_with_len a m))) × (get_or (filter w (range_with_len a m)) j 0 ≡ q)

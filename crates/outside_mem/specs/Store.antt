@@ -3,8 +3,8 @@ use Rattle.std.specs.Prelude.{◌≡◌, ℕ, ◌<◌, Bool, true, List, ◌∷�
 use Rattle.std.specs.Ordering.{nat_cmp}
 use Rattle.std.specs.BTreeMap.{BTreeMap, get}
 use Rattle.std.specs.List.{range_with_len}
-use Rattle.vol_block.specs.declared.block.Block.{Block}
-use Rattle.vol_block.specs.Volume.{zeros}
+use Rattle.outside.specs.vol_block.declared.block.Block.{Block}
+use Rattle.outside.specs.vol_block.Volume.{zeros}
 use Rattle.outside.specs.History.{Call, reads_from, synced_from}
 use Rattle.outside_mem.specs.Choice.{HasWholeBlocks, by_number, is_waiting, torn_by}
 

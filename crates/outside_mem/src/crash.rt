@@ -9,8 +9,8 @@ ghost use Rattle.outside_mem.specs.Store.{bytes_at, chosen_or, torn_or};
 
 use crate::store::Done;
 use outside::Memory;
+use outside::vol_block::{Block, BlockNo};
 use std::collections::BTreeMap;
-use vol_block::{Block, BlockNo};
 
 /// Gives the blocks of the undo map, in order, each one of its values by the number that the choice has for it.
 pub fn choose(

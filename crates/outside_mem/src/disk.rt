@@ -1,7 +1,7 @@
 ghost use Rattle.std.specs.Prelude.{◌≡◌, ◌<◌, ℕ, [], List, Some, None, true, false, is_err, length, replicate, IsTrue, IfOk, OnOk, OnErr};
 ghost use Rattle.outside.specs.Fault.{HasCause};
 ghost use Rattle.outside.specs.History.{block_at, reads, WritesBlock, Syncs, MayLeave};
-ghost use Rattle.vol_block.specs.Volume.{zeros};
+ghost use Rattle.outside.specs.vol_block.Volume.{zeros};
 ghost use Rattle.outside_mem.specs.Choice.{HasWholeBlocks, crash_image, torn_image};
 ghost use Rattle.outside_mem.specs.Disk.{State, Kept, Fails, fresh, after_call, after_read, after_failure, after_write, after_sync};
 ghost use Rattle.outside_mem.specs.Done.{calls_of, with_block};
@@ -13,11 +13,11 @@ ghost use Rattle.std.proofs.Common.{refl, ap};
 use crate::crash::{SectorNumbers, choose, choose_torn};
 use crate::schedule::Schedule;
 use crate::store::{Done, block_of, put_recorded, reset};
+use outside::vol_block::{Block, BlockNo};
 use outside::{Access, BlockSource, Disk, Fault, Memory};
 use std::alloc::Global;
 use std::collections::BTreeMap;
 use std::marker::Model;
-use vol_block::{Block, BlockNo};
 
 /// A disk in memory, kept sparsely, with the record of what was done to it.
 ///

@@ -4,8 +4,8 @@ ghost use Rattle.outside_mem.specs.Done.{is_not_write};
 ghost use Rattle.outside_mem.specs.Store.{bytes_at, undone_at, has_key};
 
 use outside::Memory;
+use outside::vol_block::{Block, BlockNo};
 use std::collections::BTreeMap;
-use vol_block::{Block, BlockNo};
 
 /// A block that stands in no map is zeros.
 pub fn block_of(blocks: &BTreeMap<u64, Block>, n: BlockNo) -> Block

@@ -1,2 +1,1 @@
 pub use Rattle.outside.proofs as outside
-pub use Rattle.outside.proofs.vol_block as vol_block

@@ -11,7 +11,7 @@ pub use answer::{BtrAnswer, VolAnswer};
 pub use outside::{
     Access, Block, BlockNo, BlockSource, Cached, CopyList, Disk, Fault, Field, Format, Ids, Memory,
     Room, Sink, array_at, format_of, has_magic, has_reiser_magic, is_reserved, put_fields, put_u64,
-    u16_at, u32_at, u64_at, usable_end,
+    u16_at, u32_at, u64_at, usable_end, vol_block,
 };
 pub use refusal::{BtrRefusal, VolumeRefusal};
 pub use rule::{BtrRule, Feature, Rule};

@@ -84,7 +84,3 @@ tail-set n bytes b x h room is tail i past =
     let inside : b / 8 < length bytes = omega arith in
     let apart : i ≢ b = λ e. absurd (omega (arith, e)) in
     bit_after bytes b x i inside is apart ∙ tail i past
-
--- bytes of zeros have no bit
-pub tail-zeros : (n m : ℕ) (i : ℕ) → n ≤ i → bit_of (replicate m 0) i ≡ false
-tail-zeros n m i past = no_bit m i

@@ -64,12 +64,6 @@ ones_are_bits bytes at ones i h =
     let byte : slice_index bytes ((8 * at + i) / 8) ≡ 255 = ap (slice_index bytes) place ∙ ones (i / 8) (omega arith) in
     rw (byte, all_ones ((8 * at + i) % 8) (omega arith)) refl
 
-pub zeros_are_bits : (bytes : List ℕ) (at : ℕ) → ((i : ℕ) → i < 8 → slice_index bytes (at + i) ≡ 0) → (i : ℕ) → i < 64 → is_bit bytes false (8 * at + i) ≡ true
-zeros_are_bits bytes at zeros i h =
-    let place : (8 * at + i) / 8 ≡ at + i / 8 = omega arith in
-    let byte : slice_index bytes ((8 * at + i) / 8) ≡ 0 = ap (slice_index bytes) place ∙ zeros (i / 8) (omega arith) in
-    rw (byte, bit_at-zero ((8 * at + i) % 8)) refl
-
 -- one bit more, or 64
 pub bits_more : (p : ℕ → Bool) (from b n : ℕ) → ((k : ℕ) → from ≤ k → k < b → p k ≡ true) → ((i : ℕ) → i < n → p (b + i) ≡ true) → (k : ℕ) → from ≤ k → k < b + n → p k ≡ true
 bits_more p from b n before more k low high =

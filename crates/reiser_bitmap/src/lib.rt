@@ -24,6 +24,7 @@ pub use layout::{bitmap_block, is_system};
 pub use refusals::{
     Access, Block, BlockNo, BlockSource, BtrAnswer, BtrRefusal, BtrRule, Cached, CopyList, Disk,
     Fault, Format, Ids, Memory, Room, Rule, Sink, VolAnswer, VolumeRefusal, format_of, has_magic,
-    is_reserved, usable_end,
+    is_reserved, usable_end, vol_block,
 };
+pub use reiserfs_format;
 pub use runs::{Run, Runs};

@@ -1,7 +1,7 @@
 -- The grammar of entries and its test, and where names lie.
 use Rattle.reiser_items.proofs.Imports.{ℕ, zero, suc, ◌*◌, ◌≤◌, ◌<◌, List, length, refl, arith, Decides-and, Decides-below_and, Decides-ltb, Decides-not, Decides-like, AreEntries, IsEntry, location, area_end, is_entry, are_entries}
 use Rattle.std.specs.Bool.{Decides}
-use Rattle.reiserfs_format.specs.declared.size.TheConstants.{DEH_SIZE}
+use Rattle.reiser_node.specs.reiserfs_format.declared.size.TheConstants.{DEH_SIZE}
 use Rattle.reiser_node.specs.Leaf.{each_below}
 
 pub area_within : (count : ℕ) (body : List ℕ) → AreEntries count body → (i : ℕ) → i ≤ count → area_end body i ≤ length body

@@ -2,7 +2,7 @@
 -- 16 bytes, and names packed from the end of the body backwards.
 use Rattle.std.specs.Prelude.{ℕ, zero, suc, ◌+◌, ◌*◌, ◌/◌, ◌%◌, ◌≤◌, ◌<◌, ◌==◌, nat_lt, Bool, not, ◌&&◌, List, [], ◌∷◌, length, slice_range}
 use Rattle.std.specs.List.{take_while}
-use Rattle.reiserfs_format.specs.declared.size.TheConstants.{DEH_SIZE}
+use Rattle.reiser_node.specs.reiserfs_format.declared.size.TheConstants.{DEH_SIZE}
 use Rattle.reiser_node.specs.vol_block.Volume.{field}
 use Rattle.reiser_node.specs.Leaf.{each_below}
 use Rattle.reiser_items.specs.declared.entries.Entry.{Entry}

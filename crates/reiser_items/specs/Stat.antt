@@ -1,6 +1,6 @@
 -- Stat data, as ReiserFS has it (struct stat_data and struct stat_data_v1 of Linux's fs/reiserfs/reiserfs.h).
 use Rattle.std.specs.Prelude.{ℕ, Bool, ◌==◌, List, length, Option, Some, None, if◌then◌else◌}
-use Rattle.reiserfs_format.specs.declared.size.TheConstants.{SD_SIZE, SD_V1_SIZE}
+use Rattle.reiser_node.specs.reiserfs_format.declared.size.TheConstants.{SD_SIZE, SD_V1_SIZE}
 use Rattle.reiser_node.specs.vol_block.Volume.{field}
 use Rattle.reiser_items.specs.declared.stat.StatData.{StatData}
 

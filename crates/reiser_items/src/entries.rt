@@ -1,8 +1,8 @@
 ghost use Rattle.std.specs.Prelude.{◌≡◌, ◌<◌, ◌≤◌, ◌+◌, ◌*◌, ◌↔◌, length, Some, IsSome, IfSome, IsTrue, is_some, slice_get};
 ghost use Rattle.reiser_items.specs.Entries.{AreEntries, entry_value, entry_at, entries, are_entries, location, area_end, name_area, until_zero};
 
+use reiser_node::reiserfs_format::size::DEH_SIZE;
 use reiser_node::{u16_at, u32_at};
-use reiserfs_format::size::DEH_SIZE;
 use std::marker::Model;
 
 /// The bit of an entry's state that says whether it is visible, DEH_Visible of the kernel's reiserfs.h.

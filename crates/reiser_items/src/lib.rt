@@ -14,7 +14,7 @@ pub use entries::{Entries, Entry};
 pub use order::key_order;
 pub use pointers::Pointers;
 pub use reiser_node::{
-    Block, BlockNo, Field, InnerView, ItemHead, ItemKind, LeafView, put_fields, put_u32, u16_at,
-    u32_at,
+    Block, BlockNo, Field, InnerView, ItemHead, ItemKind, LeafView, put_fields, put_u32,
+    reiserfs_format, u16_at, u32_at, vol_block,
 };
 pub use stat::StatData;

@@ -71,16 +71,3 @@ grows_more number i state names stored content lt before is small few =
       whole = ap (λ n. n + stored_blocks content) before.whole ∙ sym (ap stored_in more ∙ sum_by-append stored_blocks (contents_of names) (content ∷ []) ∙ omega arith);
       most = omega (arith, before.most);
     }
-
-pub grown : (number state : ℕ) (names : List Named) (stored : ℕ) → number ≤ 4000 → Grows number number state names stored → HoldsSample names stored
-grown number state names stored few g = record {
-  few = omega (arith, g.long);
-  small = g.small;
-  firsts = λ j d lt. g.firsts j d (omega (arith, g.long));
-  whole = g.whole;
-  most = omega (arith, g.most);
-}
-
-pub grown_is : (number i state : ℕ) (names : List Named) (stored : ℕ) → number ≤ i → Grows number i state names stored → contents_of names ≡ contents number
-grown_is number i state names stored end g =
-    sym (append-nil (contents_of names)) ∙ sym (ap (λ n. contents_of names ++ contents_from n i state) (let none : number - i ≡ 0 = omega arith in none)) ∙ g.left

@@ -12,6 +12,7 @@ pub use Rattle.fs_rows.proofs.outside.Crash.{write_only, writes_none, writes_the
 pub use Rattle.fs_rows.specs.outside.History.{History, Image, WritesBlock, WritesOnly, after, reads, wrote}
 pub use Rattle.reiser_items.specs.Entries.{EntryValue}
 pub use Rattle.reiser_items.specs.reiser_node.declared.head.ItemHead.{ItemHead}
+pub use Rattle.reiser_items.specs.reiserfs_format.declared.block.TheConstants.{BITS_IN_BLOCK}
 pub use Rattle.reiser_make.specs.Bitmap.{byte_of, is_marked}
 unfoldable pub use Rattle.reiser_make.specs.Bitmap.{marks}
 pub use Rattle.reiser_make.specs.Directory.{AreShortNames, directory_entry, entries_length, entry, entry_head, entry_heads, entry_names, file_entry, padded, with_dots}
@@ -41,4 +42,3 @@ pub use Rattle.reiser_make.specs.declared.level.Level.{Level}
 pub use Rattle.reiser_make.specs.declared.object.ObjectId.{ObjectId}
 pub use Rattle.reiser_make.specs.declared.sample_entry.SampleEntry.{SampleEntry}
 pub use Rattle.reiser_make.specs.declared.sample_item.SampleItem.{SampleItem}
-pub use Rattle.reiserfs_format.specs.declared.block.TheConstants.{BITS_IN_BLOCK}

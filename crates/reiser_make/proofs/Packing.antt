@@ -5,14 +5,6 @@ use Rattle.std.proofs.lemmas.List.{length-take}
 abbrev pub leaf_as : ItemHead → ℕ → ℕ → ItemPlace → Packed
 leaf_as first count used end = record { first = first; count = count; used = used; end = end }
 
-pub packing_first : (s : Shape) (all : List SampleItem) (item : SampleItem) (end : ItemPlace) → all ≡ item ∷ items_behind s end
-    → MayPackMore s all (leaf_as item.head 1 (taken_by item) end)
-packing_first s all item end is =
-    let whole : List SampleItem = item ∷ items_behind s end in
-    subst (λ (z : List SampleItem). MayPackMore s z (leaf_as item.head 1 (taken_by item) end)) (sym is)
-    (let has : HasFirst s whole (leaf_as item.head 1 (taken_by item) end) = record { some = omega arith; count = omega arith; end = refl; first = refl; used = omega arith } in
-    (has, refl))
-
 -- a list whose rest begins with an item
 pub take_one_more : {X : Type 0} (all : List X) (n : ℕ) (item : X) (more : List X) → n ≤ length all → drop n all ≡ item ∷ more → take (n + 1) all ≡ take n all ++ item ∷ []
 take_one_more all n item more within is =
@@ -55,16 +47,3 @@ module _ (s : Shape) (all : List SampleItem) (first : ItemHead) (count used : �
         ∙ ap (λ n. packed_behind (take count all ++ item ∷ []) n (items_behind s ahead)) room
         ∙ ap (λ z. packed_behind z (node_room - (used + taken_by item)) (items_behind s ahead)) (sym more) in
         (has, leaves)
-
-    pub packing_full : node_room - used < taken_by item → BeginsLeaves s all old
-    packing_full full =
-        let past : nat_le (taken_by item) (node_room - used) ≡ false = grind (arith, nat_tests) in (
-          packing.0,
-          packing.1 ∙ ap (packed_behind (take count all) (node_room - used)) next
-              ∙ ap (λ b. cond b (packed_behind (take count all ++ item ∷ []) (node_room - used - taken_by item) (items_behind s ahead)) (take count all ∷ packed_behind (item ∷ []) (node_room - taken_by item) (items_behind s ahead))) past
-              ∙ ap (λ z. take count all ∷ leaves_of z) (sym next),
-        )
-
-pub packing_end : (s : Shape) (all : List SampleItem) (leaf : Packed) → MayPackMore s all leaf → items_behind s leaf.end ≡ [] → BeginsLeaves s all leaf
-packing_end s all leaf packing none =
-    (packing.0, packing.1 ∙ ap (packed_behind (take leaf.count all) (node_room - leaf.used)) none ∙ ap (λ z. take leaf.count all ∷ leaves_of z) (sym none))

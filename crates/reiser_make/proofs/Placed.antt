@@ -85,13 +85,6 @@ node_at s number level m b is is-level low high lt =
     let at : b ≡ node_place s level m = is ∙ ap (λ n. node_place s n m) is-level in
     (at, subst (λ (n : ℕ). n < needed s) (sym at) (node_below s level m low high lt))
 
--- the stored blocks of one name are among all
-pub stored_within : (names : List SampleEntry) (i : ℕ) (d : SampleEntry) → i < length names → stored_before names i + stored_blocks (get_or names i d) ≤ stored_in names
-stored_within names i d lt =
-    let more : stored_before names (i + 1) ≡ stored_before names i + stored_blocks (get_or names i d) =
-    ap (sum_by stored_blocks) (take_more names i d lt) ∙ sum_by-append stored_blocks (take i names) (get_or names i d ∷ []) ∙ omega arith in
-    omega (arith, more, sum_by-take-le stored_blocks names (i + 1))
-
 -- nodes above a level: where node m goes
 pub level_at : (s : Shape) (count number m b : ℕ) (level : Level) → count ≡ length (leaves s) → level ≡ level_of count (number + 1) → number < root_level count
     → b ≡ node_place s level.number m → m < level.nodes → (b ≡ node_place s (number + 1) m) × (b < needed s)

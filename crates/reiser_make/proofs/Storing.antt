@@ -11,13 +11,6 @@ lengths items = sum_by (λ (i : SampleItem). i.head.length) items
 abbrev head_as : ℕ → ℕ → ℕ → ItemKind → Bool → ℕ → ℕ → ItemHead
 head_as dir object offset kind old count length = record { dir = dir; object = object; offset = offset; kind = kind; old = old; count = count; length = length }
 
-key_sized : (dir object offset : ℕ) (kind : ItemKind) (old : Bool) (count len : ℕ) → length (key_bytes (head_as dir object offset kind old count len)) ≡ 16
-key_sized dir object offset kind true count len = refl
-key_sized dir object offset kind false count len = refl
-
-pub key_size : (head : ItemHead) → length (key_bytes head) ≡ 16
-key_size head = key_sized head.dir head.object head.offset head.kind head.old head.count head.length
-
 head_sized : (dir object offset : ℕ) (kind : ItemKind) (old : Bool) (count len location : ℕ) → length (head_bytes (head_as dir object offset kind old count len) location) ≡ 24
 head_sized dir object offset kind true count len location = refl
 head_sized dir object offset kind false count len location = refl
@@ -125,6 +118,3 @@ pub next_fits : (s : Shape) (all : List SampleItem) (i count : ℕ) (at : ItemPl
     → NextFits (items_behind s at) i low
 next_fits s all i count at low old has lt within fits =
     subst (λ z. NextFits z i low) (sym has.left) (fits_next all i count low (drop i all) refl lt within fits has.room)
-
-pub low_within : (s : Shape) (all : List SampleItem) (i : ℕ) (at : ItemPlace) (low : ℕ) (old : List ℕ) → i ≤ length all → HasPutItems s all i at low old → low ≤ 4072
-low_within s all i at low old lt has = omega (arith, has.room, taken_parts (take i all), length-take i all)

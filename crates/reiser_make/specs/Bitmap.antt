@@ -1,7 +1,7 @@
 -- Bitmap blocks: a bit for each of 32768 blocks, the low bit of a byte first.
 use Rattle.std.specs.Prelude.{ℕ, ◌+◌, ◌*◌, nat_le, Bool, ◌||◌, List, map, if◌then◌else◌}
 use Rattle.std.specs.List.{range_with_len}
-use Rattle.reiserfs_format.specs.declared.block.TheConstants.{BITS_IN_BLOCK}
+use Rattle.reiser_items.specs.reiserfs_format.declared.block.TheConstants.{BITS_IN_BLOCK}
 use Rattle.reiser_make.specs.Places.{is_taken}
 
 abbrev pub bit : Bool → ℕ

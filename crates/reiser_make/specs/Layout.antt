@@ -1,7 +1,7 @@
 -- A sample volume: which blocks are written, and with what.
 use Rattle.std.specs.Prelude.{◌≡◌, ◌≤◌, ℕ, ◌+◌, ◌-◌, ◌*◌, ◌^◌, ◌==◌, nat_lt, Bool, ◌&&◌, List, [], ◌∷◌, ◌++◌, length, map, IsTrue, slice_index_or, slice_set, if◌then◌else◌}
 use Rattle.std.specs.List.{range_with_len, flat_map}
-use Rattle.reiserfs_format.specs.declared.block.TheConstants.{BITS_IN_BLOCK}
+use Rattle.reiser_items.specs.reiserfs_format.declared.block.TheConstants.{BITS_IN_BLOCK}
 use Rattle.reiser_items.specs.vol_block.Volume.{zeros}
 use Rattle.fs_rows.specs.outside.History.{Image}
 use Rattle.reiser_make.specs.Bitmap.{bitmap_bytes}

@@ -1,6 +1,6 @@
 -- Leaves: items packed in order, each leaf as full as the next item lets it be.
 use Rattle.std.specs.Prelude.{ℕ, ◌+◌, ◌-◌, ◌*◌, ◌^◌, nat_le, Bool, true, false, List, [], ◌∷◌, ◌++◌, length, replicate, sum_by, if◌then◌else◌}
-use Rattle.reiserfs_format.specs.declared.key.TheConstants.{V1_DIRECT_UNIQUENESS, V1_DIRENTRY_UNIQUENESS, V1_INDIRECT_UNIQUENESS}
+use Rattle.reiser_items.specs.reiserfs_format.declared.key.TheConstants.{V1_DIRECT_UNIQUENESS, V1_DIRENTRY_UNIQUENESS, V1_INDIRECT_UNIQUENESS}
 use Rattle.byteorder.specs.Endian.{little_bytes}
 use Rattle.reiser_items.specs.reiser_node.declared.head.ItemHead.{ItemHead}
 use Rattle.reiser_items.specs.reiser_node.declared.head.ItemKind.{ItemKind}

@@ -1,7 +1,7 @@
 -- Where the blocks of a sample go.
 use Rattle.std.specs.Prelude.{ℕ, ◌+◌, ◌-◌, ◌/◌, ◌%◌, ◌==◌, nat_lt, Bool, ◌||◌}
 use Rattle.std.specs.Int.{div_ceil}
-use Rattle.reiserfs_format.specs.declared.block.TheConstants.{BITS_IN_BLOCK}
+use Rattle.reiser_items.specs.reiserfs_format.declared.block.TheConstants.{BITS_IN_BLOCK}
 
 -- The first MiB and a half that a fresh volume uses: 64 KiB for boot code, the superblock, the first bitmap block, and
 -- the journal of 8192 blocks from block 18 on with its header behind it.

@@ -2,8 +2,8 @@ ghost use Rattle.std.specs.Prelude.{◌≡◌, ◌≤◌, ◌<◌, ◌+◌, ◌*
 ghost use Rattle.reiser_make.specs.Bitmap.{bitmap_bytes, marks, byte_of, is_marked, bit};
 ghost use Rattle.reiser_make.specs.Places.{bitmap_blocks, free_blocks, is_taken};
 
+use reiser_items::reiserfs_format::block::BITS_IN_BLOCK;
 use reiser_items::{Block, BlockNo};
-use reiserfs_format::block::BITS_IN_BLOCK;
 
 /// What is in use of a volume of `blocks` blocks: all below `needed`, and the bitmap blocks.
 #[derive(Clone, Copy, Debug, PartialEq, Eq)]

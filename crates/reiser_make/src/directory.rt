@@ -6,8 +6,8 @@ ghost use Rattle.reiser_make.specs.Shape.{directory_count, names_in};
 use crate::name::{directory_name, entry_offset, file_name};
 use crate::node::clear;
 use crate::object::{ObjectId, directory_count, named_by, names_in};
+use reiser_items::reiserfs_format::size::DEH_SIZE;
 use reiser_items::{Field, put_fields};
-use reiserfs_format::size::DEH_SIZE;
 
 /// The bytes that each name takes: those of a sample have at most eight.
 const ROOM: usize = 8;

@@ -9,8 +9,8 @@ use crate::leaf::{ItemPlace, NODE_ROOM};
 use crate::level::Level;
 use crate::node::{key_bytes, put_node_head};
 use crate::sample_plan::SamplePlan;
+use reiser_items::reiserfs_format::size::{BLKH_SIZE, DC_SIZE, KEY_SIZE};
 use reiser_items::{Block, Field, ItemHead, put_fields};
-use reiserfs_format::size::{BLKH_SIZE, DC_SIZE, KEY_SIZE};
 
 /// A node as its parent names it.
 #[derive(Clone, Copy, Debug, PartialEq, Eq)]

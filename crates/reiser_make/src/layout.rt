@@ -34,7 +34,7 @@ use crate::sample_entry::SampleEntry;
 use crate::sample_plan::SamplePlan;
 use fs_rows::{Access, Disk, Fault};
 use reiser_items::Block;
-use reiserfs_format::block::BITS_IN_BLOCK;
+use reiser_items::reiserfs_format::block::BITS_IN_BLOCK;
 
 /// Writes all blocks of a sample volume, each once, and no other one.
 pub fn write_volume<D: Disk>(plan: &SamplePlan, usage: &Usage, disk: &mut D) -> Result<(), Fault>

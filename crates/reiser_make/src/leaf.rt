@@ -9,8 +9,8 @@ use crate::node::{clear, put_head, put_node_head};
 use crate::object::object_count;
 use crate::sample::Sample;
 use crate::sample_item::SampleItem;
+use reiser_items::reiserfs_format::size::{BLKH_SIZE, IH_SIZE};
 use reiser_items::{Block, ItemHead};
-use reiserfs_format::size::{BLKH_SIZE, IH_SIZE};
 
 /// The bytes of a node behind its head.
 pub const NODE_ROOM: u16 = 4072;

@@ -2,8 +2,10 @@ ghost use Rattle.std.specs.Prelude.{◌≡◌, ◌≤◌, ◌<◌, ◌^◌, leng
 ghost use Rattle.reiser_items.specs.Order.{kind_number};
 ghost use Rattle.reiser_make.specs.Leaf.{key_bytes, head_bytes, node_head, old_code, place_bytes, version};
 
+use reiser_items::reiserfs_format::key::{
+    V1_DIRECT_UNIQUENESS, V1_DIRENTRY_UNIQUENESS, V1_INDIRECT_UNIQUENESS,
+};
 use reiser_items::{Field, ItemHead, ItemKind, put_fields};
-use reiserfs_format::key::{V1_DIRECT_UNIQUENESS, V1_DIRENTRY_UNIQUENESS, V1_INDIRECT_UNIQUENESS};
 
 /// Writes zeros over bytes.
 pub fn clear(bytes: &mut [u8])

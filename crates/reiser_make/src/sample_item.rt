@@ -25,8 +25,8 @@ ghost use Rattle.reiser_make.specs.declared.sample_entry.SampleEntry.TheVariants
 use crate::object::{ObjectId, directory_count, name_count, names_in};
 use crate::sample::{Sample, stored_of};
 use crate::sample_entry::SampleEntry;
+use reiser_items::vol_block::DIRECTORY_MODE;
 use reiser_items::{ItemHead, ItemKind, StatData};
-use vol_block::DIRECTORY_MODE;
 
 /// What the body of an item is.
 #[derive(Clone, Copy, Debug, PartialEq, Eq)]

@@ -92,6 +92,6 @@ pub use Rattle.reiser_volume.specs.reiser_walk.Laws.{FitsHead, IsNode}
 pub use Rattle.reiser_volume.specs.reiser_walk.Tree.{Visit, at_children, items_of_events, items_of_tree, reached_in, tree_events, visits_in}
 unfoldable pub use Rattle.reiser_volume.specs.reiser_walk.Tree.{node_events}
 pub use Rattle.reiser_volume.specs.reiser_walk.declared.block_pointer.BlockPointer.{BlockPointer}
+pub use Rattle.reiser_volume.specs.reiserfs_format.declared.block.TheConstants.{BITS_IN_BLOCK, SUPER_BLOCK}
 pub use Rattle.reiser_volume.specs.vol_block.Volume.{field, zeros}
-pub use Rattle.reiserfs_format.specs.declared.block.TheConstants.{BITS_IN_BLOCK, SUPER_BLOCK}
-pub use Rattle.vol_block.specs.declared.mode.TheConstants.{DIRECTORY_MODE}
+pub use Rattle.reiser_volume.specs.vol_block.declared.mode.TheConstants.{DIRECTORY_MODE}

@@ -130,9 +130,6 @@ module _ (s : Shape) (items : List SampleItem) (right : AreWritable s items) (ro
     abbrev ahead : List ℕ
     ahead = front ++ (heads_bytes 4096 items ++ (gap ++ bodies s rest))
 
-    right_before : AreWritable s before
-    right_before = λ k e low. subst (IsWritable s) (sym (get_or-take i items k e (omega (arith, low, length-take i items)))) (right k e (omega (arith, low, length-take i items)))
-
     right_rest : AreWritable s rest
     right_rest = λ k e low. subst (IsWritable s) (sym (get_or-drop (suc i) items k e)) (right (suc i + k) e (omega (arith, low, length-drop (suc i) items)))
 

@@ -34,10 +34,6 @@ climbs_later : (low lower high : ℕ) (ps : List Placed) → lower ≤ low → C
 climbs_later low lower high [] under climbs = omega (arith, under, climbs)
 climbs_later low lower high (p ∷ ps) under climbs = (climbs.0, omega (arith, under, climbs.1), climbs.2, climbs.3)
 
-climbs_end : (low high : ℕ) (ps : List Placed) → Climbs low high ps → low ≤ high
-climbs_end low high [] climbs = climbs
-climbs_end low high (p ∷ ps) climbs = omega (arith, climbs.1, climbs_end (climbs.0 + 1) high ps climbs.3)
-
 climbs-append : (low mid high : ℕ) (ps qs : List Placed) → Climbs low mid ps → Climbs mid high qs → Climbs low high (ps ++ qs)
 climbs-append low mid high [] qs first second = climbs_later mid low high qs first second
 climbs-append low mid high (p ∷ ps) qs first second = (first.0, first.1, first.2, climbs-append (first.0 + 1) mid high ps qs first.3 second)
@@ -171,10 +167,6 @@ rising_apart f a (suc n) rises =
 row_away : (f : ℕ → Placed) (a n : ℕ) (qs : List Placed) → ((k : ℕ) → a ≤ k → k < a + n → Away (f k).0 qs) → AreAway (map f (range_with_len a n)) qs
 row_away f a zero qs each = tt
 row_away f a (suc n) qs each = (each a (omega arith) (omega arith), row_away f (a + 1) n qs (λ k low high. each k (omega (arith, low)) (omega (arith, high))))
-
-away-join : (ps qs rs : List Placed) → AreAway ps rs → AreAway qs rs → AreAway (ps ++ qs) rs
-away-join [] qs rs first second = second
-away-join (p ∷ ps) qs rs first second = (first.0, away-join ps qs rs first.1 second)
 
 system_no_map : (s : Shape) (needed blocks : ℕ) (b : ℕ) → b < 8211 → Away b (bitmap_part needed blocks)
 system_no_map s needed blocks b low = away_row b (bitmap_placed needed blocks) 1 (bitmap_blocks blocks - 1) (λ k above below. λ same. omega (arith, low, above, same))

@@ -109,9 +109,6 @@ module _ (number : ℕ) (old : Bool) (blocks : ℕ) (image : Image) (fits : Fits
   abbrev pub s : Shape
   s = shape number old
 
-  abbrev pub volume : Image
-  volume = made s blocks image
-
   abbrev pub count : ℕ
   count = length (leaves s)
 

@@ -14,4 +14,6 @@ mod leaf;
 pub use head::{ItemHead, ItemKind};
 pub use inner::InnerView;
 pub use leaf::LeafView;
+pub use reiserfs_format;
+pub use vol_block;
 pub use vol_block::{Block, BlockNo, Field, put_fields, put_u32, u16_at, u32_at, u64_at};

@@ -10,4 +10,5 @@ mod superblock;
 
 pub use journal::journal_state;
 pub use laws::{clean_is_not_refused, log_decides_journal};
+pub use reiserfs_format;
 pub use superblock::Super;

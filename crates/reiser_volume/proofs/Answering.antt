@@ -7,13 +7,3 @@ pub rules_pass : (image : Image) (answer : VolAnswer) → IsFaultOrMemory answer
 rules_pass image (Refused refusal) is = absurd is
 rules_pass image Fault is = tt
 rules_pass image Memory is = tt
-
-pub read_again : (answer : VolAnswer) → IsFileAnswer answer → IsReadingAnswer answer
-read_again (Refused refusal) is = inr is
-read_again Fault is = tt
-read_again Memory is = tt
-
-pub read_first : (answer : VolAnswer) → IsVolumeAnswer answer → IsReadingAnswer answer
-read_first (Refused refusal) is = inl is
-read_first Fault is = tt
-read_first Memory is = tt

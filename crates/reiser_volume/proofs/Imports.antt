@@ -2,7 +2,7 @@
 pub use Rattle.std.proofs.Common.{All, AllPairs, Bool, Contains, IsTrue, List, None, Option, Some, [], ap, arith, cond, count_by, drop, eqb, false, filter, flat_map, get_or, get_or-set_other, get_or-set_same, if◌then◌else◌, inl, inr, length, map, nat_eq, nat_lt, not, refl, replicate, set, subst, suc, sum_by, sym, take, true, true≢false, unwrap_or, zero, ℕ, ⊎_elim, ◌%◌, ◌&&◌, ◌*◌, ◌++◌, ◌+◌, ◌-◌, ◌/◌, ◌<◌, ◌==◌, ◌^◌, ◌||◌, ◌↔◌, ◌∙◌, ◌∷◌, ◌≡◌, ◌≢◌, ◌≤◌}
 pub use Rattle.std.proofs.lemmas.Bool.{and_from, and_parts, cases_lt, eq-eqb, eqb-false, eqb-true, false_from_ne_true, lt-ltb, ltb-true, ne_eqb}
 pub use Rattle.std.proofs.lemmas.Bool.Decides.{nat_tests}
-pub use Rattle.std.proofs.lemmas.List.{append-nil, get_or-map, get_or-take, get_or_default, get_or_past, length-append, length-map, length-set, length-take, map-append, take_all, take_more}
+pub use Rattle.std.proofs.lemmas.List.{append-nil, get_or-map, get_or-replicate, get_or-take, get_or_default, get_or_past, length-append, length-map, length-replicate, length-set, length-take, map-append, take_all, take_more}
 pub use Rattle.std.proofs.lemmas.List.Elements.{All-cons, All-contains, All-contains_itself}
 pub use Rattle.std.proofs.lemmas.List.Sums.{AllPass-from_list_all, get_or-le-sum_by, sum_by-append, sum_by-cons, sum_by-le, sum_by-le-sum_by}
 pub use Rattle.std.proofs.lemmas.Map.Keys.{IsDistinct-from_apart, Less-from_sorted}
@@ -38,11 +38,13 @@ pub use Rattle.reiser_super.specs.Journal.{IsClean, pending_transactions}
 pub use Rattle.reiser_super.specs.Rules.{IsCleanSuper, IsInBounds, first_refusal, superblock_refusal, superblock_rules}
 pub use Rattle.reiser_super.specs.Superblock.{attrs_cleared_bit, superblock_fields}
 pub use Rattle.reiser_super.specs.declared.superblock.Super.{Super}
+pub use Rattle.reiser_super.specs.reiserfs_format.declared.block.TheConstants.{SUPER_BLOCK}
 pub use Rattle.reiser_volume.specs.Answers.{IsBitmapOf, IsSuperOf, IsVerdict, IsVolumeAnswer, IsVolumeRule, RefusesVolume}
 pub use Rattle.reiser_volume.specs.Front.{IsFrontAnswer, IsFrontOf, IsFrontRule, NamesFrontRule, RefusesFront}
 pub use Rattle.reiser_volume.specs.Laws.{FrontOfSuperDecides, IsSameVolume, ItemsDecideRows, PutBackIsSame, RowsAreOne, SameButSuper, SameFileBlocks, UsedBlocksDecide, unplaced}
 pub use Rattle.reiser_volume.specs.Made.{IsKnownAt, IsOfVolume, bytes_at, kind_by, no_stat, row_by, stat_at}
 unfoldable pub use Rattle.reiser_volume.specs.Made.{whole_row}
+pub use Rattle.reiser_volume.specs.Marks.{AreKeptMarks, IsKeptMark}
 pub use Rattle.reiser_volume.specs.Opened.{IsFoundSound, IsOpened, links_in}
 pub use Rattle.reiser_volume.specs.Owners.{HoldsData, MapsTellOwned, OwnersAreOne, Owns, TellsOwned}
 pub use Rattle.reiser_volume.specs.Rows.{AreReiserRows, HasStat, IsLeastPath, IsRow, LeadsToObject, flag}
@@ -94,4 +96,3 @@ pub use Rattle.reiser_volume_objects.specs.reiser_walk.Tree.{Visit, at_children,
 unfoldable pub use Rattle.reiser_volume_objects.specs.reiser_walk.Tree.{node_events}
 pub use Rattle.reiser_volume_objects.specs.reiser_walk.declared.block_pointer.BlockPointer.{BlockPointer}
 pub use Rattle.reiser_volume_objects.specs.reiser_walk.declared.reiser_tree.ReiserTree.{ReiserTree}
-pub use Rattle.reiserfs_format.specs.declared.block.TheConstants.{SUPER_BLOCK}

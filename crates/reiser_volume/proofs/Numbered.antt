@@ -46,10 +46,6 @@ module _ (keys : List ObjectKey) (at : ℕ) (numbered : AreNumbered at keys) (pl
   abbrev before : ObjectKey → Bool
   before k = is_lt (object_cmp k key)
 
-  -- how many keys below the root come before
-  below : ℕ
-  below = count_by (λ k. before k && not (same_key k root)) keys
-
   counted : (b : Bool) → before root ≡ b → count_by (λ k. before k && not (same_key k root)) keys + cond b 1 0 ≡ place
   counted b is =
       ap (λ (c : Bool). count_by (λ k. before k && not (same_key k root)) keys + cond c 1 0) (sym (ap (λ (c : Bool). c && before root) (any_at keys at root numbered.has_root) ∙ is))

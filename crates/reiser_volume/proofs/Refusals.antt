@@ -149,29 +149,6 @@ super_known bytes device r is =
     let known : all_known (superblock_rules bytes device) = (tt, (tt, (tt, (tt, (tt, (tt, (tt, (tt, (tt, tt))))))))) in
     first_known (superblock_rules bytes device) r known (sym is)
 
-pub journal_known : (e : VolAnswer) → IsJournalAnswer e → IsFrontAnswer e
-journal_known (Refused (JournalPending trans)) is = tt
-journal_known (Refused NotVolume) is = absurd is
-journal_known (Refused (Unclean state)) is = absurd is
-journal_known (Refused (Unsupported feature value)) is = absurd is
-journal_known (Refused (Short volume device)) is = absurd is
-journal_known (Refused (Damaged block rule)) is = absurd is
-journal_known (Refused (HasAttributes dir object)) is = absurd is
-journal_known (Refused (PendingLinks object)) is = absurd is
-journal_known (Refused (NameTaken dir object)) is = absurd is
-journal_known (Refused (NameTooLong dir object length)) is = absurd is
-journal_known (Refused (HashCrowd dir object hash)) is = absurd is
-journal_known Fault is = tt
-journal_known Memory is = tt
-
-pub load_known : (e : VolAnswer) → IsNoRefusal e → IsFrontAnswer e
-load_known (Refused r) is = absurd is
-load_known Fault is = tt
-load_known Memory is = tt
-
-pub system_known : (used : List Bool) (first size : ℕ) (r : VolumeRefusal) → NamesFreeBlock used first size r → NamesFrontRule r
-system_known used first size r is = subst NamesFrontRule (sym is.1) tt
-
 front_rule_known : (rule : Rule) → IsFrontRule rule → IsVolumeRule rule
 front_rule_known SuperField is = tt
 front_rule_known SystemFree is = tt
@@ -219,91 +196,6 @@ module _ (image : Image) (front : Front) (of : IsFrontOf image front) where
 
 pub front_of : (image : Image) (s : Super) (used : List Bool) → IsSuperOf image s → IsBitmapOf image used → IsFrontOf image (record { sup = s; bitmap = used })
 front_of image s used found marked = record { accepted = record { clean = marked.clean; system = marked.system }; sup = found.fields; bitmap = marked.bits }
-
-tree_rule_known : (rule : Rule) → IsTreeRule rule → IsVolumeRule rule
-tree_rule_known SuperField is = tt
-tree_rule_known SystemFree is = tt
-tree_rule_known NodeHead is = tt
-tree_rule_known Layout is = tt
-tree_rule_known KeyOrder is = tt
-tree_rule_known BlockFree is = tt
-tree_rule_known BlockRange is = tt
-tree_rule_known BlockTwice is = tt
-tree_rule_known Body is = tt
-tree_rule_known EntryForm is = tt
-tree_rule_known ObjectForm is = tt
-tree_rule_known Overlap is = tt
-tree_rule_known NameTwice is = tt
-tree_rule_known DirTwice is = tt
-tree_rule_known SizeRange is = tt
-tree_rule_known Reread is = is
-
-names_rule_known : (rule : Rule) → IsNamesRule rule → IsVolumeRule rule
-names_rule_known SuperField is = tt
-names_rule_known SystemFree is = tt
-names_rule_known NodeHead is = tt
-names_rule_known Layout is = tt
-names_rule_known KeyOrder is = tt
-names_rule_known BlockFree is = tt
-names_rule_known BlockRange is = tt
-names_rule_known BlockTwice is = tt
-names_rule_known Body is = tt
-names_rule_known EntryForm is = tt
-names_rule_known ObjectForm is = tt
-names_rule_known Overlap is = tt
-names_rule_known NameTwice is = tt
-names_rule_known DirTwice is = tt
-names_rule_known SizeRange is = tt
-names_rule_known Reread is = is
-
-objects_rule_known : (rule : Rule) → Contains object_rules rule → IsVolumeRule rule
-objects_rule_known rule among =
-    All-contains IsVolumeRule object_rules rule (All-cons IsVolumeRule ObjectForm (Overlap ∷ SizeRange ∷ []) tt (All-cons IsVolumeRule Overlap (SizeRange ∷ []) tt (All-cons IsVolumeRule SizeRange [] tt (λ k d within. absurd (omega (arith, within)))))) among
-
-pub tree_known : (e : VolAnswer) → IsObjectsReadAnswer e → IsVolumeAnswer e
-tree_known (Refused (Damaged block rule)) is = tree_rule_known rule is
-tree_known (Refused NotVolume) is = tt
-tree_known (Refused (Unclean state)) is = tt
-tree_known (Refused (Unsupported feature value)) is = tt
-tree_known (Refused (Short volume device)) is = tt
-tree_known (Refused (JournalPending trans)) is = tt
-tree_known (Refused (HasAttributes dir object)) is = tt
-tree_known (Refused (PendingLinks object)) is = tt
-tree_known (Refused (NameTaken dir object)) is = tt
-tree_known (Refused (NameTooLong dir object length)) is = tt
-tree_known (Refused (HashCrowd dir object hash)) is = tt
-tree_known Fault is = tt
-tree_known Memory is = tt
-
-pub objects_known : (e : VolAnswer) → IsObjectsAnswer e → IsVerdict e
-objects_known (Refused (Damaged block rule)) is = objects_rule_known rule is
-objects_known (Refused NotVolume) is = tt
-objects_known (Refused (Unclean state)) is = tt
-objects_known (Refused (Unsupported feature value)) is = tt
-objects_known (Refused (Short volume device)) is = tt
-objects_known (Refused (JournalPending trans)) is = tt
-objects_known (Refused (HasAttributes dir object)) is = tt
-objects_known (Refused (PendingLinks object)) is = tt
-objects_known (Refused (NameTaken dir object)) is = tt
-objects_known (Refused (NameTooLong dir object length)) is = tt
-objects_known (Refused (HashCrowd dir object hash)) is = tt
-objects_known Fault is = is
-objects_known Memory is = tt
-
-pub names_known : (e : VolAnswer) → IsNamesAnswer e → IsVerdict e
-names_known (Refused (Damaged block rule)) is = names_rule_known rule is
-names_known (Refused NotVolume) is = tt
-names_known (Refused (Unclean state)) is = tt
-names_known (Refused (Unsupported feature value)) is = tt
-names_known (Refused (Short volume device)) is = tt
-names_known (Refused (JournalPending trans)) is = tt
-names_known (Refused (HasAttributes dir object)) is = tt
-names_known (Refused (PendingLinks object)) is = tt
-names_known (Refused (NameTaken dir object)) is = tt
-names_known (Refused (NameTooLong dir object length)) is = tt
-names_known (Refused (HashCrowd dir object hash)) is = tt
-names_known Fault is = is
-names_known Memory is = tt
 
 pub verdict_known : (e : VolAnswer) → IsVerdict e → IsVolumeAnswer e
 verdict_known (Refused r) is = is

@@ -1,6 +1,6 @@
 -- What is answered of a volume.
 use Rattle.std.specs.Prelude.{◌≡◌, List, Bool, length}
-use Rattle.reiserfs_format.specs.declared.block.TheConstants.{SUPER_BLOCK}
+use Rattle.reiser_super.specs.reiserfs_format.declared.block.TheConstants.{SUPER_BLOCK}
 use Rattle.reiser_bitmap.specs.outside.History.{Image, block_at}
 use Rattle.reiser_bitmap.specs.refusals.declared.answer.VolAnswer.{VolAnswer}
 use Rattle.reiser_bitmap.specs.refusals.declared.answer.VolAnswer.TheVariants.{Refused, Fault, Memory}

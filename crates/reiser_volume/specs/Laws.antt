@@ -3,7 +3,7 @@ use Rattle.std.specs.Prelude.{◌≡◌, ◌≢◌, ◌≤◌, ◌<◌, ◌↔�
 use Rattle.std.specs.Int.{bit_at}
 use Rattle.reiser_bitmap.specs.outside.History.{Image, block_at}
 use Rattle.reiser_bitmap.specs.refusals.declared.refusal.VolumeRefusal.{VolumeRefusal}
-use Rattle.reiserfs_format.specs.declared.block.TheConstants.{SUPER_BLOCK}
+use Rattle.reiser_super.specs.reiserfs_format.declared.block.TheConstants.{SUPER_BLOCK}
 use Rattle.reiser_bitmap.specs.Bits.{has}
 use Rattle.super_turn.specs.PutBack.{put_back}
 use Rattle.fs_rows.specs.Rows.{WholeRow}

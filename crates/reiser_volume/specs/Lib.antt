@@ -12,12 +12,14 @@ pub use Rattle.reiser_volume_names.specs as reiser_volume_names
 pub use Rattle.reiser_volume_objects.specs as reiser_volume_objects
 pub use Rattle.reiser_volume_objects.specs.reiser_walk as reiser_walk
 pub use Rattle.reiser_bitmap.specs.vol_block as vol_block
+pub use Rattle.reiser_super.specs.reiserfs_format as reiserfs_format
 pub mod Answers
 pub mod Bounds
 pub mod Front
 pub mod Inline
 pub mod Laws
 pub mod Made
+pub mod Marks
 pub mod Numbers
 pub mod Opened
 pub mod Owners

@@ -1,6 +1,6 @@
 -- Which ReiserFS volumes are accepted, and how each other one is refused: the groups of rules one after the other.
 use Rattle.std.specs.Prelude.{◌≡◌, ℕ, List, Bool, [], length, Some, Contains}
-use Rattle.reiserfs_format.specs.declared.block.TheConstants.{SUPER_BLOCK}
+use Rattle.reiser_super.specs.reiserfs_format.declared.block.TheConstants.{SUPER_BLOCK}
 use Rattle.reiser_bitmap.specs.outside.History.{Image, block_at}
 use Rattle.reiser_bitmap.specs.refusals.declared.refusal.VolumeRefusal.{VolumeRefusal}
 use Rattle.reiser_bitmap.specs.refusals.declared.refusal.VolumeRefusal.TheVariants.{JournalPending}

@@ -1,12 +1,13 @@
-ghost use Rattle.std.specs.Prelude.{◌≡◌, List, ℕ, IfErr};
+ghost use Rattle.std.specs.Prelude.{◌≡◌, List, ℕ, Some, IfErr};
 ghost use Rattle.std.specs.Option.{MatchOption};
 ghost use Rattle.std.specs.Result.{MatchResult};
 ghost use Rattle.reiser_bitmap.specs.outside.Fault.{HasCauseOf};
 ghost use Rattle.reiser_bitmap.specs.outside.History.{OverTold};
 ghost use Rattle.fs_rows.specs.declared.row.Kind.TheVariants.{File, Symlink};
-ghost use Rattle.reiser_volume_contents.specs.Answers.{IsFileAnswer, IsFaultOrMemory};
+ghost use Rattle.reiser_volume_contents.specs.Answers.{IsFault, IsFaultOrMemory, IsFileAnswer, IsReadAnswer};
 ghost use Rattle.fs_rows.specs.Content.{IsContent};
-ghost use Rattle.reiser_volume.specs.Made.{IsKnownAt, IsOfVolume, bytes_at};
+ghost use Rattle.reiser_volume.specs.Made.{IsKnownAt, IsOfVolume, bytes_at, stat_at};
+ghost use Rattle.reiser_volume.specs.Marks.{IsKeptMark};
 ghost use Rattle.reiser_volume.specs.Volume.{volume_items};
 
 use crate::Volume;
@@ -26,11 +27,12 @@ pub fn content<S: BlockSource>(
     key: ObjectKey,
     known: &KnownObject,
     first: Option<&Row>,
+    mark: Option<[u8; 32]>,
 ) -> Result<Content, VolAnswer>
     ensures kept { S.kept src.old src.new }
     ensures cause { HasCauseOf VolAnswer.Fault (S.faults src.old) (S.faults src.new) result }
     ensures answers { IfErr result IsFileAnswer }
-    ensures content { OverTold S.tells (S.blocks src.old) (λ image. IsOfVolume image volume.now key → IsKnownAt (volume_items image) key known.now → (bytes : List ℕ) → bytes ≡ bytes_at image (volume_items image) key known.now.stat known.now.kind →
+    ensures content { OverTold S.tells (S.blocks src.old) (λ image. IsOfVolume image volume.now key → IsKnownAt (volume_items image) key known.now → IsKeptMark image key mark → (bytes : List ℕ) → bytes ≡ bytes_at image (volume_items image) key known.now.stat known.now.kind →
         MatchOption first.entry (Unit {0}) (λ row. IsContent known.now.kind bytes row.now.length row.now.mark row.now.target) →
         MatchResult result (λ c. IsContent known.now.kind bytes c.length c.mark c.target) IsFaultOrMemory) }
 {
@@ -39,26 +41,27 @@ pub fn content<S: BlockSource>(
             let content = same_content(row)?;
             Ok(content)
         }
-        None => read_content(alloc, src, volume, key, known),
+        None => read_content(alloc, src, volume, key, known, mark),
     }
 }
 
-/// Reads what a row has of the bytes of an object.
+/// Reads what a row has of the bytes of an object, but for a mark that is kept.
 fn read_content<S: BlockSource>(
     alloc: Global,
     src: &mut S,
     volume: &Volume,
     key: ObjectKey,
     known: &KnownObject,
+    mark: Option<[u8; 32]>,
 ) -> Result<Content, VolAnswer>
     ensures kept { S.kept src.old src.new }
     ensures cause { HasCauseOf VolAnswer.Fault (S.faults src.old) (S.faults src.new) result }
     ensures answers { IfErr result IsFileAnswer }
-    ensures content { OverTold S.tells (S.blocks src.old) (λ image. IsOfVolume image volume.now key → IsKnownAt (volume_items image) key known.now →
+    ensures content { OverTold S.tells (S.blocks src.old) (λ image. IsOfVolume image volume.now key → IsKnownAt (volume_items image) key known.now → IsKeptMark image key mark →
         MatchResult result (λ c. IsContent known.now.kind (bytes_at image (volume_items image) key known.now.stat known.now.kind) c.length c.mark c.target) IsFaultOrMemory) }
 {
     match known.kind {
-        Kind::File => file_content(alloc, src, volume, key, known),
+        Kind::File => file_content(alloc, src, volume, key, known, mark),
         Kind::Symlink => link_content(alloc, src, volume, key, known),
         Kind::Directory
         | Kind::Character
@@ -72,27 +75,48 @@ fn read_content<S: BlockSource>(
     }
 }
 
-/// Reads a file.
+/// What a row has of a file.
 fn file_content<S: BlockSource>(
     alloc: Global,
     src: &mut S,
     volume: &Volume,
     key: ObjectKey,
     known: &KnownObject,
+    mark: Option<[u8; 32]>,
 ) -> Result<Content, VolAnswer>
     ensures kept { S.kept src.old src.new }
     ensures cause { HasCauseOf VolAnswer.Fault (S.faults src.old) (S.faults src.new) result }
     ensures answers { IfErr result IsFileAnswer }
-    ensures content { OverTold S.tells (S.blocks src.old) (λ image. IsOfVolume image volume.now key → IsKnownAt (volume_items image) key known.now →
+    ensures content { OverTold S.tells (S.blocks src.old) (λ image. IsOfVolume image volume.now key → IsKnownAt (volume_items image) key known.now → IsKeptMark image key mark →
         MatchResult result (λ c. IsContent File (bytes_at image (volume_items image) key known.now.stat File) c.length c.mark c.target) IsFaultOrMemory) }
 {
     let size = known.stat.fields.size;
-    let mark = file_mark(src, &volume.objects, key, size)?;
+    let mark = mark_of(src, volume, key, size, mark)?;
     Ok(Content {
         length: size,
         mark,
         target: Name::new(alloc, b"")?,
     })
+}
+
+/// The mark of a file: the one that is kept, or one that is made.
+fn mark_of<S: BlockSource>(
+    src: &mut S,
+    volume: &Volume,
+    key: ObjectKey,
+    size: u64,
+    mark: Option<[u8; 32]>,
+) -> Result<[u8; 32], VolAnswer>
+    ensures kept { S.kept src.old src.new }
+    ensures cause { HasCauseOf VolAnswer.Fault (S.faults src.old) (S.faults src.new) result }
+    ensures answers { IfErr result IsReadAnswer }
+    ensures mark { OverTold S.tells (S.blocks src.old) (λ image. IsOfVolume image volume.now key → size ≡ (stat_at (volume_items image) key).fields.size → IsKeptMark image key mark →
+        MatchResult result (λ mark. IsKeptMark image key (Some mark)) IsFault) }
+{
+    match mark {
+        Some(mark) => Ok(mark),
+        None => file_mark(src, &volume.objects, key, size),
+    }
 }
 
 /// Reads the target of a symlink. That the target of a symlink of an opened volume has more than 4096 bytes cannot be.

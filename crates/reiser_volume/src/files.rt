@@ -9,13 +9,14 @@ ghost use Rattle.reiser_volume_files.specs.Runs.{file_runs};
 ghost use Rattle.reiser_volume_objects.specs.declared.key.ObjectKey.{ObjectKey as KeyOf};
 ghost use Rattle.reiser_volume_objects.specs.Keys.{items_of};
 ghost use Rattle.reiser_volume.specs.Made.{stat_at};
+ghost use Rattle.reiser_volume.specs.Marks.{IsKeptMark};
 ghost use Rattle.reiser_volume.specs.Opened.{IsOpened};
 ghost use Rattle.reiser_volume.specs.Owners.{TellsOwned};
 ghost use Rattle.reiser_volume.specs.Volume.{IsAccepted, volume_items};
 
 use crate::Volume;
 use reiser_bitmap::{Block, BlockSource, VolAnswer};
-use reiser_volume_contents::{file_map, file_tail};
+use reiser_volume_contents::{file_map, file_mark, file_tail};
 use reiser_volume_files::FileMap;
 use std::alloc::Global;
 
@@ -41,6 +42,23 @@ impl Volume {
     {
         let size = self.stat(i).fields.size;
         file_map(alloc, src, &self.objects, self.object(i), size)
+    }
+
+    /// The mark of the bytes of the file at this place. It reads the leaves of its items and its blocks.
+    pub(crate) fn file_mark<S: BlockSource>(
+        &self,
+        src: &mut S,
+        i: usize,
+    ) -> Result<[u8; 32], VolAnswer>
+        requires { i < length (keys self.now.named) }
+        ensures kept { S.kept src.old src.new }
+        ensures cause { HasCauseOf VolAnswer.Fault (S.faults src.old) (S.faults src.new) result }
+        ensures answers { IfErr result IsReadAnswer }
+        ensures mark { OverTold S.tells (S.blocks src.old) (λ image. IsAccepted image → IsOpened self.now image →
+            MatchResult result (λ mark. (key : KeyOf) → slice_get (keys self.now.named) i ≡ Some key → IsKeptMark image key (Some mark)) IsFault) }
+    {
+        let size = self.stat(i).fields.size;
+        file_mark(src, &self.objects, self.object(i), size)
     }
 
     /// Puts into a block what direct items hold of block `at` of the file or symlink at place `i`, and else zeros. After

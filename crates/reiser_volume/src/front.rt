@@ -6,8 +6,8 @@ ghost use Rattle.reiser_volume.specs.Answers.{IsSuperOf, IsBitmapOf};
 ghost use Rattle.reiser_volume.specs.Front.{IsFrontAnswer, IsFrontOf, RefusesFront};
 
 use reiser_bitmap::{Bitmap, Block, BlockSource, VolAnswer, VolumeRefusal};
+use reiser_super::reiserfs_format::block::SUPER_BLOCK;
 use reiser_super::{Super, journal_state};
-use reiserfs_format::block::SUPER_BLOCK;
 use std::alloc::Global;
 
 /// What comes before the tree of a ReiserFS volume that keeps the rules of superblock, journal and bitmap.

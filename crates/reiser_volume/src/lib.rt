@@ -11,13 +11,16 @@ mod gather;
 mod inode_numbers;
 mod laws;
 mod links;
+mod marks;
 mod open;
 mod row;
 mod rows;
+mod telling;
 mod volume;
 mod ways;
 
 pub use front::Front;
+pub use fs_rows;
 pub use inode_numbers::InodeNumbers;
 pub use laws::{
     accepted_is_small, front_of_super_decides, fronts_are_judged, items_decide_rows,
@@ -29,5 +32,8 @@ pub use reiser_bitmap::{
     Access, Block, BlockNo, BlockSource, BtrAnswer, Cached, Disk, Fault, Format, Ids, Memory, Room,
     Rule, Sink, VolAnswer, VolumeRefusal, format_of,
 };
+pub use reiser_super;
+pub use reiser_super::reiserfs_format;
 pub use reiser_volume_names::{extref_hash, name_hash};
+pub use super_turn::vol_block;
 pub use volume::Volume;

@@ -7,8 +7,8 @@ ghost use Rattle.reiser_volume.specs.Rows.{flag, major_of, minor_of, time_of};
 
 use fs_rows::{Content, Kind, Row, RowPlace, Time};
 use reiser_bitmap::Memory;
+use reiser_super::reiserfs_format::block::ATTRS_CLEARED;
 use reiser_volume_objects::ObjectStat;
-use reiserfs_format::block::ATTRS_CLEARED;
 
 /// Bits of the attributes of stat data. The names are those of the kernel: `REISERFS_SYNC_FL` is 8.
 const SYNC_BIT: u32 = 3;

@@ -1,6 +1,7 @@
 ghost use Rattle.std.specs.Prelude.{◌≡◌, ◌≤◌, ◌<◌, ℕ, List, [], map, take, length, slice_get, slice_index_or, Some, IfOk, IfErr};
 ghost use Rattle.std.specs.Option.{MatchOption};
 ghost use Rattle.std.specs.Result.{MatchResult};
+ghost use Rattle.indexmap.specs.IndexMap.{keys};
 ghost use Rattle.reiser_bitmap.specs.outside.Fault.{HasCauseOf};
 ghost use Rattle.reiser_bitmap.specs.outside.History.{Image, OverTold};
 ghost use Rattle.reiser_bitmap.specs.refusals.declared.answer.VolAnswer.TheVariants.{Refused};
@@ -10,6 +11,7 @@ ghost use Rattle.fs_rows.specs.Rows.{WholeRow, row_of};
 ghost use Rattle.fs_paths.specs.declared.node_link.PathTo.{PathTo as PathOf};
 ghost use Rattle.reiser_volume_contents.specs.Answers.{IsFileAnswer, IsFaultOrMemory};
 ghost use Rattle.reiser_volume.specs.Made.{IsKnownAt, IsOfVolume, whole_row};
+ghost use Rattle.reiser_volume.specs.Marks.{AreKeptMarks};
 ghost use Rattle.reiser_volume.specs.Opened.{IsOpened};
 ghost use Rattle.reiser_volume.specs.Volume.{AreRowsOf, IsAccepted, volume_items};
 ghost use Rattle.reiser_volume_objects.specs.Nodes.{key_at};
@@ -17,6 +19,7 @@ ghost use Rattle.reiser_volume.specs.Ways.{HasPaths};
 
 use crate::Volume;
 use crate::content::content;
+use crate::marks::Marks;
 use crate::row::{KnownObject, make_row};
 use crate::ways::paths_of;
 use fs_paths::PathTo;
@@ -28,7 +31,8 @@ use std::alloc::Global;
 impl Volume {
     /// The rows of the volume: one for each path, ascending.
     ///
-    /// The leaves and blocks of each file and symlink are read once, however many names it has. A refusal names a block
+    /// The blocks of each file are read once, however many names it has, and files in the order in which they begin on the
+    /// disk. A refusal names a block
     /// that the device has no more, or that reads otherwise than when the volume was opened.
     pub fn rows<S: BlockSource>(&self, alloc: Global, src: &mut S) -> Result<Rows, VolAnswer>
         ensures kept { S.kept src.old src.new }
@@ -38,7 +42,8 @@ impl Volume {
             MatchResult result (λ rows. (whole : List WholeRow) × AreRowsOf image whole × (rows ≡ map row_of whole)) IsFaultOrMemory) }
     {
         let paths = paths_of(alloc, self)?;
-        rows_at(alloc, src, self, &paths)
+        let marks = self.marks(alloc, src)?;
+        rows_at(alloc, src, self, &paths, &marks)
     }
 }
 
@@ -48,16 +53,17 @@ fn rows_at<S: BlockSource>(
     src: &mut S,
     volume: &Volume,
     paths: &Vec<PathTo>,
+    marks: &Marks,
 ) -> Result<Rows, VolAnswer>
     ensures kept { S.kept src.old src.new }
     ensures cause { HasCauseOf VolAnswer.Fault (S.faults src.old) (S.faults src.new) result }
     ensures answers { IfErr result IsFileAnswer }
-    ensures rows { OverTold S.tells (S.blocks src.old) (λ image. IsAccepted image → IsOpened volume.now image → HasPaths volume.now paths.now.items →
+    ensures rows { OverTold S.tells (S.blocks src.old) (λ image. IsAccepted image → IsOpened volume.now image → HasPaths volume.now paths.now.items → AreKeptMarks image (keys volume.now.named) marks.now.items →
         MatchResult result (λ rows. rows ≡ map (λ p. row_of (whole_row image paths.now.items p)) paths.now.items) IsFaultOrMemory) }
 {
     let mut rows = Rows::new(alloc);
     for i in 0..paths.len() {
-        let row = row_at(alloc, src, volume, &paths[i], &rows)?;
+        let row = row_at(alloc, src, volume, &paths[i], &rows, marks)?;
         rows.add(row)?;
     }
     Ok(rows)
@@ -70,18 +76,20 @@ fn row_at<S: BlockSource>(
     volume: &Volume,
     path: &PathTo,
     rows: &Rows,
+    marks: &Marks,
 ) -> Result<Row, VolAnswer>
     ensures kept { S.kept src.old src.new }
     ensures cause { HasCauseOf VolAnswer.Fault (S.faults src.old) (S.faults src.new) result }
     ensures answers { IfErr result IsFileAnswer }
-    ensures row { OverTold S.tells (S.blocks src.old) (λ image. IsAccepted image → IsOpened volume.now image → (list : List PathOf) → HasPaths volume.now list → (i : ℕ) → slice_get list i ≡ Some path.now →
+    ensures row { OverTold S.tells (S.blocks src.old) (λ image. IsAccepted image → IsOpened volume.now image → AreKeptMarks image (keys volume.now.named) marks.now.items → (list : List PathOf) → HasPaths volume.now list → (i : ℕ) → slice_get list i ≡ Some path.now →
         rows.now ≡ map (λ p. row_of (whole_row image list p)) (take i list) →
         MatchResult result (λ row. row ≡ row_of (whole_row image list path.now)) IsFaultOrMemory) }
 {
     let key = key_at(path.target);
     let known = known(volume, key)?;
     let first = first_row(rows, path);
-    let content = content(alloc, src, volume, key, &known, first)?;
+    let mark = volume.kept_mark(marks, key);
+    let content = content(alloc, src, volume, key, &known, first, mark)?;
     let spot = spot(path, first)?;
     Ok(make_row(spot, volume.sup.flags, &known, content))
 }

@@ -55,14 +55,6 @@ pub next_is_leaf : (r : ObjectItems) (leaves : List ℕ) (image : Image) (given 
 next_is_leaf r leaves image given items b at reads =
     (subst (λ (bs : List ℕ). Each (IsLeafOf image) bs) (next_leaf leaves r.place b at) (each_from_all (IsLeafOf image) (drop r.place leaves) reads.are_leaves)).0
 
--- nothing is left
-pub nothing_left : (r : ObjectItems) (leaves : List ℕ) (image : Image) (given items : List ReiserItem) → length leaves ≤ r.place → r.leaf.at.left ≡ 0 → Reads r leaves image given items → given ≡ items
-nothing_left r leaves image given items past done reads =
-    let none : items_ahead image leaves r ≡ [] =
-    ap (λ (xs : List ReiserItem). xs ++ flat_map (leaf_items image) (drop r.place leaves)) (none_ahead r.leaf.no r.leaf.at.next r.leaf.at.left r.leaf.block.bytes done)
-    ∙ ap (flat_map (leaf_items image)) (no_leaf leaves r.place past) in
-    sym (append-nil given) ∙ (ap (λ (xs : List ReiserItem). given ++ items_of r.key xs) (sym none) ∙ reads.whole)
-
 -- how keys compare
 
 before_by : (d o e p : ℕ) → ordering_then (nat_cmp d e) (nat_cmp o p) ≡ Less → ((d == e) && (o == p)) ≡ false

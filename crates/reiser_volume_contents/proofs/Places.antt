@@ -68,9 +68,6 @@ other_run k b rest differ = by (nat_eq b k) refl
     by false e = refl
 
 module _ (image : Image) where
-  numbers : List ℕ → List ℕ
-  numbers bs = leaf_numbers (flat_map (leaf_items image) bs)
-
   numbers_next : (b : ℕ) (bs : List ℕ) → leaf_numbers (flat_map (leaf_items image) (b ∷ bs)) ≡ leaf_numbers (leaf_items image b) ++ leaf_numbers (flat_map (leaf_items image) bs)
   numbers_next b bs = map-append (λ (x : ReiserItem). x.leaf) (leaf_items image b) (flat_map (leaf_items image) bs)
 

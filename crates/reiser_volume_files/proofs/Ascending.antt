@@ -29,9 +29,6 @@ next_none : (from : RunFrom) → next_from from 0 ≡ from
 next_none (Disk b) = ap (λ (x : ℕ). Disk x) (omega arith)
 next_none Tail = refl
 
-abbrev lies_by : Bool → FileRun → List FileRun → ℕ → Option RunFrom
-lies_by t r runs k = cond t (Some (next_from r.from (k - r.at))) (lies_at runs k)
-
 pub lies_in : (r : FileRun) (runs : List FileRun) (k : ℕ) → is_in_run r k ≡ true → lies_at (r ∷ runs) k ≡ Some (next_from r.from (k - r.at))
 lies_in r runs k h = cond-true (is_in_run r k) (Some (next_from r.from (k - r.at))) (lies_at runs k) h
 

@@ -31,10 +31,6 @@ empty_inside items dir has readable targets none = record {
     by m n there true own target = absurd (true≢false (sym target ∙ (ap has (sym (same_key-true m.dir n.target own)) ∙ none m there)))
     by m n there false other target = refl
 
--- the directory itself is at fault
-pub unreadable : (items : List ReiserItem) (P : Type 0) (dir : ObjectKey) (e : VolAnswer) → (P → HasReadableEntries items dir) → ¬ HasReadableEntries items dir → e ≡ Refused (HasAttributes dir.dir dir.object) → BlamesBelow items P dir e
-unreadable items P dir e readable bad is = subst (BlamesBelow items P dir) (sym is) (dir, (0, λ p. bad (readable p), refl, refl))
-
 -- what it has is no readable directory
 pub bad_targets : (items : List ReiserItem) (dir : ObjectKey) (e : VolAnswer) → BlamesTargets items (listing items dir) e → BlamesBelow items (HoldsNoAttribute items dir) dir e
 bad_targets items dir (Refused refusal) b =

@@ -66,9 +66,6 @@ count_of_part items part more all (Refused refusal) is b =
 count_of_part items part more all Fault is b = b
 count_of_part items part more all Memory is b = tt
 
-pub no_counts : {S : Type 0} (items : List ReiserItem) (counts : IndexMap ObjectKey ℕ S) → counts.entries ≡ [] → CountsNames items counts []
-no_counts items counts empty = record { each = λ key _. ap (λ (es : List (ObjectKey × ℕ)). unwrap_or (lookup (same_key key) es) 0) empty; few = λ key _. omega arith }
-
 -- what is counted
 pub counts_it : (items : List ReiserItem) (key : ObjectKey) (stat : ObjectStat) → stat_of_object items key ≡ Some stat → is_directory_at items key ≡ false → is_counted items key ≡ true
 counts_it items key stat there other = ap (λ (b : Bool). is_some (stat_of_object items key) && not b) other ∙ ap (λ (o : Option ObjectStat). is_some o && true) there
@@ -79,6 +76,3 @@ not_counted items key directory = ap (λ (b : Bool). is_some (stat_of_object ite
     by : (b : Bool) → (b && false) ≡ false
     by true = refl
     by false = refl
-
-pub none_counted : (items : List ReiserItem) (key : ObjectKey) → stat_of_object items key ≡ None → is_counted items key ≡ false
-none_counted items key none = ap (λ (o : Option ObjectStat). is_some o && not (is_directory_at items key)) none

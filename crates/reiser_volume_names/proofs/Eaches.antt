@@ -13,12 +13,6 @@ forms_of items key o stat s none there short = record {
       subst (λ (t : ObjectStat). is_symlink_mode t.fields.mode ≡ true → t.fields.size ≤ 3900) same short symlink;
 }
 
-pub no_stat_forms : (items : List ReiserItem) (key : ObjectKey) (o : Object) → Summarises o (items_of key items) → o.off_form ≡ None → o.stat ≡ None → HasForms items key
-no_stat_forms items key o s none there = record {
-  forms = s.formed none;
-  target = λ other has symlink. let e : None ≡ Some other = sym there ∙ (s.stat ∙ has) in absurd cc;
-}
-
 pub both_ways : {T E : Type 0} (P Q : Type 0) (R S : E → Type 0) (r : Result T E) → OnOk r P → IfErr r R → (P → Q) → ((e : E) → R e → S e) → MatchResult r (λ _. Q) S
 both_ways P Q R S (Ok x) h k f g = f h
 both_ways P Q R S (Err e) h k f g = g e k

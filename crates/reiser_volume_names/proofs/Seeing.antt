@@ -70,9 +70,6 @@ twice_of_part part more all (Refused refusal) is b = (b.0, (b.1.0, in_more part 
 twice_of_part part more all Fault is b = b
 twice_of_part part more all Memory is b = tt
 
-pub none_seen : {S : Type 0} (names : IndexSet KeyedName S) → names.keys ≡ [] → HasSeenLinks names []
-none_seen names empty = record { each = λ q. ap (λ (ks : List KeyedName). list_any (same_name q) ks) empty; once = λ i j d before within. absurd (omega (arith, within)) }
-
 pub was_absent : (new had : Bool) → new ≡ not had → new ≡ true → had ≡ false
 was_absent new true is h = absurd (true≢false (sym h ∙ is))
 was_absent new false is h = refl

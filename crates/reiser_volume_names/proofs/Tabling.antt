@@ -8,44 +8,6 @@ use Rattle.std.proofs.lemmas.Map.Views.{Contains-keys_from_lookup, IsSome-lookup
 use Rattle.reiser_volume_names.specs.Known.{HasStats, is_known}
 use Rattle.reiser_volume_names.proofs.Uniqueness.{same_decides, same_laws, flips}
 
-or_true : (a : Bool) → (a || (true || false)) ≡ true
-or_true true = refl
-or_true false = refl
-
-or_false : (a : Bool) → (a || (false || false)) ≡ a
-or_false true = refl
-or_false false = refl
-
--- a key is among those that were seen, or is the new one
-seen_also : (seen : List ObjectKey) (key q : ObjectKey) (b : Bool) → same_key key q ≡ b → list_any (same_key q) (seen ++ key ∷ []) ≡ (list_any (same_key q) seen || (b || false))
-seen_also seen key q b is = list_any-append (same_key q) seen (key ∷ []) ∙ ap (λ (c : Bool). list_any (same_key q) seen || (c || false)) (flips q key ∙ is)
-
-module _ {S : Type 0} (items : List ReiserItem) (table new : IndexMap ObjectKey ObjectStat S) (seen : List ObjectKey) (key : ObjectKey) (has : HasStats items table seen) where
-  -- one more object
-  pub stats_more : (stat : ObjectStat) → stat_of_object items key ≡ Some stat → ((q : ObjectKey) → get same_key new q ≡ cond (same_key key q) (Some stat) (get same_key table q)) → HasStats items new (seen ++ key ∷ [])
-  stats_more stat there grows q = grows q ∙ by (same_key key q) refl
-    where
-      by : (b : Bool) → same_key key q ≡ b → cond b (Some stat) (get same_key table q) ≡ (if list_any (same_key q) (seen ++ key ∷ []) then stat_of_object items q else None)
-      by true is =
-          sym there
-          ∙ (ap (stat_of_object items) (same_key-true key q is)
-          ∙ sym (ap (λ (b : Bool). if b then stat_of_object items q else None) (seen_also seen key q true is ∙ or_true (list_any (same_key q) seen))))
-      by false is = has q ∙ sym (ap (λ (b : Bool). if b then stat_of_object items q else None) (seen_also seen key q false is ∙ or_false (list_any (same_key q) seen)))
-
-  -- one without stat data
-  pub stats_same : stat_of_object items key ≡ None → HasStats items table (seen ++ key ∷ [])
-  stats_same none q = by (same_key key q) refl
-    where
-      either : (a : Bool) → stat_of_object items q ≡ None → (if a then stat_of_object items q else None) ≡ None
-      either true is = is
-      either false is = refl
-
-      by : (b : Bool) → same_key key q ≡ b → get same_key table q ≡ (if list_any (same_key q) (seen ++ key ∷ []) then stat_of_object items q else None)
-      by true is =
-          let absent : stat_of_object items q ≡ None = sym (ap (stat_of_object items) (same_key-true key q is)) ∙ none in
-          has q ∙ (either (list_any (same_key q) seen) absent ∙ sym (either (list_any (same_key q) (seen ++ key ∷ [])) absent))
-      by false is = has q ∙ sym (ap (λ (b : Bool). if b then stat_of_object items q else None) (seen_also seen key q false is ∙ or_false (list_any (same_key q) seen)))
-
 -- keys that differ stay as they are where equal neighbours are dropped
 dedup_apart : (k : ObjectKey) (ks : List ObjectKey) → IsDistinct same_key (k ∷ ks) → dedup_from same_key k ks ≡ k ∷ ks
 unfolding IsDistinct

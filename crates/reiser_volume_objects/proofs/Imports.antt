@@ -14,8 +14,8 @@ pub use Rattle.fs_paths.specs.Links.{same_node}
 pub use Rattle.fs_paths.specs.Reached.{AreReached}
 pub use Rattle.fs_paths.specs.declared.node.NodeId.{NodeId}
 pub use Rattle.fs_paths.specs.declared.node_link.NodeLink.{NodeLink}
-pub use Rattle.fs_rows.specs.declared.row.Kind.{Kind}
-pub use Rattle.fs_rows.specs.declared.row.Kind.TheVariants.{Block, Character, Directory, Fifo, File, Socket, Symlink}
+pub use Rattle.fs_paths.specs.fs_rows.declared.row.Kind.{Kind}
+pub use Rattle.fs_paths.specs.fs_rows.declared.row.Kind.TheVariants.{Block, Character, Directory, Fifo, File, Socket, Symlink}
 pub use Rattle.indexmap.specs.IndexMap.{Updates, get}
 pub use Rattle.indexmap.specs.IndexSet.{contains}
 pub use Rattle.reiser_bitmap.specs.outside.History.{Image}

@@ -59,11 +59,6 @@ reach_is_whole items reached has tells root_in closed key named = by named.0 nam
     by zero is = ap has is ∙ root_in
     by (suc steps) r = let f = from_filter is_followed (namings items) r.0 r.1 in sym (ap has r.2) ∙ closed r.0 f.0 f.1 (tells.whole r.0.dir (steps, r.3))
 
--- the root alone is seen
-pub root_seen : (items : List ReiserItem) (old new : Keys) → IsDirectory items root → ((q : ObjectKey) → old q ≡ false) → ((q : ObjectKey) → new q ≡ (same_key root q || old q)) → AreSeen items new
-root_seen items old new directory none grows key has =
-    ⊎_elim (λ own. subst (IsSeen items) (same_key-true root key own) (record { named = (0, refl); has_stat = ap is_some directory.has_stat })) (λ before. absurd (true≢false (sym before ∙ none key))) (or_cases (same_key root key) (old key) (sym (grows key) ∙ has))
-
 -- one more entry was followed
 pub closes_more : (all : List Naming) (i : ℕ) (n : Naming) (reached : NodeId → Bool) (old new : Keys) → get_or all i n ≡ n → i < length all
     → ((m : Naming) → Contains (take i all) m → Closes reached old m) → FollowsEntry n reached old new → (m : Naming) → Contains (take (i + 1) all) m → Closes reached new m

@@ -7,7 +7,7 @@ use Rattle.reiser_items.specs.reiser_node.declared.head.ItemKind.TheVariants.{St
 use Rattle.reiser_items.specs.Stat.{stat_of}
 use Rattle.reiser_walk.specs.Items.{ReiserItem}
 pub use Rattle.reiser_volume_files.specs.Laws.{SharesByte, AreItemsApart}
-use Rattle.fs_rows.specs.declared.row.Kind.{Kind}
+use Rattle.fs_paths.specs.fs_rows.declared.row.Kind.{Kind}
 use Rattle.reiser_volume_objects.specs.declared.stat.ObjectStat.{ObjectStat}
 use Rattle.reiser_volume_objects.specs.declared.key.ObjectKey.{ObjectKey}
 use Rattle.reiser_volume_objects.specs.Keys.{items_of}

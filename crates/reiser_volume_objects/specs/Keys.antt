@@ -1,6 +1,6 @@
 -- Which object an item of a ReiserFS tree belongs to: the first two numbers of its key.
 use Rattle.std.specs.Prelude.{◌==◌, Bool, ◌&&◌, List, filter}
-use Rattle.reiserfs_format.specs.declared.key.TheConstants.{ROOT_OBJECTID, ROOT_PARENT_OBJECTID}
+use Rattle.reiser_bitmap.specs.reiserfs_format.declared.key.TheConstants.{ROOT_OBJECTID, ROOT_PARENT_OBJECTID}
 use Rattle.reiser_items.specs.reiser_node.declared.head.ItemHead.{ItemHead}
 use Rattle.reiser_walk.specs.Items.{ReiserItem}
 use Rattle.reiser_volume_objects.specs.declared.key.ObjectKey.{ObjectKey}

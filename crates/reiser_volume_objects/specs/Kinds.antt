@@ -1,11 +1,11 @@
 -- Kinds of objects: the high four bits of the mode in the stat data, as `stat` has them.
 use Rattle.std.specs.Prelude.{ℕ, ◌/◌, ◌^◌, ◌==◌, nat_le, Bool, true, ◌||◌, Option}
-use Rattle.vol_block.specs.declared.mode.TheConstants.{DT_DIR}
+use Rattle.reiser_bitmap.specs.vol_block.declared.mode.TheConstants.{DT_DIR}
 use Rattle.reiser_items.specs.reiser_node.declared.head.ItemKind.{ItemKind}
 use Rattle.reiser_items.specs.reiser_node.declared.head.ItemKind.TheVariants.{Stat, Indirect, Direct, Directory as Entries}
-pub use Rattle.fs_rows.specs.Kinds.{kind_of_code, is_directory, is_file, is_symlink}
-use Rattle.fs_rows.specs.declared.row.Kind.{Kind}
-use Rattle.fs_rows.specs.declared.row.Kind.TheVariants.{Directory, File, Symlink, Character, Block, Fifo, Socket, Subvolume}
+pub use Rattle.fs_paths.specs.fs_rows.Kinds.{kind_of_code, is_directory, is_file, is_symlink}
+use Rattle.fs_paths.specs.fs_rows.declared.row.Kind.{Kind}
+use Rattle.fs_paths.specs.fs_rows.declared.row.Kind.TheVariants.{Directory, File, Symlink, Character, Block, Fifo, Socket, Subvolume}
 
 abbrev pub kind_of_mode : ℕ → Option Kind
 kind_of_mode mode = kind_of_code (mode / 4096)

@@ -1,4 +1,4 @@
-pub use Rattle.fs_rows.specs as fs_rows
+pub use Rattle.fs_paths.specs.fs_rows as fs_rows
 pub use Rattle.reiser_bitmap.specs.outside as outside
 pub use Rattle.reiser_bitmap.specs.refusals as refusals
 pub use Rattle.reiser_bitmap.specs as reiser_bitmap

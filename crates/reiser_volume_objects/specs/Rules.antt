@@ -6,8 +6,8 @@ use Rattle.reiser_bitmap.specs.refusals.declared.refusal.VolumeRefusal.TheVarian
 use Rattle.reiser_bitmap.specs.refusals.declared.rule.Rule.TheVariants.{ObjectForm, Overlap, SizeRange}
 use Rattle.reiser_walk.specs.Items.{ReiserItem}
 use Rattle.reiser_walk.specs.Bodies.{is_save_link}
-use Rattle.fs_rows.specs.declared.row.Kind.{Kind}
-use Rattle.fs_rows.specs.declared.row.Kind.TheVariants.{Directory}
+use Rattle.fs_paths.specs.fs_rows.declared.row.Kind.{Kind}
+use Rattle.fs_paths.specs.fs_rows.declared.row.Kind.TheVariants.{Directory}
 use Rattle.reiser_volume_objects.specs.declared.key.ObjectKey.{ObjectKey}
 use Rattle.reiser_volume_objects.specs.declared.stat.ObjectStat.{ObjectStat}
 use Rattle.reiser_volume_objects.specs.declared.naming.Naming.{Naming}

@@ -6,7 +6,7 @@ use Rattle.reiser_items.specs.reiser_node.declared.head.ItemKind.{ItemKind}
 use Rattle.reiser_items.specs.reiser_node.declared.head.ItemKind.TheVariants.{Stat, Indirect, Direct, Directory}
 use Rattle.reiser_items.specs.Entries.{are_entries}
 use Rattle.reiser_walk.specs.Items.{ReiserItem}
-use Rattle.fs_rows.specs.declared.row.Kind.{Kind}
+use Rattle.fs_paths.specs.fs_rows.declared.row.Kind.{Kind}
 use Rattle.reiser_volume_objects.specs.Kinds.{is_file, is_symlink, is_directory}
 use Rattle.reiser_volume_objects.specs.declared.object.Object.{Object}
 use Rattle.reiser_volume_files.specs.Bytes.{first_byte, byte_count, end_of}

@@ -15,7 +15,7 @@ ghost use Rattle.reiser_volume_objects.specs.Table.{HasNoted};
 use crate::kinds::kind_of_mode;
 use crate::reach::reach;
 use crate::{Object, ObjectKey, ObjectStat, Objects};
-use fs_rows::Kind;
+use fs_paths::fs_rows::Kind;
 use indexmap::IndexSet;
 use reiser_bitmap::{Rule, VolAnswer, VolumeRefusal};
 use reiser_items::BlockNo;

@@ -1,8 +1,8 @@
 ghost use Rattle.std.specs.Prelude.{◌≡◌};
 ghost use Rattle.reiser_volume_objects.specs.Kinds.{kind_of_mode, is_directory_mode};
 
-use fs_rows::Kind;
-use vol_block::{DT_BLK, DT_CHR, DT_DIR, DT_FIFO, DT_LNK, DT_REG, DT_SOCK};
+use fs_paths::fs_rows::Kind;
+use reiser_bitmap::vol_block::{DT_BLK, DT_CHR, DT_DIR, DT_FIFO, DT_LNK, DT_REG, DT_SOCK};
 
 /// The kind that the high four bits of a mode name.
 pub fn kind_of_mode(mode: u16) -> Option<Kind>

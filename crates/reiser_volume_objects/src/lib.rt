@@ -14,6 +14,7 @@ mod read;
 mod stat;
 mod table;
 
+pub use fs_paths::fs_rows;
 pub use key::ObjectKey;
 pub use kinds::kind_of_mode;
 pub use laws::refusals_break_rules;

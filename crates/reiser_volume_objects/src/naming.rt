@@ -1,5 +1,5 @@
 use crate::ObjectKey;
-use fs_rows::Name;
+use fs_paths::fs_rows::Name;
 use reiser_items::BlockNo;
 
 /// A directory's entry that gives an object a name.

@@ -13,12 +13,12 @@ ghost use Rattle.reiser_volume_objects.specs.Table.{HasNoted};
 
 use crate::kinds::is_directory_mode;
 use crate::{Naming, ObjectKey, Objects, node_of};
+use fs_paths::fs_rows::Name;
 use fs_paths::{NodeId, NodeLink, reached};
-use fs_rows::Name;
 use indexmap::IndexSet;
+use reiser_bitmap::reiserfs_format::key::{ROOT_OBJECTID, ROOT_PARENT_OBJECTID};
 use reiser_bitmap::{Memory, Rule, VolAnswer, VolumeRefusal};
 use reiser_items::BlockNo;
-use reiserfs_format::key::{ROOT_OBJECTID, ROOT_PARENT_OBJECTID};
 use std::alloc::Global;
 
 /// The root directory.

@@ -12,7 +12,7 @@ ghost use Rattle.reiser_volume_objects.specs.Table.{HasNoted, IsBehind, TellsIte
 
 use crate::kinds::is_directory_mode;
 use crate::{LeafList, Naming, Object, ObjectKey, ObjectStat};
-use fs_rows::Name;
+use fs_paths::fs_rows::Name;
 use indexmap::IndexMap;
 use reiser_bitmap::Memory;
 use reiser_items::{BlockNo, Entries, Entry, ItemHead, ItemKind};

@@ -14,11 +14,3 @@ module _ (w : Walker) (image : Image) (used : List Bool) (given : List ReiserIte
     reached = sym (ap reached_in k.whole) ∙ reached_in-append k.done (rest image (length used) w);
     marks = k.marks;
   }
-
-  -- the items given ascend
-  pub given_ascend : AllPairs (λ i j. is_lt (key_order i.head j.head) ≡ true) given
-  given_ascend = all_pairs_from_pairs _ given (ascending_from given (subst (λ (items : List ReiserItem). order_damages None items ≡ []) k.items k.sound.order))
-
-  -- each of them has a body that fits its head
-  pub given_fit : All (λ i. FitsHead i.head i.body) given
-  given_fit = all_fit given (subst (λ (items : List ReiserItem). flat_map body_damage items ≡ []) k.items k.sound.bodies)

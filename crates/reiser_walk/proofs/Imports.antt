@@ -1,5 +1,5 @@
 -- What the proofs of reiser_walk import of std, of lower crates and of its specs.
-pub use Rattle.std.proofs.Common.{All, AllPairs, Bool, Contains, IfSome, IsTrue, List, None, Option, Some, [], add-one, ap, append_assoc, arith, count_by, drop, false, filter, get_or, if◌then◌else◌, inl, inr, is_some, length, length-append, map, nat_le, nat_lt, not, refl, replicate, set, slice_get, subst, suc, sym, take, true, true≢false, vec_capacity, vec_len, zero, ℕ, ⊎_elim, ◌%◌, ◌++◌, ◌+◌, ◌-◌, ◌<◌, ◌==◌, ◌^◌, ◌||◌, ◌∙◌, ◌∷◌, ◌≡◌, ◌≢◌, ◌≤◌}
+pub use Rattle.std.proofs.Common.{All, AllPairs, Bool, Contains, IfSome, IsTrue, List, None, Option, Some, [], add-one, ap, append_assoc, arith, drop, false, filter, get_or, if◌then◌else◌, inl, inr, is_some, length, length-append, map, nat_le, nat_lt, not, refl, replicate, set, slice_get, subst, suc, sym, take, true, true≢false, vec_capacity, vec_len, zero, ℕ, ⊎_elim, ◌%◌, ◌++◌, ◌+◌, ◌-◌, ◌<◌, ◌==◌, ◌^◌, ◌||◌, ◌∙◌, ◌∷◌, ◌≡◌, ◌≢◌, ◌≤◌}
 pub use Rattle.std.proofs.lemmas.Bool.Decides.{Decides-and, Decides-eqb, Decides-like, Decides-or, eqb_tells, nat_tests}
 pub use Rattle.std.proofs.lemmas.List.{append-nil, get_or-replicate, length-replicate}
 pub use Rattle.std.proofs.lemmas.List.Concat.{flat_map-append}
@@ -18,7 +18,6 @@ pub use Rattle.reiser_items.specs.reiser_node.Head.{head_at}
 pub use Rattle.reiser_items.specs.reiser_node.Inner.{child_block_at, is_inner, pointer_count}
 pub use Rattle.reiser_items.specs.reiser_node.Leaf.{body_at, count, head_place, is_leaf}
 pub use Rattle.reiser_items.specs.reiser_node.declared.head.ItemHead.{ItemHead}
-pub use Rattle.reiser_walk.specs.Answers.{BlamesDamage}
 pub use Rattle.reiser_walk.specs.Bodies.{fits_kind, is_body, is_save_link}
 pub use Rattle.reiser_walk.specs.Hand.{item_before, leaf_rest, step_rest}
 unfoldable pub use Rattle.reiser_walk.specs.Hand.{path_rest}
@@ -26,10 +25,9 @@ pub use Rattle.reiser_walk.specs.Items.{Event, ReiserItem, blocks_named, held_by
 pub use Rattle.reiser_walk.specs.Laws.{FitsHead, FitsKind, IsNode, KeepsRules, SoundTreesKeepRules}
 pub use Rattle.reiser_walk.specs.Marks.{MarksSeen, seen_after, unmarked}
 pub use Rattle.reiser_walk.specs.Rules.{body_damage, broken_rule, damages, is_above, is_in, is_node, is_system_of, node_damage, order_damages, reach_damage, reach_damages, tree_damages, unless, visit_damage}
-pub use Rattle.reiser_walk.specs.Stats.{is_stat, is_stat_kind, stat_count}
 pub use Rattle.reiser_walk.specs.Tree.{Visit, at_children, items_of_events, reached_in, tree_events, visits_in}
 unfoldable pub use Rattle.reiser_walk.specs.Tree.{node_events}
-pub use Rattle.reiser_walk.specs.Walks.{IsAt, IsDone, IsFirstPart, IsSoundSoFar, Moves, Walks, block_count, fuel, last_head_after, level_of, pending, rest, root_rest, standing}
+pub use Rattle.reiser_walk.specs.Walks.{IsAt, IsDone, IsFirstPart, IsSoundSoFar, Moves, Walks, block_count, fuel, last_head_after, level_of, pending, rest, root_rest}
 pub use Rattle.reiser_walk.specs.declared.block_pointer.BlockPointer.{BlockPointer}
 pub use Rattle.reiser_walk.specs.declared.hand.LeafInHand.{LeafInHand}
 pub use Rattle.reiser_walk.specs.declared.hand.Step.{Step}

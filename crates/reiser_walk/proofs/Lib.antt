@@ -1,6 +1,5 @@
 pub use Rattle.reiser_items.proofs as reiser_items
 pub mod Claims
-pub mod Counting
 pub mod Damages
 pub mod Events
 pub mod Given

@@ -1,6 +1,6 @@
 -- Steps of a walk.
 use Rattle.reiser_walk.proofs.Imports.{◌≡◌, ◌≢◌, ℕ, zero, suc, ◌-◌, ◌==◌, ◌≤◌, Bool, true, false, List, [], ◌∷◌, ◌++◌, length, None, Contains, if◌then◌else◌, nat_lt, replicate, refl, sym, ◌∙◌, ap, subst, arith, append_assoc, flat_map, append-nil, length-replicate, get_or-replicate, flat_map-append, Contains-append_left, Contains-append_right, nat_tests, Image, block_at, count, is_leaf, pointer_count, is_inner, has, VolumeRefusal, Damaged, ReiserTree, Step, LeafInHand, BlockPointer, Walker, ReiserItem, Event, node, leaf_events, Visit, node_events, tree_events, at_children, visits_in, items_of_events, reached_in, is_node, broken_rule, node_damage, visit_damage, reach_damage, reach_damages, damages, tree_damages, MarksSeen, seen_after, leaf_rest, step_rest, path_rest, pending, root_rest, rest, level_of, IsSoundSoFar, Walks, IsAt, inner_decides}
-use Rattle.reiserfs_format.specs.declared.block.TheConstants.{SUPER_BLOCK}
+use Rattle.reiser_bitmap.specs.reiserfs_format.declared.block.TheConstants.{SUPER_BLOCK}
 use Rattle.reiser_walk.proofs.Damages.{unless_in}
 use Rattle.reiser_walk.proofs.Events.{visits_in-append, items_in-append, reached_in-append, seen_after-append, reach_damages-append, sound_more}
 use Rattle.reiser_walk.proofs.Paths.{path_nil, path_last}

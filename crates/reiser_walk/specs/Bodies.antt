@@ -1,6 +1,6 @@
 -- Which bodies fit their heads, as ReiserFS 3.6 has them. What a directory item holds is not looked at here.
 use Rattle.std.specs.Prelude.{ℕ, ◌%◌, ◌^◌, ◌==◌, nat_le, Bool, true, ◌&&◌, ◌||◌, List, is_some}
-use Rattle.reiserfs_format.specs.declared.key.TheConstants.{MAX_KEY_OBJECTID}
+use Rattle.reiser_bitmap.specs.reiserfs_format.declared.key.TheConstants.{MAX_KEY_OBJECTID}
 use Rattle.reiser_items.specs.reiser_node.declared.head.ItemHead.{ItemHead}
 use Rattle.reiser_items.specs.reiser_node.declared.head.ItemKind.{ItemKind}
 use Rattle.reiser_items.specs.reiser_node.declared.head.ItemKind.TheVariants.{Stat, Indirect, Direct, Directory}

@@ -9,6 +9,5 @@ pub mod Items
 pub mod Laws
 pub mod Marks
 pub mod Rules
-pub mod Stats
 pub mod Tree
 pub mod Walks

@@ -1,6 +1,6 @@
 -- The tree of a ReiserFS volume, as one list of what a walk meets: visits of nodes, items, and blocks that are reached.
 use Rattle.std.specs.Prelude.{ℕ, zero, suc, ◌-◌, nat_lt, ◌&&◌, List, [], ◌∷◌, ◌++◌, if◌then◌else◌}
-use Rattle.reiserfs_format.specs.declared.block.TheConstants.{SUPER_BLOCK}
+use Rattle.reiser_bitmap.specs.reiserfs_format.declared.block.TheConstants.{SUPER_BLOCK}
 use Rattle.reiser_bitmap.specs.outside.History.{Image, block_at}
 use Rattle.reiser_items.specs.reiser_node.Leaf.{count, is_leaf}
 use Rattle.reiser_items.specs.reiser_node.Inner.{is_inner, pointer_count, child_block_at}

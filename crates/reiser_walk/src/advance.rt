@@ -23,9 +23,9 @@ use crate::claim::{claim, claim_named};
 use crate::hand::{LeafInHand, NodeCursor};
 use crate::path::next_child;
 use crate::reiser_tree::ReiserTree;
+use reiser_bitmap::reiserfs_format::block::SUPER_BLOCK;
 use reiser_bitmap::{Bitmap, BlockSource, Fault, Memory, Rule, VolAnswer, VolumeRefusal};
 use reiser_items::{Block, BlockNo, ItemHead, LeafView};
-use reiserfs_format::block::SUPER_BLOCK;
 use std::alloc::Global;
 
 /// How many inner nodes lie above a leaf at most.

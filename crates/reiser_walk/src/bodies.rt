@@ -2,8 +2,8 @@ ghost use Rattle.std.specs.Prelude.{◌≡◌};
 ghost use Rattle.reiser_walk.specs.Bodies.{fits_kind, is_save_link, is_body};
 ghost use Rattle.reiser_walk.specs.Rules.{is_above};
 
+use reiser_bitmap::reiserfs_format::key::MAX_KEY_OBJECTID;
 use reiser_items::{ItemHead, ItemKind, Pointers, StatData, key_order};
-use reiserfs_format::key::MAX_KEY_OBJECTID;
 
 /// The greatest offset of an item.
 const MAX_OFFSET: u64 = 1 << 45;

@@ -16,12 +16,10 @@ mod laws;
 mod open;
 mod path;
 mod reiser_tree;
-mod stats;
 mod walker;
 
 pub use ahead::tell_leaves;
 pub use laws::{sound_trees_keep_rules, walks_are_first_parts};
 pub use reiser_bitmap::{BlockSource, CopyList, Fault, Memory};
 pub use reiser_items::{Block, BlockNo, ItemHead, ItemKind, u32_at};
-pub use stats::count_stats;
 pub use walker::Walker;

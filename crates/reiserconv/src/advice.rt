@@ -29,6 +29,8 @@ pub struct Outcome<'a> {
     pub is_root: bool,
     /// The words, without the program's name.
     pub words: &'a [String],
+    /// Which of them is the path of a folder, from 0 on, where that was looked for.
+    pub folder: Option<usize>,
     /// The path of the run, as a shell reads it.
     pub path: &'a str,
 }
@@ -37,6 +39,14 @@ impl Outcome<'_> {
     /// Whether it was a trial, on a device that is to be overwritten.
     fn is_trial(&self) -> bool {
         self.verb == Some(Verb::Trial)
+    }
+
+    /// The word that is the path of a folder, if one is known.
+    fn folder(&self) -> Option<&str> {
+        match self.words.get(self.folder?) {
+            Some(word) => Some(word.as_str()),
+            None => None,
+        }
     }
 }
 
@@ -182,7 +192,7 @@ fn tell_line(
     outcome: &Outcome<'_>,
 ) -> Result<(), AllocError> {
     if line.starts_with("usage: ") {
-        return tell_wrong_words(alloc, text, outcome.words);
+        return tell_wrong_words(alloc, text, outcome);
     }
     let sentence = of_line(line);
     if sentence.means.is_empty() {
@@ -229,10 +239,10 @@ fn tell_fault(
 fn tell_wrong_words(
     alloc: Global,
     text: &mut Paragraph<'_>,
-    words: &[String],
+    outcome: &Outcome<'_>,
 ) -> Result<(), AllocError> {
     let sentence = of_line("usage: ..");
-    match find(alloc, words)? {
+    match find(alloc, outcome.words, outcome.folder())? {
         Some(finding) => {
             let parts = [finding.first.as_str(), finding.second.as_str()];
             text.say(finding.sentence, &parts)?;

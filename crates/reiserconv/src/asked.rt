@@ -27,6 +27,14 @@ impl Verb {
         }
     }
 
+    /// The command that the first of these words is.
+    pub fn first_of(words: &[String]) -> Option<Verb> {
+        match words {
+            [first, ..] => Verb::named(first.as_str()),
+            [] => None,
+        }
+    }
+
     /// Its name.
     pub fn name(self) -> &'static str {
         match self {

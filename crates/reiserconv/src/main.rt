@@ -27,11 +27,11 @@ mod talk;
 mod wanted;
 mod wrong_words;
 
-use asked::Asked;
-use device::is_device;
+use asked::{Asked, Verb};
+use device::{folder_in, is_device};
 use first_write::FirstWrite;
 use guarded::GuardedDisk;
-use host_edge::{FileDisk, LineSink, Sink, StatusLine, StdSink, hold_streams};
+use host_edge::{FileDisk, LineSink, Sink, StatusLine, StdSink, csum_type_at, hold_streams};
 use question::Question;
 use recount::Recount;
 use root::is_root;
@@ -43,7 +43,7 @@ use std::io::{Stderr, Stdin, Write};
 use std::process::ExitCode;
 use std::random::RandomSource;
 use std::time::Clock;
-use talk::{Ended, How, Talk, tell_start};
+use talk::{Ended, How, Seen, Talk, tell_start};
 use volume_app::run;
 
 /// The status where the arguments, the clock or the random source failed.
@@ -162,14 +162,42 @@ fn tell_end<
         let _ = err.write(ended.line);
         return;
     };
-    let again = if talk.lacks_space(ended.status, out) {
+    let seen = look_again(rt, start, talk, ended.status, shown, out);
+    shown.wipe();
+    let _ = err.write(ended.line);
+    talk.end(ended, &seen, out, err);
+}
+
+/// Looks behind a run for what a person is told beside its lines.
+fn look_again<R: Files<File = File> + AllocGlobal + Clock + Copy + Drop, O: Write + Drop>(
+    rt: R,
+    start: &Start,
+    talk: &Talk<'_>,
+    status: u8,
+    shown: &StatusLine,
+    out: &LineSink<'_, O>,
+) -> Seen {
+    let again = if talk.lacks_space(status, out) {
         Recount::new(rt, start, shown).ok()
     } else {
         None
     };
-    shown.wipe();
-    let _ = err.write(ended.line);
-    talk.end(ended, again.as_ref(), out, err);
+    let is_trial = Verb::first_of(&start.words) == Some(Verb::Trial);
+    let folder = if is_trial && talk.verb().is_none() {
+        folder_in(&rt, &start.words)
+    } else {
+        None
+    };
+    let csum_type = if status == 0 && talk.verb() == Some(Verb::Inspect) {
+        csum_type_at(&rt, talk.place()).unwrap_or(None)
+    } else {
+        None
+    };
+    Seen {
+        again,
+        folder,
+        csum_type,
+    }
 }
 
 /// The disk of a run. That of a trial is to be overwritten.

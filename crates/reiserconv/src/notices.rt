@@ -4,6 +4,7 @@ use crate::paragraph::Paragraph;
 use crate::recount::Recount;
 use crate::space::Space;
 use crate::wanted::Wanted;
+use outside::btrfs_format::feature::{CSUM_TYPE_CRC32, CSUM_TYPE_SHA256};
 use std::alloc::{AllocError, Global};
 use std::str;
 
@@ -50,6 +51,10 @@ const IS_REISERFS: &str =
 const IS_BTRFS: &str =
     "{path} is a Btrfs volume. If a conversion was interrupted, it is done, and 'btrfs check --readonly {path}' has to say 'no error found'. If a rollback was interrupted, begin again with 'reiserconv rollback {path}'.";
 
+const HAS_CRC32C: &str = "{path} is a Btrfs volume, whose checksums are CRC-32C.";
+
+const HAS_SHA256: &str = "{path} is a Btrfs volume, whose checksums are SHA-256.";
+
 /// What comes behind a trial. `{1}` is the number of its files.
 const TRIED: &str =
     "The trial went well. A ReiserFS volume with {1} {1:file:files} was made at {path}, turned into Btrfs, and turned back. The lines of 'list' were the same before and after the conversion, and so was each block in use after the way back.";
@@ -73,6 +78,8 @@ pub struct Done<'a> {
     pub again: Option<&'a Recount>,
     /// Whether a trial was done on a block device.
     pub is_device: bool,
+    /// The number of the kind of checksum of a Btrfs volume that was looked at.
+    pub csum_type: Option<u16>,
 }
 
 /// What is told of a command that is done.
@@ -96,11 +103,10 @@ pub fn behind(
             };
             tell_all(&mut text, &[TRIED, left], &[files(printed)])?
         }
-        Some(Verb::Inspect) => {
-            if let Some(space) = Space::printed(printed) {
-                space.tell(alloc, &mut text, done.wanted, done.again)?;
-            }
-        }
+        Some(Verb::Inspect) => match Space::printed(printed) {
+            Some(space) => space.tell(alloc, &mut text, done.wanted, done.again)?,
+            None => text.say(checksums(done.csum_type), &[])?,
+        },
         _ => {}
     }
     text.end()?;
@@ -124,6 +130,15 @@ fn files(printed: &str) -> &str {
     match printed.lines().next() {
         Some(line) => line.strip_prefix("trial ").unwrap_or(""),
         None => "",
+    }
+}
+
+/// Which checksums a Btrfs volume has, by the number of their kind.
+fn checksums(csum_type: Option<u16>) -> &'static str {
+    match csum_type {
+        Some(CSUM_TYPE_CRC32) => HAS_CRC32C,
+        Some(CSUM_TYPE_SHA256) => HAS_SHA256,
+        _ => "",
     }
 }
 

@@ -77,8 +77,8 @@ pub fn of_refusal(number: u64) -> Sentence {
             next: "Nothing.",
         },
         17 => Sentence {
-            means: "There is no file 'image' in a subvolume 'reiserfs_saved' of the root, so that there is nothing to go back to.",
-            next: "If you have renamed or moved them, give them their names and places back: the way back is open again then. If they were removed, nothing leads back: stay with Btrfs, or copy your files to a new volume.",
+            means: "There is no file 'image' in a subvolume 'reiserfs_saved' of the root, so that there is nothing to go back to: they were renamed, moved or removed, or this volume was never converted.",
+            next: "If you have renamed or moved them, give them their names and places back: the way back is open again then. Else nothing leads back: stay with Btrfs, or copy your files to a new volume.",
         },
         18 => Sentence {
             means: "Block {1} of the old volume no longer lies where it lay. A balance of data moves blocks, as do a smaller size, and a defragmentation or a deduplication of the file 'image' itself.",

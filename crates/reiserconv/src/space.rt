@@ -217,10 +217,10 @@ fn tell_what_to_count(
 }
 
 const FITS: &str =
-    "It can be converted: {2} units of 1 MiB are needed, {1} are free as a whole, and so {3} {3:is:are} to spare.";
+    "It can be converted: {2} units of 1 MiB are needed, {1} are free as a whole, and so {3} to spare.";
 
 const FITS_IN_A_ROW: &str =
-    "It can be converted if of the free units of 1 MiB {4} lie in one row, which 'convert' sees before it writes: {2} are needed, {1} are free as a whole, and so {3} {3:is:are} to spare.";
+    "It can be converted if of the free units of 1 MiB {4} lie in one row, which 'convert' sees before it writes: {2} are needed, {1} are free as a whole, and so {3} to spare.";
 
 const CONVERT: &str = "This command does it: '{1}'.";
 
@@ -246,7 +246,7 @@ const OTHER_NODES: &str =
     "Nodes of another size may need less: '{1}' tells how much, and so does the same with {2}. If nodes of {3} bytes suffice, '{4}' converts it.";
 
 const BETTER_NODES: &str =
-    "Or take nodes of {1} bytes, which need {2} units, so that {3} MiB {3:is:are} to spare: '{4}'.";
+    "Or take nodes of {1} bytes, which need {2} units, so that {3} to spare: '{4}'.";
 
 const SMALLER_NEED: &str =
     "Nodes of {1} bytes need fewer units, {2} ('--nodesize {1}'), which alone does not suffice.";
@@ -254,7 +254,7 @@ const SMALLER_NEED: &str =
 const NO_OTHER_NODES: &str = "Nodes of {1} or {2} bytes need no fewer units.";
 
 const LEFT_OUT: &str =
-    "Or leave '{1}' out: then {2} units are needed, so that {3} MiB {3:is:are} to spare: '{4}'.";
+    "Or leave '{1}' out: then {2} units are needed, so that {3} to spare: '{4}'.";
 
 const LESS_NEED: &str = "Without '{1}' fewer units are needed, {2}, which alone does not suffice.";
 
@@ -275,6 +275,7 @@ fn other_sizes(size: &str) -> [&'static str; 2] {
 struct Numbers {
     units: String,
     needed: String,
+    /// With its verb: none is to spare, one is, two are.
     spare: String,
     run: String,
     missing: String,
@@ -287,7 +288,7 @@ impl Numbers {
         Ok(Numbers {
             units: decimal(alloc, space.units)?,
             needed: decimal(alloc, space.needed)?,
-            spare: decimal(alloc, space.spare())?,
+            spare: with_verb(alloc, space.spare())?,
             run: decimal(alloc, space.run)?,
             missing: decimal(alloc, missing)?,
             larger: decimal(alloc, missing.saturating_add(GOOD_TO_SPARE))?,
@@ -309,6 +310,15 @@ impl Numbers {
 
 fn decimal(alloc: Global, number: u64) -> Result<String, AllocError> {
     format!(in alloc; "{}", number)
+}
+
+/// A number and its verb.
+fn with_verb(alloc: Global, number: u64) -> Result<String, AllocError> {
+    match number {
+        0 => String::from_str(alloc, "none is"),
+        1 => String::from_str(alloc, "1 is"),
+        _ => format!(in alloc; "{} are", number),
+    }
 }
 
 /// The number behind a word at the front of a line.

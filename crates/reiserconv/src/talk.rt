@@ -50,6 +50,17 @@ impl<'a> Ended<'a> {
     }
 }
 
+/// What was looked for behind a run, for a person.
+#[derive(Clone, Copy)]
+pub struct Seen {
+    /// What was counted with something else than was asked for, where the space does not suffice.
+    pub again: Option<Recount>,
+    /// Which of the words is the path of a folder, from 0 on, of a trial with wrong words.
+    pub folder: Option<usize>,
+    /// The number of the kind of checksum of a Btrfs volume that was inspected.
+    pub csum_type: Option<u16>,
+}
+
 impl<'a> Talk<'a> {
     /// There is one where standard error is a terminal, or the words ask for it. Without memory there is none.
     pub fn new(
@@ -72,6 +83,16 @@ impl<'a> Talk<'a> {
         }
     }
 
+    /// The command, where the words ask for one.
+    pub fn verb(&self) -> Option<Verb> {
+        self.asked.verb
+    }
+
+    /// The path, as it was given.
+    pub fn place(&self) -> &'a str {
+        self.asked.path
+    }
+
     /// What is to be told before the run writes its first block.
     pub fn notice(&self) -> Option<String> {
         before(self.alloc, &self.asked, self.path.as_str()).ok()
@@ -91,11 +112,11 @@ impl<'a> Talk<'a> {
         }
     }
 
-    /// Tells what the lines of the run mean, and what to do. `again` is what was counted with something else than was asked for.
+    /// Tells what the lines of the run mean, and what to do.
     pub fn end<O: Write + Drop, W: Write + Drop>(
         &self,
         ended: &Ended<'_>,
-        again: Option<&Recount>,
+        seen: &Seen,
         out: &LineSink<'_, O>,
         err: &mut LineSink<'_, W>,
     ) {
@@ -103,8 +124,9 @@ impl<'a> Talk<'a> {
             let done = Done {
                 printed: out.line(),
                 wanted: Wanted::new(self.words),
-                again,
+                again: seen.again.as_ref(),
                 is_device: ended.how.is_device,
+                csum_type: seen.csum_type,
             };
             behind(self.alloc, &self.asked, self.path.as_str(), &done)
         } else {
@@ -115,6 +137,7 @@ impl<'a> Talk<'a> {
                 verb: self.asked.verb,
                 is_root: ended.how.is_root,
                 words: self.words,
+                folder: seen.folder,
                 path: self.path.as_str(),
             };
             advice(self.alloc, &outcome)

@@ -25,12 +25,16 @@ const OPTION_FIRST: &str =
 
 const WITHOUT_DASHES: &str = "'{1}' is '--{1}' here.";
 
-/// The first thing that is wrong, if one is found.
-pub fn find(alloc: Global, words: &[String]) -> Result<Option<Finding>, AllocError> {
+/// The first thing that is wrong, if one is found. `folder` is a word that is the path of a folder, if one is known.
+pub fn find(
+    alloc: Global,
+    words: &[String],
+    folder: Option<&str>,
+) -> Result<Option<Finding>, AllocError> {
     match words {
         [] => Ok(Some(Finding::new(alloc, NO_COMMAND, "", "")?)),
         [first, rest @ ..] => match Verb::named(first.as_str()) {
-            Some(verb) => find_behind(alloc, verb, rest),
+            Some(verb) => find_behind(Scan::new(alloc, verb, folder), rest),
             None => Ok(Some(no_command(alloc, first.as_str())?)),
         },
     }
@@ -61,8 +65,7 @@ fn command_words() -> &'static [&'static str] {
 }
 
 /// What is wrong with the words behind a command.
-fn find_behind(alloc: Global, verb: Verb, words: &[String]) -> Result<Option<Finding>, AllocError> {
-    let mut scan = Scan::new(alloc, verb);
+fn find_behind(mut scan: Scan<'_>, words: &[String]) -> Result<Option<Finding>, AllocError> {
     let mut before = words.iter();
     let _ = before.next();
     for word in words {
@@ -97,9 +100,11 @@ enum Next {
 
 /// A look at the words behind a command, one after the other.
 #[derive(Drop)]
-struct Scan {
+struct Scan<'a> {
     alloc: Global,
     verb: Verb,
+    /// A word that is the path of a folder, if one is known.
+    folder: Option<&'a str>,
     next: Next,
     given: Vec<Choice>,
     /// The option whose value the last word was, if it was one.
@@ -156,11 +161,22 @@ const SWAPPED: &str =
 const NO_NUMBER_OF_FILES: &str =
     "'{1}' is no number of files, from 0 to 4000: for example 'reiserconv trial 1000 {2}'.";
 
-impl Scan {
-    fn new(alloc: Global, verb: Verb) -> Scan {
+/// The same three where the path is that of a folder.
+const NUMBER_FIRST_IN: &str =
+    "'{1}' is no number of files: the number stands before the path, and the path is that of a file, not of a folder, for example 'reiserconv trial 1000 {1}/scratch.img'.";
+
+const SWAPPED_IN: &str =
+    "'{1}' is no number of files: the number stands before the path, and the path is that of a file, not of a folder, so 'reiserconv trial {2} {1}/scratch.img'.";
+
+const NO_NUMBER_OF_FILES_IN: &str =
+    "'{1}' is no number of files, from 0 to 4000, and '{2}' is a folder: for example 'reiserconv trial 1000 {2}/scratch.img'.";
+
+impl<'a> Scan<'a> {
+    fn new(alloc: Global, verb: Verb, folder: Option<&'a str>) -> Scan<'a> {
         Scan {
             alloc,
             verb,
+            folder,
             next: Next::Any,
             given: Vec::new(alloc),
             valued: None,
@@ -263,12 +279,26 @@ impl Scan {
         } else if word.bytes().all(|byte| byte.is_ascii_digit()) || word.parse::<u64>().is_ok() {
             self.tell(OUT_OF_RANGE, word, "")
         } else if is_number_of_files(next) {
-            self.tell(SWAPPED, word, next)
+            self.tell_path(word, [SWAPPED, SWAPPED_IN], word, next)
         } else if next.is_empty() || next.starts_with('-') {
-            self.tell(NUMBER_FIRST, word, "")
+            self.tell_path(word, [NUMBER_FIRST, NUMBER_FIRST_IN], word, "")
         } else {
-            self.tell(NO_NUMBER_OF_FILES, word, next)
+            let sentences = [NO_NUMBER_OF_FILES, NO_NUMBER_OF_FILES_IN];
+            self.tell_path(next, sentences, word, next)
         }
+    }
+
+    /// Tells by the first of two sentences, or by the second where this path is that of a folder.
+    fn tell_path(
+        &self,
+        path: &str,
+        sentences: [&'static str; 2],
+        first: &str,
+        second: &str,
+    ) -> Result<Option<Finding>, AllocError> {
+        let [plain, in_folder] = sentences;
+        let is_folder = self.folder == Some(path);
+        self.tell(if is_folder { in_folder } else { plain }, first, second)
     }
 
     fn take_path(&mut self, word: &str) -> Result<Option<Finding>, AllocError> {

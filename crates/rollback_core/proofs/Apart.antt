@@ -1,6 +1,6 @@
 -- Where some blocks are not in use, no part of the volume lies there.
 use Rattle.rollback_core.proofs.Imports.{◌≡◌, inr, ℕ, ◌/◌, eqb, nat_lt, Bool, true, false, not, ◌&&◌, List, Contains, Option, Some, None, refl, ◌∙◌, ap, subst, if◌then◌else◌, option_and_then, and_parts, FS_TREE, Image, ImageFile, file_block, image_place, items_at, saved_image, tree_of, IsReadable, SavedImage, own_map, own_super, Super, TreeItem, MapRange, Tree, AreExtentsApart, IsVolumeApart, is_spare, from_filter, IsInUse, IsReservedFree, content_range, file_part, file_trees, item_range, extents_apart, file_tree_among, saved_tree_among, is_reserved, UnusedBlocksLieApart}
-use Rattle.btrfs_format.specs.declared.key.TheConstants.{EXTENT_DATA}
+use Rattle.btr_reader.specs.btrfs_format.declared.key.TheConstants.{EXTENT_DATA}
 use Rattle.btr_reader.specs.btr_reader_contents.Extents.{extents_of, is_extent_of}
 use Rattle.btr_reader.specs.btr_keys.FileExtent.{FileExtentValue, file_extent_of}
 use Rattle.btr_reader.specs.btr_reader_walk.Walks.{found}

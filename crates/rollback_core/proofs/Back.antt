@@ -7,9 +7,6 @@ other_than b = not (eqb b 16)
 other_true : (b : ℕ) → b ≢ 16 → other_than b ≡ true
 other_true b other = grind (arith, nat_tests, other)
 
-not_other : other_than 16 ≡ true → ⊥
-not_other h = true≢false (sym h)
-
 has_within : (set : List Bool) (b : ℕ) → has set b ≡ true → b < length set
 has_within [] b h = absurd (true≢false (sym h))
 has_within (x ∷ set) zero h = omega arith

@@ -45,9 +45,6 @@ module _ (disk : Image) (m : ImageMap) (used : List Bool) (on : IsMapOn disk m) 
   pub in_place : TellsMoved (map_place m) used None → HasPlaces disk
   in_place tells = record { volume = has; in_place = λ b old. sym (on.places b) ∙ tells b (subst (λ (u : List Bool). IsOld u b) (sym is) old) }
 
-  pub moved : (b : ℕ) → TellsMoved (map_place m) used (Some b) → RefusesRollback disk (answer.ImageMoved b)
-  moved b tells = (has, record { old = subst (λ (u : List Bool). IsOld u b) is tells.old; elsewhere = λ same. tells.elsewhere (on.places b ∙ same) })
-
 -- ---- the reserved blocks
 pub can_go_back : (disk : Image) → HasPlaces disk → IsReservedFree disk (superblock (image_blocks disk)).blocks → CanGoBack disk
 can_go_back disk has free = record {

@@ -19,13 +19,13 @@ pub use Rattle.btr_reader.specs.btr_reader_walk.Events.{TreeEvent, TreeItem, nod
 pub use Rattle.btr_reader.specs.btr_reader_walk.declared.map.MapRange.{MapRange}
 pub use Rattle.btr_reader.specs.btr_reader_walk.declared.tree.NodePointer.{NodePointer}
 pub use Rattle.btr_reader.specs.btr_reader_walk.declared.tree.Tree.{Tree}
+pub use Rattle.btr_reader.specs.btr_super.Rules.{bad_field, failing, feature_rules, field_rules, has_fields, is_super, super_refusals, unless_refused}
+unfoldable pub use Rattle.btr_reader.specs.btr_super.Rules.{super_of}
+pub use Rattle.btr_reader.specs.btr_super.Super.{mirror_bytes, super_in}
+pub use Rattle.btr_reader.specs.btr_super.declared.superblock.Super.{Super}
+pub use Rattle.btr_reader.specs.btrfs_format.declared.block.TheConstants.{FIRST_MIRROR, SECOND_MIRROR, SUPER_BLOCK, SUPER_INFO_OFFSET, SUPER_MAGIC_OFFSET}
+pub use Rattle.btr_reader.specs.btrfs_format.declared.object.TheConstants.{FS_TREE}
 pub use Rattle.btr_reader.specs.declared.image_map.ImageMap.{ImageMap}
-pub use Rattle.btr_super.specs.Rules.{bad_field, failing, feature_rules, field_rules, has_fields, is_super, super_refusals, unless_refused}
-unfoldable pub use Rattle.btr_super.specs.Rules.{super_of}
-pub use Rattle.btr_super.specs.Super.{mirror_bytes, super_in}
-pub use Rattle.btr_super.specs.declared.superblock.Super.{Super}
-pub use Rattle.btrfs_format.specs.declared.block.TheConstants.{FIRST_MIRROR, SECOND_MIRROR, SUPER_BLOCK, SUPER_INFO_OFFSET, SUPER_MAGIC_OFFSET}
-pub use Rattle.btrfs_format.specs.declared.object.TheConstants.{FS_TREE}
 pub use Rattle.convert_steps.proofs.command_answers.Handed.{btrfs_cause, handed_on, volume_cause}
 pub use Rattle.convert_steps.specs.Switch.{IsMirror}
 pub use Rattle.convert_steps.specs.command_answers.Answers.{of_btrfs, of_volume}

@@ -33,9 +33,6 @@ rewritten_only old =
     (record { more = wrote 16 (block_at (reads old) 16) true ∷ []; is = refl; each = ((refl, refl), tt) })
     (record { more = synced ∷ []; is = refl; each = tt })
 
-pub rewritten_reads : (old : History) → reads (rewritten old) ≡ reads old
-rewritten_reads old = rewrite_reads old (rewritten old) (rewritten_only old)
-
 module _ (P : ℕ → List ℕ → Type 0) (old new : History) where
   -- all that is written
   pub first_only : RewritesFirst P old new → WritesOnly (λ b bytes. IsRewrite (reads old) b bytes ⊎ P b bytes) old new
@@ -56,20 +53,6 @@ module _ (P : ℕ → List ℕ → Type 0) (old new : History) where
   -- block 16 stands again, and these writes came after it
   pub first_then : (mid : History) → mid ≡ rewritten old → WritesOnly P mid new → RewritesFirst P old new
   first_then mid is rest = inr (subst (λ (h : History). WritesOnly P h new) is rest)
-
--- ---- what is to be written
-
--- where a copy is to be written the disk has block 16
-some_room : (size place : ℕ) (found : Option Block) → 16 < place → (is_some found ≡ true → place < size) → writes_of found ≢ 0 → 16 < size
-some_room size place None low room some = absurd (some refl)
-some_room size place (Some block) low room some = (let fits = room refl in omega (arith, fits, low))
-
-pub super_room : (size : ℕ) (m : Mending) → HasMendingRoom size m → writes_of m.first + writes_of m.second ≢ 0 → 16 < size
-super_room size m room some = by (writes_of m.first) refl
-  where
-    by : (n : ℕ) → writes_of m.first ≡ n → 16 < size
-    by zero none = some_room size SECOND_MIRROR m.second (omega arith) room.second (λ no. some (omega (arith, none, no)))
-    by (suc n) one = some_room size FIRST_MIRROR m.first (omega arith) room.first (λ no. absurd (omega (arith, one, no)))
 
 -- ---- the whole of `recover`
 

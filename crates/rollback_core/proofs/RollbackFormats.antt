@@ -4,26 +4,6 @@ use Rattle.std.specs.Prelude.{nat_le}
 use Rattle.reiser_bitmap.specs.vol_block.declared.format.Format.TheVariants as formats
 use Rattle.rollback_core.proofs.RecoveryFormats.{has_format}
 
-chosen_long : (short : Bool) (f : Format) → short ≡ false → cond short formats.Neither f ≡ f
-chosen_long false f long = refl
-chosen_long true f long = absurd cc
-
-chosen_short : (short : Bool) (f : Format) → short ≡ true → cond short formats.Neither f ≡ formats.Neither
-chosen_short true f is = refl
-chosen_short false f is = absurd cc
-
--- a disk that has block 16 has the format of that block
-pub format_long : (disk : Image) (f : Format) → 16 < length disk → format (block_at disk SUPER_BLOCK) ≡ f → format_in disk ≡ f
-format_long disk f long is =
-    let enough : nat_le (length disk) 16 ≡ false = grind (arith, nat_tests, long) in
-    chosen_long (nat_le (length disk) 16) (format (block_at disk SUPER_BLOCK)) enough ∙ is
-
--- and a shorter one has none
-pub format_short : (disk : Image) → length disk ≤ 16 → format_in disk ≡ formats.Neither
-format_short disk short =
-    let is : nat_le (length disk) 16 ≡ true = grind (arith, nat_tests, short) in
-    chosen_short (nat_le (length disk) 16) (format (block_at disk SUPER_BLOCK)) is
-
 opening_refused : (disk : Image) (r : BtrRefusal) → super_on disk ≡ Err r → opening_refusals disk ≡ r ∷ []
 unfolding opening_refusals
 opening_refused disk r is = ap (λ (read : Result Super BtrRefusal). refusals_after disk read) is

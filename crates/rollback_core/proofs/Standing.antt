@@ -94,9 +94,6 @@ module _ (place : ℕ) (block : Block) (h₀ h₁ : History) {T E : Type 0} (res
   pub some_only : WritesBlock h₀ place block.bytes result h₁ → WritesOnly (IsGivenAt place (Some block)) h₀ h₁
   some_only did = write_only (IsGivenAt place (Some block)) h₀ h₁ place block.bytes result (refl, refl) did
 
-  pub some_stands : place < length (reads h₀) → WritesBlock h₀ place block.bytes result h₁ → OnOk result (block_at (reads h₁) place ≡ block.bytes)
-  some_stands long did = set_stands result (reads h₀) (reads h₁) place block.bytes long (write_reads h₀ h₁ place block.bytes result did)
-
 -- ---- both
 module _ (m : Mending) where
   pub first_part : (h₀ h₁ : History) → WritesOnly (IsGivenAt FIRST_MIRROR m.first) h₀ h₁ → WritesOnly (IsGiven m) h₀ h₁

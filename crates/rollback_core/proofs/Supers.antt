@@ -2,7 +2,7 @@
 use Rattle.rollback_core.proofs.Imports.{◌≡◌, ℕ, ◌*◌, ◌/◌, ◌≤◌, eqb, nat_le, Bool, true, false, List, [], ◌∷◌, Result, Ok, refl, subst, arith, is_some, and_parts, nat_tests, SUPER_BLOCK, SUPER_INFO_OFFSET, BtrRefusal, BadBtrfs, Unsupported, Super, super_in, bad_field, is_super, has_fields, field_rules, feature_rules, failing, unless_refused, super_refusals, super_of}
 use Rattle.reiser_bitmap.specs.refusals.declared.rule.BtrRule.TheVariants.{SuperCsum}
 use Rattle.reiser_bitmap.specs.refusals.declared.rule.Feature.TheVariants.{ChecksumType}
-use Rattle.btr_super.specs.Sums.{known_kind, csum_type_of, has_sum}
+use Rattle.btr_reader.specs.btr_super.Sums.{known_kind, csum_type_of, has_sum}
 
 rule_holds : (t : Bool) (r : BtrRefusal) (rules : List (Bool × BtrRefusal)) → failing ((t, r) ∷ rules) ≡ [] → (t ≡ true) × (failing rules ≡ [])
 rule_holds true r rules h = (refl, h)

@@ -1,9 +1,9 @@
 -- What is to stand at the places of the copies of a Btrfs superblock, and what is written there.
 use Rattle.std.specs.Prelude.{◌≡◌, ℕ, ◌+◌, ◌/◌, nat_lt, Bool, ◌&&◌, not, List, bytes_eq, codes, Option, Some, None, is_some, if◌then◌else◌}
-use Rattle.btrfs_format.specs.declared.block.TheConstants.{SUPER_BLOCK, SUPER_MAGIC_OFFSET}
+use Rattle.btr_reader.specs.btrfs_format.declared.block.TheConstants.{SUPER_BLOCK, SUPER_MAGIC_OFFSET}
 use Rattle.reiser_bitmap.specs.outside.Format.{format_in}
 use Rattle.reiser_bitmap.specs.outside.History.{Image, block_at}
-use Rattle.btr_super.specs.Super.{mirror_bytes, super_in}
+use Rattle.btr_reader.specs.btr_super.Super.{mirror_bytes, super_in}
 use Rattle.reiser_bitmap.specs.Bits.{has}
 use Rattle.reiser_volume.specs.Volume.{superblock, used_of}
 use Rattle.reiser_bitmap.specs.vol_block.Format.{has_bytes_at}

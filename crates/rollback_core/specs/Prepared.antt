@@ -1,7 +1,7 @@
 -- What was read and decided before the first write.
 use Rattle.std.specs.Prelude.{◌≡◌, ◌==◌, ℕ, not, All, List, filter, map}
 use Rattle.std.specs.Option.{unwrap_or}
-use Rattle.btrfs_format.specs.declared.block.TheConstants.{FIRST_MIRROR, SECOND_MIRROR, SUPER_BLOCK}
+use Rattle.btr_reader.specs.btrfs_format.declared.block.TheConstants.{FIRST_MIRROR, SECOND_MIRROR, SUPER_BLOCK}
 use Rattle.reiser_bitmap.specs.outside.Format.{format_in}
 use Rattle.reiser_bitmap.specs.outside.History.{Image, block_at}
 use Rattle.convert_steps.specs.command_answers.declared.answer.Answer.{Answer}

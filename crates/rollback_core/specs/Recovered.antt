@@ -1,11 +1,11 @@
 -- What `recover` makes of a disk, and what a crash of it leaves.
 use Rattle.std.specs.Prelude.{◌≡◌, ◌⊎◌, ℕ, true, List, [], ◌∷◌, length, filter, Ok}
 use Rattle.first_sync.specs.Synced.{synced_now}
-use Rattle.btrfs_format.specs.declared.block.TheConstants.{FIRST_MIRROR, SECOND_MIRROR, SUPER_BLOCK}
+use Rattle.btr_reader.specs.btrfs_format.declared.block.TheConstants.{FIRST_MIRROR, SECOND_MIRROR, SUPER_BLOCK}
 use Rattle.reiser_bitmap.specs.outside.Format.{format_in}
 use Rattle.reiser_bitmap.specs.outside.History.{History, Image, IsBlock, WritesOnly, after, block_at, reads, wrote}
-use Rattle.btr_super.specs.Rules.{super_of}
-use Rattle.btr_super.specs.declared.superblock.Super.{Super}
+use Rattle.btr_reader.specs.btr_super.Rules.{super_of}
+use Rattle.btr_reader.specs.btr_super.declared.superblock.Super.{Super}
 use Rattle.convert_steps.specs.Switch.{IsMirror}
 use Rattle.reiser_volume.specs.Volume.{IsFrontAccepted}
 use Rattle.reiser_bitmap.specs.vol_block.declared.format.Format.{Format}

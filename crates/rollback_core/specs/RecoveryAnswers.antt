@@ -1,13 +1,13 @@
 -- What `recover` may answer.
 use Rattle.std.specs.Prelude.{◌≡◌, ◌≢◌, length, Err}
-use Rattle.btrfs_format.specs.declared.block.TheConstants.{SUPER_BLOCK}
+use Rattle.btr_reader.specs.btrfs_format.declared.block.TheConstants.{SUPER_BLOCK}
 use Rattle.reiser_bitmap.specs.outside.Format.{format_in}
 use Rattle.reiser_bitmap.specs.outside.History.{Image, block_at}
 use Rattle.convert_steps.specs.command_answers.declared.answer.Answer.{Answer}
 use Rattle.convert_steps.specs.command_answers.declared.answer.Answer.TheVariants as answer
 use Rattle.reiser_bitmap.specs.refusals.declared.refusal.VolumeRefusal.{VolumeRefusal}
 use Rattle.reiser_bitmap.specs.refusals.declared.refusal.VolumeRefusal.TheVariants.{NotVolume}
-use Rattle.btr_super.specs.Rules.{NamesNoLog, super_of}
+use Rattle.btr_reader.specs.btr_super.Rules.{NamesNoLog, super_of}
 use Rattle.reiser_volume.specs.Front.{NamesFrontRule}
 use Rattle.reiser_volume.specs.Volume.{IsFrontRefusal}
 use Rattle.reiser_bitmap.specs.vol_block.declared.format.Format.{Format}

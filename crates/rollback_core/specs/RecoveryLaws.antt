@@ -1,6 +1,6 @@
 -- What a recovery and its crashes keep.
 use Rattle.std.specs.Prelude.{◌≡◌, ◌≢◌, ◌⊎◌, ◌↔◌, ℕ, ◌+◌, ◌<◌, false, List, length, codes, Contains}
-use Rattle.btrfs_format.specs.declared.block.TheConstants.{SUPER_BLOCK, SUPER_MAGIC_OFFSET}
+use Rattle.btr_reader.specs.btrfs_format.declared.block.TheConstants.{SUPER_BLOCK, SUPER_MAGIC_OFFSET}
 use Rattle.reiser_bitmap.specs.outside.Format.{format_in}
 use Rattle.reiser_bitmap.specs.outside.History.{Image, block_at}
 use Rattle.convert_steps.specs.command_answers.declared.answer.Answer.{Answer}

@@ -3,7 +3,7 @@ ghost use Rattle.std.specs.Prelude.{◌≡◌};
 ghost use Rattle.reiser_bitmap.specs.refusals.declared.refusal.VolumeRefusal.TheVariants.{Damaged};
 ghost use Rattle.rollback_core.specs.Prepared.{by_image};
 
-use btrfs_format::block::SUPER_BLOCK;
+use btr_reader::btrfs_format::block::SUPER_BLOCK;
 use convert_steps::Answer;
 use reiser_bitmap::{Rule, VolAnswer, VolumeRefusal};
 

@@ -11,8 +11,8 @@ ghost use Rattle.rollback_core.specs.Mending.{Gives, copied, wiped};
 ghost use Rattle.rollback_core.specs.Planned.{HasMendingRoom, IsPlanned};
 
 use crate::wiping::is_wiped;
-use btr_super::{Super, mirror};
-use btrfs_format::block::{FIRST_MIRROR, SECOND_MIRROR, SUPER_BLOCK};
+use btr_reader::btr_super::{Super, mirror};
+use btr_reader::btrfs_format::block::{FIRST_MIRROR, SECOND_MIRROR, SUPER_BLOCK};
 use convert_steps::{Answer, FormatFound, find_format};
 use reiser_bitmap::{Bitmap, Block, BlockNo, BlockSource, Fault, Format, VolumeRefusal};
 use reiser_volume::Front;

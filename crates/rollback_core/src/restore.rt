@@ -7,7 +7,7 @@ ghost use Rattle.reiser_bitmap.specs.vol_block.Volume.{zeros};
 ghost use Rattle.rollback_core.specs.Writing.{AreWritesApart, AreWiped, AreWrittenBack, GoApart, HasRoom, IsWayBackPart, IsHalfway, IsSavedPlace, IsTurned, IsUnturned, IsWiping};
 
 use crate::way::{Saved, WayBack};
-use btrfs_format::block::{FIRST_MIRROR, SECOND_MIRROR};
+use btr_reader::btrfs_format::block::{FIRST_MIRROR, SECOND_MIRROR};
 use reiser_bitmap::{Access, Block, BlockNo, Disk, Fault};
 use super_turn::to_reiser;
 

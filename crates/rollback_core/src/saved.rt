@@ -8,7 +8,7 @@ ghost use Rattle.rollback_core.specs.Prepared.{AreSaved};
 ghost use Rattle.rollback_core.specs.Writing.{GoApart};
 
 use crate::Saved;
-use btrfs_format::block::SUPER_BLOCK;
+use btr_reader::btrfs_format::block::SUPER_BLOCK;
 use reiser_bitmap::{Bitmap, Block, BlockNo, BlockSource, Fault, Memory, VolAnswer, is_reserved};
 use std::alloc::Global;
 

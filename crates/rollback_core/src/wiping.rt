@@ -6,7 +6,7 @@ ghost use Rattle.reiser_bitmap.specs.vol_block.Format.{has_bytes_at};
 ghost use Rattle.reiser_bitmap.specs.Bits.{has};
 
 use crate::saved::read_block;
-use btrfs_format::block::{FIRST_MIRROR, MAGIC, SECOND_MIRROR, SUPER_MAGIC_OFFSET};
+use btr_reader::btrfs_format::block::{FIRST_MIRROR, MAGIC, SECOND_MIRROR, SUPER_MAGIC_OFFSET};
 use reiser_bitmap::{Bitmap, BlockNo, BlockSource, Fault, has_magic};
 
 /// Whether a block of a disk is to become zeros: a copy has its place there on the volume with these used blocks, which has it without

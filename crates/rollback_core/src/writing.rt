@@ -8,7 +8,7 @@ ghost use Rattle.rollback_core.specs.Recovered.{IsRewrite, RewritesFirst, rewrit
 
 use crate::mending::Mending;
 use crate::saved::read_block;
-use btrfs_format::block::{FIRST_MIRROR, SECOND_MIRROR, SUPER_BLOCK};
+use btr_reader::btrfs_format::block::{FIRST_MIRROR, SECOND_MIRROR, SUPER_BLOCK};
 use reiser_bitmap::{Access, Block, BlockNo, Disk, Fault};
 
 /// Writes what is to be written, where that is anything: first block 16 again, as it stands, and a sync; then the blocks of copies, and a

@@ -9,13 +9,13 @@ pub use Rattle.std.specs.Ordering.{is_le, is_lt}
 pub use Rattle.btr_reader.specs.btr_reader_names.Rules.{AreIn, IsOpen, KeepsNames, bad_location, directory_twice, root_named, twice}
 pub use Rattle.btr_reader.specs.btr_reader_names.Steps.{inode_node, link_of, node_of_target, step_of, target_node, tree_node}
 pub use Rattle.btr_reader.specs.btr_reader_walk.Events.{TreeItem}
+pub use Rattle.btr_reader.specs.btrfs_format.declared.object.TheConstants.{FIRST_FREE_OBJECTID, FS_TREE}
 pub use Rattle.btr_reader.specs.fs_rows.Kinds.{is_directory}
 pub use Rattle.btr_reader.specs.fs_rows.Rows.{AscendsByPath, NameList, WholeRow, is_same_path, name_count, path_cmp}
 pub use Rattle.btr_reader.specs.fs_rows.declared.row.Kind.{Kind}
 pub use Rattle.btr_reader.specs.fs_rows.declared.row.Kind.TheVariants.{Block, Character, Directory, Fifo, File, Socket, Subvolume, Symlink}
 pub use Rattle.btr_reader.specs.refusals.declared.refusal.BtrRefusal.TheVariants.{BadBtrfs}
 pub use Rattle.btr_reader.specs.refusals.declared.rule.BtrRule.TheVariants.{Body, DirTwice, NameForm, NoInode}
-pub use Rattle.btrfs_format.specs.declared.object.TheConstants.{FIRST_FREE_OBJECTID, FS_TREE}
 pub use Rattle.fs_paths.proofs.Lists.{from_filter, from_map, in_filter, in_map}
 pub use Rattle.fs_paths.specs.Links.{AreNamedOnce, Leads, same_node}
 pub use Rattle.fs_paths.specs.Paths.{ArePaths, first_path}

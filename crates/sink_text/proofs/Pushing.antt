@@ -13,9 +13,6 @@ part_of_more a b k =
     let short : m ≤ length a = omega arith in
     (m, sym (take-append-le m a b short ∙ take_min k a))
 
-pub pushed_nothing : (t w : List ℕ) → Pushed t w [] t w
-pushed_nothing t w = record { grows = omega arith; all = grind (arith, common_steps) }
-
 pub pushed_more : (t w a t1 w1 b t2 w2 : List ℕ) → Pushed t w a t1 w1 → Pushed t1 w1 b t2 w2 → Pushed t w (a ++ b) t2 w2
 pushed_more t w a t1 w1 b t2 w2 first next = record {
   grows = omega (arith, first.grows, next.grows);

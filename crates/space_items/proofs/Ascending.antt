@@ -61,13 +61,6 @@ upper_at owner level skip slots (n ∷ sizes) =
 pub tree_at : (owner nodesize : ℕ) (lengths slots : List ℕ) → addresses (nodes_of_tree owner nodesize lengths slots) ≡ take (tree_nodes nodesize lengths) slots
 tree_at owner nodesize lengths slots = upper_at owner 0 0 slots (tree_levels nodesize (length (packed_leaves nodesize lengths)))
 
--- The nodes of a tree behind those of others, where all of them lie at the first slots.
-pub tree_behind : (owner nodesize n : ℕ) (lengths slots : List ℕ) (old : List TreeNode) → addresses old ≡ take n slots
-    → addresses (old ++ nodes_of_tree owner nodesize lengths (drop n slots)) ≡ take (n + tree_nodes nodesize lengths) slots
-tree_behind owner nodesize n lengths slots old at =
-    map-append (λ (m : TreeNode). m.address) old (nodes_of_tree owner nodesize lengths (drop n slots))
-    ∙ (ap₂ (λ xs ys. xs ++ ys) at (tree_at owner nodesize lengths (drop n slots)) ∙ sym (take-add n (tree_nodes nodesize lengths) slots))
-
 -- nodes at the first slots
 pub nodes_at_slots : (nodes : List TreeNode) (slots : List ℕ) (n : ℕ) → addresses nodes ≡ take n slots → Ascend slots → length slots < 2 ^ 44 → AreNodes nodes
 nodes_at_slots nodes slots n at up few = record {

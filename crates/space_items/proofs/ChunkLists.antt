@@ -33,12 +33,6 @@ chunk_ends plan blocks cs are k d h =
     let is : IsChunk (role_of plan blocks) (usable_end blocks) (get_or cs k d) = are.each k d h in
     omega (arith, is.ends)
 
-pub chunk_ends_at : (plan : Plan) (blocks : ℕ) (cs : List PlannedChunk) (i : ℕ) (c : PlannedChunk) → AreChunks plan blocks cs → slice_get cs i ≡ Some c → c.start + c.length ≤ blocks
-chunk_ends_at plan blocks cs i c are is =
-    let end : (get_or cs i c).start + (get_or cs i c).length ≤ blocks = chunk_ends plan blocks cs are i c (slice_get_within cs i c is) in
-    let at : (get_or cs i c).start + (get_or cs i c).length ≡ c.start + c.length = ap (λ (d : PlannedChunk). d.start + d.length) (get_or_from_slice_get cs i c c is) in
-    omega (arith, end, at)
-
 -- and together they have no more blocks
 pub chunk_blocks_fit : (plan : Plan) (blocks : ℕ) (cs : List PlannedChunk) → AreChunks plan blocks cs → sum_by (λ c. c.length) cs ≤ blocks
 chunk_blocks_fit plan blocks cs are = omega (arith, blocks_between 0 blocks cs (omega arith) are.ascending (λ k d h. omega arith) (chunk_ends plan blocks cs are))

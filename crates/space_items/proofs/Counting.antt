@@ -47,9 +47,6 @@ module _ {A : Type 0} (place amount : A → ℕ) where
         before = All-more (λ y. place y < end) xs n x within lie.before (subst (λ y. place y < end) (sym (get_or_from_slice_get xs n x x there)) here);
       }
 
-  pub lies_none : (end : ℕ) (xs : List A) → LieBefore place end xs 0
-  lies_none end xs = record { within = omega arith; before = λ k d inside. absurd (omega arith) }
-
   pub lies_weaker : (low high : ℕ) (xs : List A) (n : ℕ) → LieBefore place low xs n → low ≤ high → LieBefore place high xs n
   lies_weaker low high xs n lie h = record { within = lie.within; before = All-weaker (λ y. place y < low) (λ y. place y < high) (λ y b. omega (arith, b, h)) (take n xs) lie.before }
 
@@ -99,9 +96,6 @@ module _ {A : Type 0} (place amount : A → ℕ) where
     where
       test : A → Bool
       test = λ y. nat_le low (place y) && nat_lt (place y) high
-
-  pub counted_all : (low high : ℕ) (xs : List A) (n : ℕ) → length xs ≤ n → counted low high (take n xs) ≡ counted low high xs
-  counted_all low high xs n h = ap (counted low high) (take_all n xs h)
 
   -- an element behind the second place, and all behind it
   pub counted_stop : (low high : ℕ) (xs : List A) (n : ℕ) (x : A) → slice_get xs n ≡ Some x → high ≤ place x → AllPairs (λ a b. place a ≤ place b) xs → counted low high (take n xs) ≡ counted low high xs

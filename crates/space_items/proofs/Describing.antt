@@ -52,9 +52,6 @@ module _ (chunks : List PlannedChunk) (pieces : List Piece) (others : List TreeN
         length-take x slots,
       )
 
-  pub counting_begins : IsCounting chunks pieces others slots nodesize 0
-  counting_begins = record { rising = omega arith; least = λ y e. omega arith; bounded = omega arith }
-
   module _ (count next : ℕ) (so_far : IsCounting chunks pieces others slots nodesize count) (is : next ≡ count_with count) where
     pub counting_goes_on : next ≤ node_bound (bytes_of (own_lengths chunks pieces others slots nodesize count)) nodesize → IsCounting chunks pieces others slots nodesize next
     counting_goes_on low =

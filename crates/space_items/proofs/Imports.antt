@@ -18,6 +18,9 @@ pub use Rattle.std.specs.declared.cmp.Ordering.{Ordering}
 pub use Rattle.std.specs.declared.cmp.Ordering.TheVariants.{Equal, Greater, Less}
 pub use Rattle.btr_space_items.specs.Device.{device_bytes}
 unfoldable pub use Rattle.btr_space_items.specs.Device.{device_layout}
+pub use Rattle.btr_space_items.specs.btrfs_format.declared.key.TheConstants.{BLOCK_GROUP_ITEM, DEV_ITEM, EXTENT_CSUM, METADATA_ITEM, ROOT_ITEM}
+pub use Rattle.btr_space_items.specs.btrfs_format.declared.object.TheConstants.{DEV_ITEMS_OBJECTID, EXTENT_CSUM_OBJECTID, EXTENT_TREE, FS_TREE}
+pub use Rattle.btr_space_items.specs.btrfs_format.declared.size.TheConstants.{ITEM_SIZE, METADATA_ITEM_SIZE}
 pub use Rattle.btr_tree.specs.Counting.{Counted, Tally, bytes_of, leaf_bound, node_bound, tree_nodes}
 pub use Rattle.btr_tree.specs.Packing.{capacity, fan_out, level_sizes, packed_leaves, tree_levels, weight}
 pub use Rattle.btr_tree.specs.Roots.{lengths_of, level_pointers}
@@ -33,9 +36,6 @@ pub use Rattle.btr_tree.specs.csum_kinds.declared.kind.SumKind.{SumKind}
 pub use Rattle.btr_tree.specs.csum_kinds.declared.kind.SumKind.TheVariants.{Crc32c, Sha256}
 pub use Rattle.btr_tree.specs.outside.History.{Image, OverTold, block_at}
 pub use Rattle.btr_tree.specs.vol_block.declared.ids.Ids.{Ids}
-pub use Rattle.btrfs_format.specs.declared.key.TheConstants.{BLOCK_GROUP_ITEM, DEV_ITEM, EXTENT_CSUM, METADATA_ITEM, ROOT_ITEM}
-pub use Rattle.btrfs_format.specs.declared.object.TheConstants.{DEV_ITEMS_OBJECTID, EXTENT_CSUM_OBJECTID, EXTENT_TREE, FS_TREE}
-pub use Rattle.btrfs_format.specs.declared.size.TheConstants.{ITEM_SIZE, METADATA_ITEM_SIZE}
 pub use Rattle.space_items.specs.Chunks.{chunk_item, chunk_items, dev_extent_item, device_body, device_items}
 pub use Rattle.space_items.specs.Extents.{bytes_of_nodes, bytes_of_pieces, data_ref, extent_items, group_item, image_refs, is_behind, node_item, piece_item, piece_refs, put_ref, used_in}
 pub use Rattle.space_items.specs.Laws.{AreIds, ChunkItemsFit, ChunksAreOne, RootItemsFit}

@@ -50,13 +50,6 @@ pub record IsAdding (owner first : ℕ) (slots sizes : List ℕ) (old nodes : Li
   pub rest : nodes ++ upper owner (drop first slots) level (at - first) (drop level sizes) ≡ old ++ upper owner (drop first slots) 0 0 sizes
 
 module _ (owner first : ℕ) (slots sizes : List ℕ) (old : List TreeNode) where
-  pub adding_begins : first + sum sizes ≤ length slots → IsAdding owner first slots sizes old old 0 first
-  adding_begins enough = record {
-    low = omega arith;
-    enough = enough;
-    rest = let none : first - first ≡ 0 = omega arith in ap (λ (k : ℕ). old ++ upper owner (drop first slots) 0 k sizes) none;
-  }
-
   module _ (nodes : List TreeNode) (level at : ℕ) (so_far : IsAdding owner first slots sizes old nodes level at) where
     pub adding_ends : length sizes ≤ level → nodes ≡ old ++ upper owner (drop first slots) 0 0 sizes
     adding_ends past =

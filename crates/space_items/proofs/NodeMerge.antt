@@ -43,9 +43,6 @@ module _ (nodes others all : List TreeNode) (i j : ℕ) (so_far : IsMerging node
     rest = step y (merged_nodes (drop i nodes) (drop (j + 1) others)) (merge-greater node_cmp x (drop (i + 1) nodes) y (drop (j + 1) others) (nat_greater x.address y.address less) ∙ ap (λ zs. y ∷ merged_nodes zs (drop (j + 1) others)) (sym left));
   }
 
-pub merging_begins : (nodes others all : List TreeNode) → all ≡ [] → IsMerging nodes others all 0 0
-merging_begins nodes others all none = record { low = omega arith; high = omega arith; rest = ap (λ zs. zs ++ merged_nodes nodes others) none }
-
 pub first_ends : (nodes others all : List TreeNode) (i j : ℕ) → IsMerging nodes others all i j → length nodes ≤ i → (all ++ drop i nodes) ++ drop j others ≡ merged_nodes nodes others
 first_ends nodes others all i j so_far past =
     let none : drop i nodes ≡ [] = drop_all i nodes past in

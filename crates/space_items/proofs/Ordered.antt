@@ -1,6 +1,6 @@
 -- The items of the small lists ascend, and are short.
 use Rattle.space_items.proofs.Imports.{◌≡◌, ◌≤◌, ◌<◌, ℕ, zero, suc, ◌+◌, ◌*◌, true, List, [], ◌∷◌, ◌++◌, length, length-append, map, get_or, refl, ap, arith, eqb, cond, Bool, false, All, AllPairs, codes, IsTotalOrder, is_lt, nat_cmp, ordering_then, Ordering, Less, Equal, Greater, and_parts, and_from, false≢true, on_total, All-cons, All-nil, AllPairs-cons, DEV_ITEM, ROOT_ITEM, DEV_ITEMS_OBJECTID, Ids, key_cmp, key_layout, IsBefore, make_key, device_layout, device_bytes, Item, keys_of, Ascends, ascends, is_before, PlannedChunk, Plan, IsChunk, AreChunks, role_of, usable_end, merged, item_cmp, TreeRoot, chunk_item, chunk_items, device_body, dev_extent_item, device_items, tree_root_item, other_root_items, saved_ref, default_entry, tree_uuid, zero_uuid, AreIds, ChunkItemsFit, RootItemsFit}
-use Rattle.vol_block.specs.declared.mode.TheConstants.{DIRECTORY_MODE}
+use Rattle.btr_tree.specs.vol_block.declared.mode.TheConstants.{DIRECTORY_MODE}
 use Rattle.btr_tree.specs.btr_keys.DirEntry.{dir_entry_head}
 use Rattle.btr_tree.specs.btr_keys.InodeRef.{inode_ref_bytes, inode_ref_head}
 use Rattle.btr_tree.specs.btr_keys.Stamp.{stamp_layout}

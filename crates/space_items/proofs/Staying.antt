@@ -29,9 +29,6 @@ module _ (chunks : List PlannedChunk) (pieces : List Piece) where
       (all_map (λ t. shape_cmp (group_shape c) t ≡ shape_cmp (bare (group_shape c)) (bare t)) piece_shape (λ p. refl) pieces))
       chunks
 
-  bare_node : ℕ → Shape
-  bare_node a = (make_key a METADATA_ITEM 0, METADATA_ITEM_SIZE)
-
   abbrev bare_shapes : List ℕ → List Shape
   bare_shapes places = merge shape_cmp (map bare gs) (merge shape_cmp (map (λ a. (make_key a METADATA_ITEM 0, METADATA_ITEM_SIZE)) places) (map bare ps))
 

@@ -1,9 +1,9 @@
 -- The items of the chunk tree and of the device tree, as the Btrfs on-disk format documentation has them.
 use Rattle.std.specs.Prelude.{ℕ, ◌*◌, List, ◌∷◌, map}
 use Rattle.std.specs.List.{sum_by}
-use Rattle.btrfs_format.specs.declared.flag.TheConstants.{BLOCK_GROUP_DATA, BLOCK_GROUP_METADATA, BLOCK_GROUP_SYSTEM}
-use Rattle.btrfs_format.specs.declared.key.TheConstants.{CHUNK_ITEM, DEV_EXTENT, DEV_ITEM}
-use Rattle.btrfs_format.specs.declared.object.TheConstants.{CHUNK_TREE, DEV_ITEMS_OBJECTID, EXTENT_TREE, FIRST_CHUNK_TREE_OBJECTID}
+use Rattle.btr_space_items.specs.btrfs_format.declared.flag.TheConstants.{BLOCK_GROUP_DATA, BLOCK_GROUP_METADATA, BLOCK_GROUP_SYSTEM}
+use Rattle.btr_space_items.specs.btrfs_format.declared.key.TheConstants.{CHUNK_ITEM, DEV_EXTENT, DEV_ITEM}
+use Rattle.btr_space_items.specs.btrfs_format.declared.object.TheConstants.{CHUNK_TREE, DEV_ITEMS_OBJECTID, EXTENT_TREE, FIRST_CHUNK_TREE_OBJECTID}
 use Rattle.btr_tree.specs.vol_block.declared.ids.Ids.{Ids}
 use Rattle.btr_tree.specs.btr_keys.Key.{make_key}
 use Rattle.btr_tree.specs.btr_node.Leaf.{Item}

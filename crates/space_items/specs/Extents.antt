@@ -1,9 +1,9 @@
 -- The extent tree: which ranges of the volume are taken, by what, and how much of each chunk.
 use Rattle.std.specs.Prelude.{ℕ, ◌+◌, ◌*◌, ◌==◌, nat_le, nat_lt, Bool, ◌&&◌, ◌||◌, if◌then◌else◌, Option, Some, None, List, [], ◌∷◌, map, filter}
 use Rattle.std.specs.List.{sum_by}
-use Rattle.btrfs_format.specs.declared.flag.TheConstants.{EXTENT_FLAG_DATA, EXTENT_FLAG_TREE_BLOCK}
-use Rattle.btrfs_format.specs.declared.key.TheConstants.{BLOCK_GROUP_ITEM, EXTENT_ITEM, METADATA_ITEM}
-use Rattle.btrfs_format.specs.declared.object.TheConstants.{CONV_IMAGE_SUBVOL, FIRST_CHUNK_TREE_OBJECTID, FS_TREE}
+use Rattle.btr_space_items.specs.btrfs_format.declared.flag.TheConstants.{EXTENT_FLAG_DATA, EXTENT_FLAG_TREE_BLOCK}
+use Rattle.btr_space_items.specs.btrfs_format.declared.key.TheConstants.{BLOCK_GROUP_ITEM, EXTENT_ITEM, METADATA_ITEM}
+use Rattle.btr_space_items.specs.btrfs_format.declared.object.TheConstants.{CONV_IMAGE_SUBVOL, FIRST_CHUNK_TREE_OBJECTID, FS_TREE}
 use Rattle.btr_tree.specs.castagnoli.Castagnoli.{data_ref_hash}
 use Rattle.btr_tree.specs.btr_keys.Key.{make_key}
 use Rattle.btr_tree.specs.btr_node.Leaf.{Item}

@@ -1,6 +1,6 @@
 -- How many nodes the extent tree has. It has an extent for each of them, so their number describes itself.
 use Rattle.std.specs.Prelude.{◌≡◌, ◌≢◌, ◌<◌, ℕ, ◌+◌, ◌*◌, List, length, take}
-use Rattle.btrfs_format.specs.declared.object.TheConstants.{EXTENT_TREE}
+use Rattle.btr_space_items.specs.btrfs_format.declared.object.TheConstants.{EXTENT_TREE}
 use Rattle.unit_plan.specs.declared.item_bytes.TheConstants.{BLOCK_GROUP_BYTES, EXTENT_BYTES, NODE_BYTES}
 use Rattle.btr_tree.specs.Counting.{tree_nodes, node_bound}
 use Rattle.btr_tree.specs.Roots.{lengths_of}

@@ -1,9 +1,9 @@
 -- The root tree: where each tree begins, and the subvolume of the saved image.
 use Rattle.std.specs.Prelude.{ℕ, ◌*◌, ◌^◌, ◌-◌, ◌==◌, ◌≤◌, ◌<◌, nat_le, Bool, ◌||◌, if◌then◌else◌, List, [], ◌∷◌, length, map, codes, replicate, slice_index_or}
-use Rattle.btrfs_format.specs.declared.flag.TheConstants.{FT_DIR}
-use Rattle.btrfs_format.specs.declared.key.TheConstants.{DIR_ITEM, ROOT_BACKREF, ROOT_ITEM, ROOT_REF}
-use Rattle.btrfs_format.specs.declared.object.TheConstants.{CONV_IMAGE_SUBVOL, FIRST_FREE_OBJECTID, FS_TREE, ROOT_TREE_DIR_OBJECTID}
-use Rattle.vol_block.specs.declared.mode.TheConstants.{DIRECTORY_MODE}
+use Rattle.btr_space_items.specs.btrfs_format.declared.flag.TheConstants.{FT_DIR}
+use Rattle.btr_space_items.specs.btrfs_format.declared.key.TheConstants.{DIR_ITEM, ROOT_BACKREF, ROOT_ITEM, ROOT_REF}
+use Rattle.btr_space_items.specs.btrfs_format.declared.object.TheConstants.{CONV_IMAGE_SUBVOL, FIRST_FREE_OBJECTID, FS_TREE, ROOT_TREE_DIR_OBJECTID}
+use Rattle.btr_tree.specs.vol_block.declared.mode.TheConstants.{DIRECTORY_MODE}
 use Rattle.btr_tree.specs.castagnoli.Castagnoli.{name_hash}
 use Rattle.btr_tree.specs.vol_block.declared.ids.Ids.{Ids}
 use Rattle.btr_tree.specs.btr_keys.DirEntry.{dir_entry_bytes}

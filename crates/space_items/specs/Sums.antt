@@ -2,8 +2,8 @@
 use Rattle.std.specs.Prelude.{ℕ, ◌+◌, ◌-◌, ◌*◌, ◌^◌, min, List, map, take}
 use Rattle.std.specs.Int.{div_ceil}
 use Rattle.std.specs.List.{flat_map, range_with_len}
-use Rattle.btrfs_format.specs.declared.key.TheConstants.{EXTENT_CSUM}
-use Rattle.btrfs_format.specs.declared.object.TheConstants.{EXTENT_CSUM_OBJECTID}
+use Rattle.btr_space_items.specs.btrfs_format.declared.key.TheConstants.{EXTENT_CSUM}
+use Rattle.btr_space_items.specs.btrfs_format.declared.object.TheConstants.{EXTENT_CSUM_OBJECTID}
 use Rattle.btr_tree.specs.outside.History.{Image, block_at}
 use Rattle.btr_tree.specs.btr_keys.Key.{make_key}
 use Rattle.btr_tree.specs.btr_node.Leaf.{Item}

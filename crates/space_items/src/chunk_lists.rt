@@ -5,13 +5,15 @@ ghost use Rattle.unit_plan.specs.declared.chunk.PlannedChunk.{PlannedChunk as Pl
 ghost use Rattle.space_items.specs.Chunks.{chunk_kind, chunk_body, chunk_item, chunk_items, device_body, dev_extent_item, device_items};
 
 use btr_item_list::{ItemList, key_of};
-use btr_space_items::{Chunk as ChunkBody, DevExtent, Device, Stripe};
-use btr_tree::{Ids, Memory};
-use btrfs_format::flag::{BLOCK_GROUP_DATA, BLOCK_GROUP_METADATA, BLOCK_GROUP_SYSTEM};
-use btrfs_format::key::{CHUNK_ITEM, DEV_EXTENT, DEV_ITEM};
-use btrfs_format::object::{
+use btr_space_items::btrfs_format::flag::{
+    BLOCK_GROUP_DATA, BLOCK_GROUP_METADATA, BLOCK_GROUP_SYSTEM,
+};
+use btr_space_items::btrfs_format::key::{CHUNK_ITEM, DEV_EXTENT, DEV_ITEM};
+use btr_space_items::btrfs_format::object::{
     CHUNK_TREE, DEV_ITEMS_OBJECTID, EXTENT_TREE, FIRST_CHUNK_TREE_OBJECTID,
 };
+use btr_space_items::{Chunk as ChunkBody, DevExtent, Device, Stripe};
+use btr_tree::{Ids, Memory};
 use std::alloc::Global;
 use unit_plan::{Chunks, Plan, PlannedChunk, Role, chunks_of};
 

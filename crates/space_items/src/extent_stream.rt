@@ -12,8 +12,8 @@ use crate::groups::{Group, Groups, groups_of};
 use crate::node::{NodeList, TreeNode};
 use crate::refs::{ExtentItemBody, node_body, piece_body};
 use btr_item_list::key_of;
+use btr_space_items::btrfs_format::key::{BLOCK_GROUP_ITEM, EXTENT_ITEM, METADATA_ITEM};
 use btr_tree::{Key, Memory};
-use btrfs_format::key::{BLOCK_GROUP_ITEM, EXTENT_ITEM, METADATA_ITEM};
 use std::alloc::Global;
 use unit_plan::{Piece, PieceList, Plan, chunks_of};
 

@@ -6,8 +6,8 @@ ghost use Rattle.space_items.specs.Stream.{ArePieces, IsSmallGroup, LieBefore, g
 use crate::chunk_lists::chunk_kind;
 use crate::node::NodeList;
 use btr_space_items::BlockGroup;
+use btr_space_items::btrfs_format::object::FIRST_CHUNK_TREE_OBJECTID;
 use btr_tree::{CopyList, Memory};
-use btrfs_format::object::FIRST_CHUNK_TREE_OBJECTID;
 use std::alloc::Global;
 use unit_plan::{Chunks, PieceList, PlannedChunk};
 

@@ -11,8 +11,8 @@ ghost use Rattle.space_items.specs.Stream.{ArePieces};
 
 use crate::extent_stream::extents;
 use crate::node::{NodeList, TreeNode};
+use btr_space_items::btrfs_format::object::EXTENT_TREE;
 use btr_tree::{Counter, Memory, Slots};
-use btrfs_format::object::EXTENT_TREE;
 use std::alloc::Global;
 use unit_plan::{PieceList, Plan};
 

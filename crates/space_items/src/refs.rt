@@ -6,10 +6,10 @@ ghost use Rattle.space_items.specs.Extents.{data_ref, extent_body, image_refs, i
 ghost use Rattle.space_items.specs.Stream.{IsSmallPiece};
 
 use crate::node::TreeNode;
+use btr_space_items::btrfs_format::flag::{EXTENT_FLAG_DATA, EXTENT_FLAG_TREE_BLOCK};
+use btr_space_items::btrfs_format::size::{EXTENT_ITEM_SIZE, INLINE_DATA_REF_SIZE};
 use btr_space_items::{InlineRef, extent_body_size, write_extent_body};
 use btr_tree::data_ref_hash;
-use btrfs_format::flag::{EXTENT_FLAG_DATA, EXTENT_FLAG_TREE_BLOCK};
-use btrfs_format::size::{EXTENT_ITEM_SIZE, INLINE_DATA_REF_SIZE};
 use std::marker::Model;
 use unit_plan::Piece;
 

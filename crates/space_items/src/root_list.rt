@@ -6,15 +6,15 @@ use crate::node::{RootList, TreeRoot};
 use btr_item_list::{
     ItemList, add_inode, add_ref, inode_made, key_of, new_inode, put_dir_entry, stamp_of,
 };
-use btr_space_items::{RootItem, RootRef};
-use btr_tree::{DirEntry, Ids, Inode, InodeRef, Key, Memory, name_hash};
-use btrfs_format::flag::FT_DIR;
-use btrfs_format::key::{DIR_ITEM, ROOT_BACKREF, ROOT_ITEM, ROOT_REF};
-use btrfs_format::object::{
+use btr_space_items::btrfs_format::flag::FT_DIR;
+use btr_space_items::btrfs_format::key::{DIR_ITEM, ROOT_BACKREF, ROOT_ITEM, ROOT_REF};
+use btr_space_items::btrfs_format::object::{
     CONV_IMAGE_SUBVOL, FIRST_FREE_OBJECTID, FS_TREE, ROOT_TREE_DIR_OBJECTID,
 };
+use btr_space_items::{RootItem, RootRef};
+use btr_tree::vol_block::DIRECTORY_MODE;
+use btr_tree::{DirEntry, Ids, Inode, InodeRef, Key, Memory, name_hash};
 use std::alloc::Global;
-use vol_block::DIRECTORY_MODE;
 
 /// The entry of tree 5's root that names the subvolume with the image.
 const SAVED: &[u8] = b"reiserfs_saved";

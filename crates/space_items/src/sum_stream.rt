@@ -8,9 +8,9 @@ ghost use Rattle.space_items.specs.Stream.{ArePieces, FitsSums, IsSmallPiece, su
 ghost use Rattle.space_items.specs.Sums.{block_sum, sum_items, sums_item};
 
 use btr_item_list::key_of;
+use btr_space_items::btrfs_format::key::EXTENT_CSUM;
+use btr_space_items::btrfs_format::object::EXTENT_CSUM_OBJECTID;
 use btr_tree::{Block, BlockSource, Fault, Key, Memory, SumKind, kind_sum, kind_width};
-use btrfs_format::key::EXTENT_CSUM;
-use btrfs_format::object::EXTENT_CSUM_OBJECTID;
 use std::alloc::Global;
 use unit_plan::{Piece, PieceList, sums_in_item};
 

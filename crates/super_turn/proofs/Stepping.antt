@@ -27,9 +27,6 @@ module _ (from to : List ℕ) (start : Image) (h h' : History) (stands : StandsW
         torn = subst (λ (bytes : List ℕ). IsTorn (λ value. value ≡ to) bytes (block_at image SUPER_BLOCK)) stands.superblock one.2;
       }
 
-pub step_writes : (bytes : List ℕ) (h h' : History) → WritesOnly (IsBlock 16 bytes) h h' → WritesOnly IsSuperWrite h h'
-step_writes bytes = writes_weaker (IsBlock 16 bytes) IsSuperWrite (λ b other is. is.0)
-
 -- two steps, of which the first stands
 pub two_crash : (a b : List ℕ) (h₀ h₁ h₂ : History) → IsSettled h₀ → WritesOnly (IsBlock 16 a) h₀ h₁ → IsSettled h₁ → StandsWith a (reads h₀) (reads h₁) → WritesOnly (IsBlock 16 b) h₁ h₂
     → (image : Image) → LeftSince (clock h₀) h₂ image → IsStep (block_at (reads h₀) 16) a (reads h₀) image ⊎ IsStep a b (reads h₀) image

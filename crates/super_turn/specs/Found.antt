@@ -1,6 +1,6 @@
 -- What was found of a block 16 that is to be put back.
 use Rattle.std.specs.Prelude.{◌≡◌, ◌<◌, true, false, Option, Some, None, length}
-use Rattle.btrfs_format.specs.declared.block.TheConstants.{SUPER_BLOCK}
+use Rattle.outside.specs.btrfs_format.declared.block.TheConstants.{SUPER_BLOCK}
 use Rattle.outside.specs.History.{Image, block_at}
 use Rattle.super_turn.specs.PutBack.{copy_place, is_half_turned}
 use Rattle.super_turn.specs.declared.back.FoundBefore.{FoundBefore}

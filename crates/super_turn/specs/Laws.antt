@@ -1,6 +1,6 @@
 -- Laws of superblocks that are turned.
 use Rattle.std.specs.Prelude.{◌≡◌, ◌≢◌, ℕ, ◌^◌, ◌<◌, true, false, List, codes, length, take, slice_set}
-use Rattle.btrfs_format.specs.declared.block.TheConstants.{SUPER_BLOCK, SUPER_MAGIC_OFFSET}
+use Rattle.outside.specs.btrfs_format.declared.block.TheConstants.{SUPER_BLOCK, SUPER_MAGIC_OFFSET}
 use Rattle.outside.specs.Format.{format_in}
 use Rattle.outside.specs.History.{Image, block_at}
 use Rattle.outside.specs.vol_block.Format.{has_bytes_at}

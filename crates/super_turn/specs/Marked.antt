@@ -1,7 +1,7 @@
 -- The mark of a ReiserFS superblock that is being turned. It stands from byte 128 on, where ReiserFS reads nothing.
 use Rattle.std.specs.Prelude.{◌≡◌, ℕ, ◌==◌, nat_lt, Bool, ◌&&◌, not, List, ◌++◌, take, drop, codes}
 use Rattle.std.specs.Str.{bytes_eq}
-use Rattle.btrfs_format.specs.declared.block.TheConstants.{SUPER_BLOCK, SUPER_MAGIC_OFFSET}
+use Rattle.outside.specs.btrfs_format.declared.block.TheConstants.{SUPER_BLOCK, SUPER_MAGIC_OFFSET}
 use Rattle.byteorder.specs.Endian.{little_bytes}
 use Rattle.outside.specs.vol_block.Format.{has_bytes_at}
 use Rattle.outside.specs.vol_block.Volume.{field}

@@ -1,6 +1,6 @@
 -- A disk whose block 16 is put back, where turning it was cut off.
 use Rattle.std.specs.Prelude.{◌≡◌, ◌≢◌, ◌⊎◌, ℕ, Bool, true, false, ◌&&◌, List, length, take, slice_set, if◌then◌else◌}
-use Rattle.btrfs_format.specs.declared.block.TheConstants.{SUPER_BLOCK}
+use Rattle.outside.specs.btrfs_format.declared.block.TheConstants.{SUPER_BLOCK}
 use Rattle.outside.specs.History.{History, Image, IsSettled, block_at, reads}
 use Rattle.super_turn.specs.Marked.{is_half, marked_place, names_copy}
 

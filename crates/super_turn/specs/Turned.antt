@@ -1,6 +1,6 @@
 -- What a crash leaves while block 16 is turned from one superblock to another, in steps each of which is on the disk before the next begins.
 use Rattle.std.specs.Prelude.{◌≡◌, ◌≢◌, ◌⊎◌, ℕ, ◌^◌, ◌<◌, List, length}
-use Rattle.btrfs_format.specs.declared.block.TheConstants.{SUPER_BLOCK}
+use Rattle.outside.specs.btrfs_format.declared.block.TheConstants.{SUPER_BLOCK}
 use Rattle.outside.specs.History.{Image, IsTorn, block_at}
 use Rattle.super_turn.specs.Marked.{IsHalf}
 

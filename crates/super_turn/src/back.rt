@@ -8,7 +8,7 @@ ghost use Rattle.super_turn.specs.PutBack.{IsPuttingBack, is_half_turned, put_ba
 
 use crate::mark::{is_half, marked_place, names_copy, with_first};
 use crate::steps::{read_block, turn_two};
-use btrfs_format::block::SUPER_BLOCK;
+use outside::btrfs_format::block::SUPER_BLOCK;
 use outside::{Access, Block, BlockSource, Disk, Fault};
 
 /// Puts block 16 back, where turning it was cut off: it becomes the block that its mark names, where that equals it in the first sector but for

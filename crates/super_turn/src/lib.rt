@@ -16,5 +16,5 @@ mod turn;
 
 pub use back::put_back;
 pub use laws::{half_turned_is_put_back, put_back_keeps};
-pub use outside::{Block, BlockNo, BlockSource, Disk, Fault};
+pub use outside::{Block, BlockNo, BlockSource, Disk, Fault, vol_block};
 pub use turn::{to_btrfs, to_reiser};

@@ -2,7 +2,7 @@
 ghost use Rattle.std.specs.Prelude.{◌≡◌, length};
 ghost use Rattle.super_turn.specs.Marked.{has_mark, is_half, marked, marked_place, names_copy, with_first};
 
-use btrfs_format::block::{MAGIC, SUPER_BLOCK, SUPER_MAGIC_OFFSET};
+use outside::btrfs_format::block::{MAGIC, SUPER_BLOCK, SUPER_MAGIC_OFFSET};
 use outside::{Block, BlockNo, Field, has_magic, put_fields, u64_at};
 
 /// The superblock with a mark that names the block where it lies without.

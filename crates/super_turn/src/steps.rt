@@ -5,7 +5,7 @@ ghost use Rattle.outside.specs.History.{EachCrash, IsBlock, IsSettled, OverTold,
 ghost use Rattle.outside.specs.Writes.{Writes};
 ghost use Rattle.super_turn.specs.Turned.{IsStep, StandsWith};
 
-use btrfs_format::block::SUPER_BLOCK;
+use outside::btrfs_format::block::SUPER_BLOCK;
 use outside::{Access, Block, BlockNo, BlockSource, Disk, Fault};
 
 /// A block of a disk.

@@ -7,7 +7,7 @@ ghost use Rattle.super_turn.specs.Turned.{IsTurning, StandsWith};
 
 use crate::mark::{marked, with_first};
 use crate::steps::{read_block, turn_three};
-use btrfs_format::block::SUPER_BLOCK;
+use outside::btrfs_format::block::SUPER_BLOCK;
 use outside::{Access, Block, BlockNo, Disk, Fault};
 
 /// Turns block 16 from the superblock of ReiserFS that it holds, of which a copy lies in block `place`, to one of Btrfs.

@@ -1,9 +1,9 @@
 -- What is made of the used blocks of a volume, and of its rows.
 use Rattle.std.specs.Prelude.{ℕ, ◌-◌, ◌^◌, Bool, ◌&&◌, List, map, length, min, sum, if◌then◌else◌}
-use Rattle.fs_rows.specs.Kinds.{is_file}
-use Rattle.fs_rows.specs.Mark.{mark_of}
-use Rattle.fs_rows.specs.Rows.{is_same_path}
-use Rattle.fs_rows.specs.declared.row.Row.{Row}
+use Rattle.reiser_volume.specs.fs_rows.Kinds.{is_file}
+use Rattle.reiser_volume.specs.fs_rows.Mark.{mark_of}
+use Rattle.reiser_volume.specs.fs_rows.Rows.{is_same_path}
+use Rattle.reiser_volume.specs.fs_rows.declared.row.Row.{Row}
 use Rattle.reiser_bitmap.specs.outside.History.{Image, block_at}
 use Rattle.reiser_bitmap.specs.Bits.{used_blocks}
 use Rattle.trial_core.specs.declared.summary.TrialSummary.{TrialSummary}

@@ -2,16 +2,16 @@
 use Rattle.std.specs.Prelude.{◌≡◌, ◌<◌, ℕ, true, false, List, map, slice_index}
 use Rattle.btr_reader.specs.csum_kinds.declared.kind.SumKind.TheVariants.{Crc32c}
 use Rattle.convert_core.specs.Converted.{IsConverted}
-use Rattle.fs_rows.specs.Rows.{WholeRow, row_of}
-use Rattle.fs_rows.specs.declared.row.Row.{Row}
+use Rattle.reiser_volume.specs.fs_rows.Rows.{WholeRow, row_of}
+use Rattle.reiser_volume.specs.fs_rows.declared.row.Row.{Row}
 use Rattle.btr_reader.specs.Parts.{ListsBtrfs}
 use Rattle.reiser_bitmap.specs.outside.History.{Image, block_at}
 use Rattle.reiser_bitmap.specs.Bits.{has}
 use Rattle.reiser_volume.specs.Volume.{AreRowsOf, used_of}
 use Rattle.rollback_core.specs.RolledBack.{IsRolledBack}
-use Rattle.convert_options.specs.declared.options.Options.{Options}
-use Rattle.convert_options.specs.declared.options.LabelChoice.TheVariants as LabelChoice
-use Rattle.convert_options.specs.declared.options.UuidChoice.TheVariants as UuidChoice
+use Rattle.convert_core.specs.convert_options.declared.options.Options.{Options}
+use Rattle.convert_core.specs.convert_options.declared.options.LabelChoice.TheVariants as LabelChoice
+use Rattle.convert_core.specs.convert_options.declared.options.UuidChoice.TheVariants as UuidChoice
 use Rattle.reiser_bitmap.specs.vol_block.declared.ids.Ids.{Ids}
 use Rattle.trial_core.specs.Parts.{summary_of, used_mark}
 use Rattle.trial_core.specs.declared.summary.TrialSummary.{TrialSummary}

@@ -1,6 +1,6 @@
 -- The parts of two rows that are the same.
 use Rattle.std.specs.Prelude.{◌≡◌}
-use Rattle.fs_rows.specs.declared.row.Row.{Row}
+use Rattle.reiser_volume.specs.fs_rows.declared.row.Row.{Row}
 
 abbrev pub SamePlace : Row → Row → Type 0
 SamePlace row other = (other.path ≡ row.path) × (other.least ≡ row.least) × (other.names ≡ row.names)

@@ -1,6 +1,6 @@
 -- A trial: the sample of a number, which is made, converted and rolled back on a device without a volume.
 use Rattle.std.specs.Prelude.{◌≡◌, ◌≤◌, ℕ, false, length, map}
-use Rattle.fs_rows.specs.Rows.{row_of}
+use Rattle.reiser_volume.specs.fs_rows.Rows.{row_of}
 use Rattle.reiser_bitmap.specs.outside.Format.{format_in}
 use Rattle.reiser_bitmap.specs.outside.History.{History, Image, IsSettled, block_at, reads}
 use Rattle.reiser_bitmap.specs.Bits.{has}

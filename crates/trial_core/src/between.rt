@@ -8,10 +8,10 @@ ghost use Rattle.trial_core.specs.Answers.{IsTrialReadAnswer, StopsUnless};
 
 use crate::answers::step_answer;
 use btr_reader::Btrfs;
-use btrfs_format::block::SUPER_BLOCK;
+use btr_reader::btrfs_format::block::SUPER_BLOCK;
 use convert_core::Answer;
-use fs_rows::Rows;
 use reiser_bitmap::{Block, BlockSource};
+use reiser_volume::fs_rows::Rows;
 use std::alloc::Global;
 
 /// The rows of the Btrfs volume of a source.

@@ -10,8 +10,8 @@ ghost use Rattle.trial_core.specs.Parts.{used_mark};
 use crate::answers::{changed, step_answer};
 use crate::read_mark;
 use convert_core::Answer;
-use fs_rows::Rows;
 use reiser_bitmap::{Bitmap, BlockSource};
+use reiser_volume::fs_rows::Rows;
 use reiser_volume::{Front, Volume, fronts_are_judged, refusals_break_rules};
 use std::alloc::Global;
 

@@ -5,8 +5,8 @@ ghost use Rattle.reiser_bitmap.specs.outside.History.{OverTold, block_at};
 ghost use Rattle.reiser_bitmap.specs.Bits.{has};
 ghost use Rattle.trial_core.specs.Parts.{used_mark};
 
-use fs_rows::Marker;
 use reiser_bitmap::{Bitmap, Block, BlockNo, BlockSource, Fault};
+use reiser_volume::fs_rows::Marker;
 
 /// The mark of the used blocks of a volume, each with its number. Every byte of them is read.
 pub fn read_mark<S: BlockSource>(used: &Bitmap, src: &mut S) -> Result<[u8; 32], Fault>

@@ -2,7 +2,7 @@
 ghost use Rattle.std.specs.Prelude.{◌≡◌, ◌↔◌, IsTrue};
 ghost use Rattle.trial_core.specs.Same.{SameFlags, SameOwner, SamePlace, SameTimes, SameContent};
 
-use fs_rows::{Path, Row, Rows};
+use reiser_volume::fs_rows::{Path, Row, Rows};
 
 /// Whether two lists of rows are the same.
 pub fn same_rows(rows: &Rows, others: &Rows) -> bool

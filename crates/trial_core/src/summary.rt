@@ -1,7 +1,7 @@
 ghost use Rattle.std.specs.Prelude.{◌≡◌};
 ghost use Rattle.trial_core.specs.Parts.{counted, summary_of as summary_by};
 
-use fs_rows::{Row, Rows};
+use reiser_volume::fs_rows::{Row, Rows};
 
 /// What a trial tells of its sample.
 #[derive(Clone, Copy, Debug, PartialEq, Eq)]

@@ -51,10 +51,6 @@ window-push skip wanted seen xs x is =
     (cases_lt (seen - skip) wanted))
     (cases_lt seen skip)
 
-pub window-is : {X : Type 0} (skip wanted : ℕ) (xs : List X) → window skip wanted xs ≡ take wanted (drop skip xs)
-unfolding window
-window-is skip wanted xs = refl
-
 -- no number of a range passes
 pub any_range_more : (p : ℕ → Bool) (a n j : ℕ) → a + n ≡ j → list_any p (range_with_len a n) ≡ false → p j ≡ false → list_any p (range_with_len a (n + 1)) ≡ false
 any_range_more p a n j at none fails = ap (list_any p) (range_more a n j at) ∙ (list_any-append p (range_with_len a n) (j ∷ []) ∙ rw (none, fails) refl)

@@ -31,13 +31,6 @@ marks_more old now units i v u inside is within so_far =
     ∙ (or-assoc (has old u) (is_among (take i units) u) (eqb v u)
     ∙ ap (λ t. has old u || t) (sym (list_any_more (λ w. w == u) units i v inside ∙ ap (λ w. is_among (take i units) u || eqb w u) is))))
 
-pub marks_none : (old : List Bool) (units : List ℕ) (u : ℕ) → has old u ≡ (has old u || is_among (take 0 units) u)
-marks_none old units u = or_false (has old u)
-  where
-    or_false : (t : Bool) → t ≡ (t || false)
-    or_false true = refl
-    or_false false = refl
-
 -- an empty set has no unit
 pub empty_has : (n u : ℕ) → has (replicate n false) u ≡ false
 empty_has n u =

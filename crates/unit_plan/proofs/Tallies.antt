@@ -31,18 +31,6 @@ if_true b t = ap (λ (b : Bool). cond {A = ℕ} b 1 0) t
 pub if_false : (b : Bool) → b ≡ false → cond {A = ℕ} b 1 0 ≡ 0
 if_false b f = ap (λ (b : Bool). cond {A = ℕ} b 1 0) f
 
--- what implies another test passes less often
-pub tally_implied : (p q : ℕ → Bool) (a n : ℕ) → ((u : ℕ) → a ≤ u → u < a + n → p u ≡ true → q u ≡ true) → tally p a n ≤ tally q a n
-tally_implied p q a zero turn = omega (arith, tally-zero p a, tally-zero q a)
-tally_implied p q a (suc n) turn =
-    let rest : tally p (a + 1) n ≤ tally q (a + 1) n = tally_implied p q (a + 1) n (λ u low high. turn u (omega arith) (omega arith)) in
-    ⊎_elim
-    (λ (t : p a ≡ true).
-    let t' : q a ≡ true = turn a (omega arith) (omega arith) t in
-    omega (arith, tally-suc p a n, tally-suc q a n, rest, if_true (p a) t, if_true (q a) t'))
-    (λ (f : p a ≡ false). omega (arith, tally-suc p a n, tally-suc q a n, rest, if_false (p a) f))
-    (cases_Bool (p a))
-
 one_of : (x y : Bool) → cond (x || y) 1 0 ≤ cond x 1 0 + cond y 1 0
 one_of true true = omega arith
 one_of true false = omega arith

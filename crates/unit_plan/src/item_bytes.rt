@@ -1,6 +1,6 @@
 //! How many bytes of a leaf items take, each with its head, and what is kept for the few items that no count tells.
 
-use btrfs_format::size::{
+use btr_tree::btrfs_format::size::{
     BLOCK_GROUP_ITEM_SIZE, CHUNK_SIZE, DEV_EXTENT_SIZE, DEV_ITEM_SIZE, DIR_ITEM_SIZE,
     EXTENT_ITEM_SIZE, FILE_EXTENT_INLINE_START, FILE_EXTENT_SIZE, INLINE_BLOCK_REF_SIZE,
     INLINE_DATA_REF_SIZE, INODE_EXTREF_SIZE, INODE_ITEM_SIZE, ITEM_SIZE,

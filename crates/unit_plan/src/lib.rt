@@ -22,9 +22,10 @@ mod sums;
 mod tree;
 mod units;
 
-pub use btr_tree::{DirEntry, Extref, Inode, InodeRef, Key};
+pub use btr_tree::{DirEntry, Extref, Inode, InodeRef, Key, btrfs_format};
 pub use choice::choose;
 pub use chunk::{Chunks, PlannedChunk, Role};
+pub use convert_options;
 pub use counts::Counts;
 pub use division::chunks_of;
 pub use laws::{chunks_are_few, places_serve, plans_are_sound, plans_fit, roles_are_uses};

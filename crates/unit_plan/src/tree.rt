@@ -1,7 +1,9 @@
 ghost use Rattle.std.specs.Prelude.{◌≡◌};
 ghost use Rattle.unit_plan.specs.Trees.{new_trees, tree_number};
 
-use btrfs_format::object::{CONV_IMAGE_SUBVOL, CSUM_TREE, DATA_RELOC_TREE, DEV_TREE, FS_TREE};
+use btr_tree::btrfs_format::object::{
+    CONV_IMAGE_SUBVOL, CSUM_TREE, DATA_RELOC_TREE, DEV_TREE, FS_TREE,
+};
 
 /// A tree of a converted volume whose items are known before any node of it is written. The chunk tree, the root tree and the
 /// extent tree are none of these: the first has units of its own, and the other two tell of all the others.

@@ -8,10 +8,6 @@ front_of_new at n bytes new rest len le =
     let long : length (take at bytes ++ new) ≡ at + n = omega (arith, length-append (take at bytes) new, length-take at bytes) in
     ap (take (at + n)) (sym (append_assoc (take at bytes) new rest)) ∙ take_at (take at bytes ++ new) rest (at + n) long
 
-pub fields_bytes-append : (xs ys : List Field) → fields_bytes (xs ++ ys) ≡ fields_bytes xs ++ fields_bytes ys
-fields_bytes-append [] ys = refl
-fields_bytes-append (x ∷ xs) ys = ap (λ (z : List ℕ). field_bytes x ++ z) (fields_bytes-append xs ys) ∙ sym (append_assoc (field_bytes x) (fields_bytes xs) (fields_bytes ys))
-
 -- a field that was written, and what stands in front of its end
 pub front_of_field : (field same : Field) (at n : ℕ) (bytes new rest : List ℕ)
     → field ≡ same → new ≡ take at bytes ++ (field_bytes same ++ rest) → length (field_bytes same) ≡ n → at + field_width field ≤ length bytes

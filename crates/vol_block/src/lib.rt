@@ -13,6 +13,7 @@ mod ids;
 mod mode;
 
 pub use block::{Block, BlockNo, is_reserved, usable_end};
+pub use btrfs_format;
 pub use field::{Field, array_at, put_fields};
 pub use fields::{put_u16, put_u32, put_u64, u16_at, u32_at, u64_at};
 pub use format::{Format, format_of, has_magic, has_reiser_magic};

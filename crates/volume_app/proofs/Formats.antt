@@ -12,21 +12,11 @@ by_block : (b : Bool) (f : Format) → b ≡ false → cond b formats.Neither f 
 by_block false f is = refl
 by_block true f is = cc
 
-by_length : (b : Bool) (f : Format) → b ≡ true → cond b formats.Neither f ≡ formats.Neither
-by_length true f is = refl
-by_length false f is = cc
-
 -- a disk that has block 16 has the format of that block
 pub format_long : (disk : Image) → 16 < length disk → format_in disk ≡ format (block_at disk SUPER_BLOCK)
 format_long disk long =
     let no : nat_le (length disk) 16 ≡ false = grind (arith, nat_tests) in
     by_block (nat_le (length disk) 16) (format (block_at disk SUPER_BLOCK)) no
-
--- and a shorter one has none
-pub format_short : (disk : Image) → length disk ≤ 16 → format_in disk ≡ formats.Neither
-format_short disk short =
-    let yes : nat_le (length disk) 16 ≡ true = grind (arith, nat_tests) in
-    by_length (nat_le (length disk) 16) (format (block_at disk SUPER_BLOCK)) yes
 
 -- an accepted volume that is not one of Btrfs has the format of ReiserFS
 pub reiser_found : (disk : Image) → IsAccepted disk → format_in disk ≢ formats.Btrfs → format_in disk ≡ formats.Reiser

@@ -8,8 +8,8 @@ pub use Rattle.btr_reader.specs.Image.{ImageFile, image_place, image_refusals, s
 pub use Rattle.btr_reader.specs.Opening.{IsAmong, IsBtrfsOpened, NamesNoLogTree, opening_refusals}
 pub use Rattle.btr_reader.specs.Parts.{AreRowsOfBtrfs, HasBtrfsRows, IsBtrfsRefusal, IsReadable, RefusesBtrfsRows, RefusesPart, SavedImage, Tree, own_map, own_super, way_refusals}
 pub use Rattle.btr_reader.specs.btr_reader_walk.declared.map.MapRange.{MapRange}
-pub use Rattle.btr_super.specs.declared.superblock.Super.{Super}
-pub use Rattle.btrfs_format.specs.declared.block.TheConstants.{FIRST_MIRROR, SECOND_MIRROR, SUPER_BLOCK, SUPER_MAGIC_OFFSET}
+pub use Rattle.btr_reader.specs.btr_super.declared.superblock.Super.{Super}
+pub use Rattle.btr_reader.specs.btrfs_format.declared.block.TheConstants.{FIRST_MIRROR, SECOND_MIRROR, SUPER_BLOCK, SUPER_MAGIC_OFFSET}
 pub use Rattle.convert_core.proofs.One.{surveys_are_one}
 pub use Rattle.convert_core.proofs.command_answers.Handed.{btrfs_cause, handed_on, volume_cause}
 pub use Rattle.convert_core.specs.Converted.{IsConvertPlace, IsConverted, IsConvertible, IsLeftByConvert, IsSomeNew}
@@ -24,18 +24,17 @@ pub use Rattle.convert_core.specs.space_items.Laws.{AreIds}
 pub use Rattle.convert_core_laws.proofs.going_back.Crashing.{half_stands, stands, then_same}
 pub use Rattle.convert_core_laws.specs.going_back.Back.{ConvertedVolumesGoBack, GoesBack}
 pub use Rattle.convert_core_laws.specs.opening.Opens.{ConvertedVolumesOpen, OpensAsBefore, StandsAsBefore}
-pub use Rattle.convert_options.specs.declared.options.Options.{Options}
 pub use Rattle.first_sync.proofs.Synced.{first_goes_on, synced_settled, turned, uncalled}
 pub use Rattle.first_sync.specs.Laws.{FirstSyncParts}
 pub use Rattle.first_sync.specs.Synced.{CrashesSynced, EachCrashSynced, SyncsFirst, synced_now}
-pub use Rattle.fs_rows.specs.Rows.{WholeRow, row_of}
-pub use Rattle.fs_rows.specs.Text.{rows_text}
 pub use Rattle.reiser_volume.proofs.Answering.{rules_pass}
 pub use Rattle.reiser_volume.proofs.Unchanged.{front_same_volume, put_back_same}
 pub use Rattle.reiser_volume.specs.Answers.{RefusesVolume}
 pub use Rattle.reiser_volume.specs.Laws.{IsSameVolume, RowsAreOne, UsedBlocksDecide}
 pub use Rattle.reiser_volume.specs.Reading.{IsReadingAnswer}
 pub use Rattle.reiser_volume.specs.Volume.{AreRowsOf, IsAccepted, superblock, used_of, volume_items}
+pub use Rattle.reiser_volume.specs.fs_rows.Rows.{WholeRow, row_of}
+pub use Rattle.reiser_volume.specs.fs_rows.Text.{rows_text}
 pub use Rattle.reiser_volume.specs.outside.Fault.{HasCause, HasCauseOf, Rose, Takes}
 pub use Rattle.reiser_volume.specs.outside.Format.{format_in}
 pub use Rattle.reiser_volume.specs.outside.History.{History, Image, IsSettled, WritesOnly, block_at, reads}
@@ -54,6 +53,7 @@ pub use Rattle.trial_core.specs.Answers.{LeavesRefused, RefusesTrial}
 pub use Rattle.trial_core.specs.Trial.{IsTried, needed_by, sample_on}
 pub use Rattle.unit_plan.specs.Choice.{HasEnoughSpace, TellsSpace, longest_run}
 pub use Rattle.unit_plan.specs.Needed.{need}
+pub use Rattle.unit_plan.specs.convert_options.declared.options.Options.{Options}
 pub use Rattle.volume_app.specs.Command.{Asked, command, convert, help, inspect, list, numbered, recover, rollback, seen, trial, version}
 pub use Rattle.volume_app.specs.Converting.{IsConvertedWhole, IsEitherWhole, convert_meaning, convert_text}
 pub use Rattle.volume_app.specs.Ending.{error_line, status}

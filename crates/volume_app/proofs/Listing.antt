@@ -1,7 +1,7 @@
 -- What `list` answers.
 use Rattle.volume_app.proofs.Imports.{◌≡◌, sym, ap, subst, ◌≢◌, Format, rows_text, Image, BtrAnswer, VolAnswer, RefusesVolume, IsReadingAnswer, AreRowsOf, IsAccepted, of_volume, of_btrfs, HasBtrfsRows, AreRowsOfBtrfs, RefusesBtrfsRows, format_in, IsListable, AreRowsIn, IsListText, Lists, ListRefuses, IsListAnswer, WholeRow, row_of}
 use Rattle.std.specs.Prelude.{List, map}
-use Rattle.fs_rows.specs.declared.row.Row.{Row}
+use Rattle.reiser_volume.specs.fs_rows.declared.row.Row.{Row}
 use Rattle.reiser_volume.specs.refusals.declared.answer.VolAnswer.TheVariants.{Refused, Fault, Memory}
 use Rattle.reiser_volume.specs.vol_block.declared.format.Format.TheVariants as formats
 use Rattle.reiser_volume.specs.refusals.declared.answer.BtrAnswer.TheVariants as of_btr

@@ -12,8 +12,8 @@ use Rattle.rollback_core.specs.RecoveryLaws.{RecoveryKeeps, RecoveryOpens}
 use Rattle.rollback_core.specs.RollbackLaws.{RollbackKeeps}
 use Rattle.convert_core_laws.specs.placement.InPlace.{ConvertedDataStays}
 use Rattle.convert_core_laws.specs.soundness.Laws.{ConvertedVolumesAreSound}
-use Rattle.convert_options.specs.declared.options.UuidChoice.{UuidChoice}
-use Rattle.convert_options.specs.declared.options.UuidChoice.TheVariants.{New, Copy, Given}
+use Rattle.unit_plan.specs.convert_options.declared.options.UuidChoice.{UuidChoice}
+use Rattle.unit_plan.specs.convert_options.declared.options.UuidChoice.TheVariants.{New, Copy, Given}
 use Rattle.reiser_volume.specs.vol_block.declared.format.Format.TheVariants as formats
 use Rattle.rollback_core.specs.Recovered as recovery
 use Rattle.volume_app.specs.Recovering as recovering

@@ -2,10 +2,10 @@
 use Rattle.std.specs.Prelude.{ℕ, ◌≤◌, ◌-◌, Bool, true, false, ◌&&◌, ◌||◌, List, [], ◌∷◌, codes, bytes_eq, length, take, slice_index_or, Option, Some, None, option_map, if◌then◌else◌}
 use Rattle.program_words.specs.Words.{is_path, plain_number}
 use Rattle.btr_reader.specs.btr_node.NodeSize.{IsNodeSize}
-use Rattle.convert_options.specs.Asked.{is_verbose, options_of_convert, options_of_inspect}
+use Rattle.unit_plan.specs.convert_options.Asked.{is_verbose, options_of_convert, options_of_inspect}
 use Rattle.reiser_volume.specs.outside.declared.disk.Access.{Access}
 use Rattle.reiser_volume.specs.outside.declared.disk.Access.TheVariants.{Read, Write}
-use Rattle.convert_options.specs.declared.options.Options.{Options}
+use Rattle.unit_plan.specs.convert_options.declared.options.Options.{Options}
 use Rattle.volume_app.specs.declared.command.Command.{Command}
 use Rattle.volume_app.specs.declared.command.CommandLine.{CommandLine}
 use Rattle.volume_app.specs.declared.command.Command.TheVariants.{Inspect, List as ListRows, Convert, Recover, Rollback, Trial, Help, Version}

@@ -5,7 +5,7 @@ use Rattle.convert_core.specs.Converted.{DiffersInFree, IsConvertPlace, IsConver
 use Rattle.convert_core.specs.Surveyed.{IsSummary}
 use Rattle.convert_core.specs.declared.summary.ConvertSummary.{ConvertSummary}
 use Rattle.reiser_volume.specs.outside.History.{History, Image, WritesOnly, reads}
-use Rattle.convert_options.specs.declared.options.Options.{Options}
+use Rattle.unit_plan.specs.convert_options.declared.options.Options.{Options}
 use Rattle.reiser_volume.specs.vol_block.declared.ids.Ids.{Ids}
 use Rattle.volume_app.specs.Meaning.{IsSyncedBack, Meaning}
 use Rattle.super_turn.specs.PutBack.{put_back}

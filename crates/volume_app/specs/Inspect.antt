@@ -4,13 +4,13 @@ use Rattle.std.specs.Prelude.{◌≡◌, ◌⊎◌, ◌≢◌, ℕ, List, []}
 use Rattle.reiser_volume.specs.vol_block.declared.format.Format.{Format}
 use Rattle.reiser_volume.specs.vol_block.declared.format.Format.TheVariants as formats
 use Rattle.reiser_volume.specs.outside.History.{Image}
-use Rattle.convert_options.specs.declared.options.Options.{Options}
+use Rattle.unit_plan.specs.convert_options.declared.options.Options.{Options}
 use Rattle.convert_core.specs.command_answers.declared.answer.Answer.{Answer}
 use Rattle.convert_core.specs.command_answers.declared.answer.Answer.TheVariants.{Volume, Btr, NoSpace, WrongFormat, ImageMissing, ImageMoved, ImageDamaged, ReservedUsed, NotSound, ImageShared, Fault, Memory}
 use Rattle.reiser_volume.specs.Answers.{NamesVolumeRule}
 use Rattle.reiser_volume.specs.Volume.{IsAccepted, IsRefusal}
 use Rattle.btr_reader.specs.Parts.{SavedImage, IsReadable, IsBtrfsRefusal}
-use Rattle.btr_super.specs.Rules.{NamesNoLog}
+use Rattle.btr_reader.specs.btr_super.Rules.{NamesNoLog}
 use Rattle.volume_app.specs.Text.{btrfs_text, summary_text as btrfs_summary_text}
 use Rattle.volume_app.specs.declared.inspect.Inspected.{Inspected}
 use Rattle.volume_app.specs.declared.inspect.Inspected.TheVariants.{Reiser, Btrfs}

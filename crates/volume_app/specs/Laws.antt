@@ -1,7 +1,7 @@
 -- What holds of what `inspect` and `list` print, of a volume that is converted and rolled back, and of what is promised of crashes.
 use Rattle.std.specs.Prelude.{◌≡◌, ◌⊎◌, ◌≤◌, ℕ, List, [], ◌∷◌, Option, Some, None}
 use Rattle.convert_core.specs.convert_steps.Prepared.{LacksSpace}
-use Rattle.convert_options.specs.declared.options.Options.{Options}
+use Rattle.unit_plan.specs.convert_options.declared.options.Options.{Options}
 use Rattle.reiser_volume.specs.Volume.{used_of}
 use Rattle.reiser_volume.specs.reiser_volume_contents.Laws.{SameUsed}
 use Rattle.reiser_volume.specs.outside.Format.{format_in}

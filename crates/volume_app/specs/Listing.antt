@@ -2,9 +2,9 @@
 use Rattle.std.specs.Prelude.{◌≡◌, ◌≢◌, ◌⊎◌, ℕ, List, map}
 use Rattle.reiser_volume.specs.vol_block.declared.format.Format.{Format}
 use Rattle.reiser_volume.specs.vol_block.declared.format.Format.TheVariants.{Reiser, Btrfs, Neither}
-use Rattle.fs_rows.specs.Rows.{WholeRow, row_of}
-use Rattle.fs_rows.specs.Text.{rows_text}
-use Rattle.fs_rows.specs.declared.row.Row.{Row}
+use Rattle.reiser_volume.specs.fs_rows.Rows.{WholeRow, row_of}
+use Rattle.reiser_volume.specs.fs_rows.Text.{rows_text}
+use Rattle.reiser_volume.specs.fs_rows.declared.row.Row.{Row}
 use Rattle.reiser_volume.specs.reiser_volume_contents.Answers.{IsChanged}
 use Rattle.reiser_volume.specs.outside.History.{Image}
 use Rattle.convert_core.specs.command_answers.declared.answer.Answer.{Answer}

@@ -2,15 +2,15 @@
 use Rattle.std.specs.Prelude.{◌≡◌, ℕ, ◌+◌, Bool, List, [], ◌∷◌, length, map, codes, decimal, nat_eq}
 use Rattle.std.specs.List.{before_first}
 use Rattle.uuid.specs.Text.{hyphenated_text, lower}
-use Rattle.fs_rows.specs.Rows.{WholeRow, row_of}
-use Rattle.fs_rows.specs.declared.row.Row.{Row}
+use Rattle.reiser_volume.specs.fs_rows.Rows.{WholeRow, row_of}
+use Rattle.reiser_volume.specs.fs_rows.declared.row.Row.{Row}
 use Rattle.reiser_volume.specs.outside.History.{Image}
-use Rattle.reiser_super.specs.declared.superblock.Super.{Super}
+use Rattle.reiser_volume.specs.reiser_super.declared.superblock.Super.{Super}
 use Rattle.reiser_volume.specs.reiser_bitmap.Bits.{used_blocks}
 use Rattle.reiser_volume.specs.reiser_bitmap.Units.{free_units}
 use Rattle.reiser_volume.specs.Volume.{superblock, used_of, AreRowsOf, IsAccepted}
 use Rattle.unit_plan.specs.declared.need.Need.{Need}
-use Rattle.convert_options.specs.declared.options.Options.{Options}
+use Rattle.unit_plan.specs.convert_options.declared.options.Options.{Options}
 use Rattle.convert_core.specs.declared.survey.Survey.{Survey}
 use Rattle.convert_core.specs.Surveyed.{IsSurvey}
 use Rattle.volume_app.specs.declared.reiser.ReiserSummary.{ReiserSummary}

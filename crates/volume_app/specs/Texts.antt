@@ -19,7 +19,7 @@ help_text =
     ++ codes "  convert PATH   turn the ReiserFS volume at PATH into a Btrfs volume" ++ 10 ∷ []
     ++ codes "  recover PATH   finish a conversion or a rollback of the volume at PATH that was interrupted" ++ 10 ∷ []
     ++ codes "  rollback PATH  turn a converted volume at PATH back into the ReiserFS volume" ++ 10 ∷ []
-    ++ codes "  trial N PATH   overwrite PATH by a sample volume of N files, convert it, roll it back, and compare" ++ 10 ∷ []
+    ++ codes "  trial N PATH   overwrite PATH by a sample volume of N files (0 to 4000), convert it, roll it back, and compare" ++ 10 ∷ []
     ++ codes "  -h, --help     print this text, also behind the name of a command" ++ 10 ∷ []
     ++ codes "  -V, --version  print the version of this program" ++ 10 ∷ []
     ++ codes "Options of convert, and of inspect for the space that it tells, before the path:" ++ 10 ∷ []

@@ -2,7 +2,7 @@
 use Rattle.std.specs.Prelude.{ℕ, ◌/◌, Option}
 use Rattle.std.specs.Option.{option_map}
 use Rattle.reiser_volume.specs.outside.History.{Image}
-use Rattle.btr_super.specs.declared.superblock.Super.{Super}
+use Rattle.btr_reader.specs.btr_super.declared.superblock.Super.{Super}
 use Rattle.btr_reader.specs.Image.{saved_image}
 use Rattle.btr_reader.specs.Parts.{own_super, own_map}
 use Rattle.volume_app.specs.declared.summary.Summary.{Summary}

@@ -1,7 +1,7 @@
 -- What commands do to the tree of files of a disk.
 use Rattle.std.specs.Prelude.{◌≡◌, ◌⊎◌, ◌<◌, ℕ, true, List, length}
 use Rattle.reiser_volume.specs.outside.History.{Image, block_at}
-use Rattle.fs_rows.specs.Rows.{WholeRow}
+use Rattle.reiser_volume.specs.fs_rows.Rows.{WholeRow}
 use Rattle.convert_core_laws.specs.going_back.Back.{GoesBack}
 use Rattle.convert_core_laws.specs.placement.InPlace.{IsInPlace}
 use Rattle.convert_core_laws.specs.btr_check_rules.Sound.{IsSound}
@@ -16,8 +16,8 @@ use Rattle.convert_core.specs.convert_trees_laws.Rows.{HasBytes}
 use Rattle.volume_state.specs.Saved.{image_blocks}
 use Rattle.volume_state.specs.GoingBack.{CanGoBack, old_used}
 use Rattle.super_turn.specs.PutBack.{IsPuttingBack, is_half_turned, put_back}
-use Rattle.convert_options.specs.declared.options.UuidChoice.{UuidChoice}
-use Rattle.convert_options.specs.declared.options.UuidChoice.TheVariants.{New, Copy, Given}
+use Rattle.unit_plan.specs.convert_options.declared.options.UuidChoice.{UuidChoice}
+use Rattle.unit_plan.specs.convert_options.declared.options.UuidChoice.TheVariants.{New, Copy, Given}
 use Rattle.reiser_volume.specs.vol_block.declared.format.Format.{Format}
 
 -- Each block has 4096 bytes. A disk that tells its blocks tells lists of lists of numbers; those of every device are such.

@@ -1,10 +1,10 @@
 ghost use Rattle.std.specs.Prelude.{◌≡◌, false, map, option_map, string_bytes, IfSome};
 ghost use Rattle.volume_app.specs.Command.{alone, asks_help, begun_by, command, converting, inspecting, is_help, is_name, is_version, line, named, numbered, plain_line, plain_words, seen, seen_line, trying, with_path, IsInRange};
 
-use convert_options::{
+use program_words::{is_path, plain_number};
+use unit_plan::convert_options::{
     AskedOptions, Options, is_verbose, read_convert_options, read_inspect_options,
 };
-use program_words::{is_path, plain_number};
 
 /// The largest number of a sample.
 const MOST_FILES: u64 = 4000;

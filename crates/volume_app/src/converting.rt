@@ -19,11 +19,11 @@ use convert_core_laws::{
     converted_data_stays, converted_volumes_are_sound, converted_volumes_go_back,
     converted_volumes_open,
 };
-use convert_options::{Options, UuidChoice};
 use reiser_volume::{Access, Disk, Fault, Ids, Sink, used_blocks_decide};
 use sink_text::TextPart::{Decimal, Plain};
 use sink_text::write_pieces;
 use std::alloc::Global;
+use unit_plan::convert_options::{Options, UuidChoice};
 
 /// Converts the ReiserFS volume at a path, and prints what was done.
 pub fn convert_volume<D: Disk, O: Sink>(

@@ -13,11 +13,11 @@ use crate::Summary;
 use crate::ending::{Ending, printed};
 use crate::format::open_format;
 use crate::reiser::ReiserSummary;
-use btrfs_format::block::SUPER_BLOCK;
+use btr_reader::btrfs_format::block::SUPER_BLOCK;
 use convert_core::{Answer, FormatFound};
-use convert_options::Options;
 use reiser_volume::{Access, Block, BlockSource, Disk, Fault, Format, Sink};
 use std::alloc::Global;
+use unit_plan::convert_options::Options;
 
 /// What `inspect` prints of a volume.
 #[derive(Clone, Copy, Debug)]

@@ -12,9 +12,9 @@ use crate::ending::{Ending, printed};
 use crate::format::open_format;
 use crate::reiser::reiser_rows;
 use btr_reader::Btrfs;
-use btrfs_format::block::SUPER_BLOCK;
+use btr_reader::btrfs_format::block::SUPER_BLOCK;
 use convert_core::{Answer, FormatFound};
-use fs_rows::{Rows, write_rows};
+use reiser_volume::fs_rows::{Rows, write_rows};
 use reiser_volume::{Access, Block, BlockSource, Disk, Format, Sink};
 use std::alloc::Global;
 

@@ -7,9 +7,9 @@ ghost use Rattle.btr_reader.specs.Parts.{SavedImage, IsReadable, RefusesPart};
 ghost use Rattle.volume_app.specs.Told.{summary_with, summary_of};
 
 use crate::summary::Summary;
+use btr_reader::btr_super::Super;
+use btr_reader::btrfs_format::block::SUPER_BLOCK;
 use btr_reader::{Btrfs, ImageMap};
-use btr_super::Super;
-use btrfs_format::block::SUPER_BLOCK;
 use reiser_volume::{Block, BlockSource, BtrAnswer};
 use std::alloc::Global;
 

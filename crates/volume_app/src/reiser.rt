@@ -11,14 +11,14 @@ ghost use Rattle.sink_text.specs.Text.{piece_text};
 ghost use Rattle.volume_app.specs.Reiser.{label_of, label_text, IsReiserSummary, summary_text, summary_with, ListsReiser};
 
 use convert_core::Survey;
-use convert_options::Options;
-use fs_rows::Rows;
-use reiser_super::Super;
+use reiser_volume::fs_rows::Rows;
+use reiser_volume::reiser_super::Super;
 use reiser_volume::{BlockSource, Fault, Sink, VolAnswer, Volume};
 use sink_text::TextPart::{Decimal, Escaped, Hyphenated, Plain};
 use sink_text::{TextPart, write_pieces};
 use std::alloc::Global;
 use unit_plan::Need;
+use unit_plan::convert_options::Options;
 
 /// What is told of a ReiserFS volume.
 #[derive(Clone, Copy, Debug)]

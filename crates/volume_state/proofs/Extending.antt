@@ -4,24 +4,11 @@ use Rattle.volume_state.specs.Extents.{TellsRange}
 use Rattle.volume_state.proofs.Placed.{no_some, some_is}
 
 module _ (ranges : List MapRange) (blocks : ℕ) (items : List TreeItem) (i : TreeItem) where
-  earlier : (b : ℕ) → HoldsExtent items ranges b → HoldsExtent (items ++ i ∷ []) ranges b
-  earlier b holds = record {
-    item = holds.item;
-    among = Contains-append_left items (i ∷ []) holds.item holds.among;
-    range = holds.range;
-    range_is = holds.range_is;
-    lies = holds.lies;
-  }
-
   last : (r : DiskRange) (b : ℕ) → item_range i ≡ Some r → LieIn ranges r.disk_bytenr r.disk_num_bytes b → HoldsExtent (items ++ i ∷ []) ranges b
   last r b is lies = record { item = i; among = Contains-append_right items (i ∷ []) i (at_head i []); range = r; range_is = is; lies = lies }
 
   only : (x : TreeItem) → Contains (i ∷ []) x → i ≡ x
   only x among = ⊎_elim (λ first. first) (λ later. absurd (omega (arith, later.1))) (head_or_tail i [] x among)
-
-  -- a block that was found stays
-  pub found_stays : (b : ℕ) → TellsReserved (HoldsExtent items ranges) blocks (Some b) → TellsReserved (HoldsExtent (items ++ i ∷ []) ranges) blocks (Some b)
-  found_stays b one = (one.0, earlier b one.1)
 
   pub found_more : (o : Option DiskRange) (told : Option ℕ) → item_range i ≡ o → TellsRange ranges blocks o told → TellsReserved (HoldsExtent items ranges) blocks None
       → TellsReserved (HoldsExtent (items ++ i ∷ []) ranges) blocks told

@@ -8,6 +8,9 @@ pub use Rattle.std.proofs.lemmas.Result.{err_from_is_err_and}
 pub use Rattle.std.specs.Option.{option_and_then, option_map, option_or}
 pub use Rattle.btr_node.specs.btr_keys.FileExtent.{ContentValue, FileExtentValue, Inline, Prealloc, Regular, file_extent_of}
 pub use Rattle.btr_node.specs.btr_keys.declared.file_extent.DiskRange.{DiskRange}
+pub use Rattle.btr_node.specs.btrfs_format.declared.block.TheConstants.{FIRST_MIRROR, FIRST_MIRROR_END, SECOND_MIRROR, SECOND_MIRROR_END, SUPER_BLOCK}
+pub use Rattle.btr_node.specs.btrfs_format.declared.key.TheConstants.{EXTENT_DATA}
+pub use Rattle.btr_node.specs.btrfs_format.declared.object.TheConstants.{FS_TREE}
 pub use Rattle.btr_reader.proofs.Among.{among_first, among_left, among_none}
 pub use Rattle.btr_reader.proofs.MapApart.{opened_apart}
 pub use Rattle.btr_reader.proofs.PartsRead.{no_log, none_in, of_disk, of_volume, one_log, opened_super}
@@ -21,6 +24,7 @@ pub use Rattle.btr_reader.specs.Pieces.{MapsImage, map_place}
 pub use Rattle.btr_reader.specs.Reading.{FindsNumbered, FindsSaved, FindsTree, ReadsImage}
 pub use Rattle.btr_reader.specs.Roots.{pointer_of, root_item}
 pub use Rattle.btr_reader.specs.Rows.{roots_on}
+pub use Rattle.btr_reader.specs.btr_super.declared.superblock.Super.{Super}
 pub use Rattle.btr_reader.specs.declared.chunk.ChunkAt.{ChunkAt}
 pub use Rattle.btr_reader.specs.declared.image_map.ImageMap.{ImageMap}
 pub use Rattle.btr_reader_contents.proofs.ExtentLists.{aligned_of, form_of_sound, none_left, none_right}
@@ -37,10 +41,6 @@ pub use Rattle.btr_reader_walk.specs.Walks.{IsAmong, found, met, met_faults, wro
 pub use Rattle.btr_reader_walk.specs.declared.map.MapRange.{MapRange}
 pub use Rattle.btr_reader_walk.specs.declared.tree.NodePointer.{NodePointer}
 pub use Rattle.btr_reader_walk.specs.declared.tree.Tree.{Tree}
-pub use Rattle.btr_super.specs.declared.superblock.Super.{Super}
-pub use Rattle.btrfs_format.specs.declared.block.TheConstants.{FIRST_MIRROR, FIRST_MIRROR_END, SECOND_MIRROR, SECOND_MIRROR_END, SUPER_BLOCK}
-pub use Rattle.btrfs_format.specs.declared.key.TheConstants.{EXTENT_DATA}
-pub use Rattle.btrfs_format.specs.declared.object.TheConstants.{FS_TREE}
 pub use Rattle.reiser_bitmap.specs.Bits.{has}
 pub use Rattle.reiser_bitmap.specs.outside.History.{Image, block_at}
 pub use Rattle.reiser_bitmap.specs.refusals.declared.answer.BtrAnswer.{BtrAnswer}

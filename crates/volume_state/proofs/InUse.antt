@@ -47,10 +47,6 @@ module _ (image : Image) (s : Super) (ranges : List MapRange) (opened : IsBtrfsO
   pub chunks_sound : wrong image ranges (chunk_tree s) ≡ []
   chunks_sound = subst (λ (m : List MapRange). wrong image m (chunk_tree s) ≡ []) (sym late.1) (sound_wide image (boot_map s) late.0 (chunk_tree s) array_sound)
 
-  -- by either map the same is met of it
-  pub chunks_met : met image ranges (chunk_tree s) ≡ met image (boot_map s) (chunk_tree s)
-  chunks_met = subst (λ (m : List MapRange). met image m (chunk_tree s) ≡ met image (boot_map s) (chunk_tree s)) (sym late.1) (met_wide image (boot_map s) late.0 (chunk_tree s) array_sound)
-
   -- the same blocks hold a node of it
   pub chunk_by_array : (b : ℕ) → HoldsNodeOf image ranges (chunk_tree s) b → HoldsNodeOf image (boot_map s) (chunk_tree s) b
   chunk_by_array b holding =
@@ -91,12 +87,6 @@ module _ (image : Image) (s : Super) (ranges : List MapRange) (opened : IsBtrfsO
   -- ---- what is answered
   pub log_refused : s.log_root ≢ 0 → RefusesUse image (Refused (LogPending s.log_root))
   log_refused some = has_log s.log_root (one_log image s opened.super some) refl
-
-  -- nothing is wrong, so that a call failed
-  pub none_refused : (refusals : List BtrRefusal) (e : BtrAnswer) → refusals ≡ [] → IsAmong refusals e → RefusesUse image e
-  none_refused refusals (Refused r) none among = absurd (omega (arith, (subst (λ (rs : List BtrRefusal). Contains rs r) none among).1))
-  none_refused refusals Fault none among = tt
-  none_refused refusals Memory none among = tt
 
   pub way_refused : (e : BtrAnswer) → s.log_root ≡ 0 → IsAmong (way_refusals image) e → RefusesUse image e
   way_refused (Refused r) none among = unreadable (no_log image s opened.super none) (inr (opened.sound, among))

@@ -20,22 +20,11 @@ no_file_there : (ranges : List MapRange) (o : Option ImageFile) → MapsImage ra
 no_file_there ranges None maps = refl
 no_file_there ranges (Some f) maps = absurd maps
 
-nothing_in : (refusals : List BtrRefusal) (r : BtrRefusal) → refusals ≡ [] → Contains refusals r → ⊥
-nothing_in refusals r none among = omega (arith, (subst (λ (rs : List BtrRefusal). Contains rs r) none among).1)
-
 -- ---- what was read of an opened volume
 module _ (disk : Image) (s : Super) (ranges : List MapRange) (opened : IsBtrfsOpened disk s ranges) where
   -- what is read on the way to the image, by the superblock and the map of the disk
   pub read_of_disk : (told : Result (Option ImageMap) BtrAnswer) → ReadsImage ranges (saved_image disk s ranges) (image_refusals disk s ranges) told → ReadsImage (own_map disk) (saved_file disk) (way_refusals disk) told
   read_of_disk told reads = of_disk disk s ranges (λ t m. ReadsImage m (saved_image disk t m) (image_refusals disk t m) told) opened reads
-
-  -- what is wrong on the way refuses it, and where nothing is it can be read
-  pub way_refused : (r : BtrRefusal) → Contains (image_refusals disk s ranges) r → IsBtrfsRefusal disk SavedImage r
-  way_refused r among = inr (opened.sound, of_disk disk s ranges (λ t m. Contains (image_refusals disk t m) r) opened among)
-
-  pub way_readable : image_refusals disk s ranges ≡ [] → (r : BtrRefusal) → IsBtrfsRefusal disk SavedImage r → ⊥
-  way_readable none r (inl early) = nothing_in (opening_refusals disk) r opened.sound early
-  way_readable none r (inr late) = nothing_in (way_refusals disk) r (of_disk disk s ranges (λ t m. image_refusals disk t m ≡ []) opened none) late.1
 
   -- without a map the image is missing
   pub none_read : ReadsImage ranges (saved_image disk s ranges) (image_refusals disk s ranges) (Ok None) → IsImageMissing disk

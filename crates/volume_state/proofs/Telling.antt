@@ -33,17 +33,8 @@ module _ (image : Image) (s : Super) (ranges : List MapRange) where
   abbrev entries : NodePointer → List BtrRefusal
   entries p = entry_refusals image ranges (tree_of s FS_TREE p)
 
-  abbrev below_number : ℕ → List BtrRefusal
-  below_number number = refusals_below image s ranges number (root_item number roots)
-
   abbrev named_number : NodePointer → Option ℕ
   named_number p = option_and_then tree_number (saved_location (items_at image s ranges FS_TREE p))
-
-  abbrev after_file : NodePointer → List BtrRefusal
-  after_file p = or_later (entries p) (if_there below_number (named_number p))
-
-  abbrev after_saved : ℕ → NodePointer → List BtrRefusal
-  after_saved number p = saved_refusals image ranges (tree_of s number p)
 
   -- a part of the two lies in the block
   pub record InTrees (b : ℕ) : Type 0 where
@@ -65,29 +56,11 @@ module _ (image : Image) (s : Super) (ranges : List MapRange) where
     abbrev file : Tree
     file = tree_of s FS_TREE p
 
-    way_is : image_refusals image s ranges ≡ after_file p
-    way_is = at_root after_file (root_item FS_TREE roots) p (pointer_at (root_item FS_TREE roots) i p is at)
-
     trees_are : file_trees image s ranges ≡ file ∷ numbered image s ranges (named_number p)
     trees_are = ap (λ (o : Option NodePointer). tree_if s FS_TREE o ++ named_by image s ranges o) (pointer_at (root_item FS_TREE roots) i p is at)
 
-    pub in_way : (e : BtrAnswer) → IsAmong (after_file p) e → IsAmong (image_refusals image s ranges) e
-    in_way e among = subst (λ (rs : List BtrRefusal). IsAmong rs e) (sym way_is) among
-
-    pub entry_among : (e : BtrAnswer) → IsAmong (entries p) e → IsAmong (image_refusals image s ranges) e
-    entry_among e among = in_way e (among_first (entries p) (if_there below_number (named_number p)) e among)
-
-    pub file_among : (e : BtrAnswer) → IsAmong (wrong image ranges file) e → IsAmong (image_refusals image s ranges) e
-    file_among e among = entry_among e (among_left (wrong image ranges file) (root_refusals (found image ranges file)) e among)
-
     pub file_told : (blocks b : ℕ) → TellsReserved (HoldsPartOf image ranges file) blocks (Some b) → TellsReserved InTrees blocks (Some b)
     file_told blocks b one = (one.0, record { tree = file; among = subst (λ (ts : List Tree). Contains ts file) (sym trees_are) (at_head file (numbered image s ranges (named_number p))); holds = one.1 })
-
-    late_among : (e : BtrAnswer) → entries p ≡ [] → IsAmong (if_there below_number (named_number p)) e → IsAmong (image_refusals image s ranges) e
-    late_among e clear among = in_way e (subst (λ (rs : List BtrRefusal). IsAmong (or_later rs (if_there below_number (named_number p))) e) (sym clear) among)
-
-    number_among : (number : ℕ) (e : BtrAnswer) → entries p ≡ [] → named_number p ≡ Some number → IsAmong (below_number number) e → IsAmong (image_refusals image s ranges) e
-    number_among number e clear named among = late_among e clear (subst (λ (rs : List BtrRefusal). IsAmong rs e) (sym (there below_number (named_number p) number named)) among)
 
     -- where there is none, the file tree is alone
     alone_by : (o : Option ℕ) → FindsNumbered s roots o (Ok None) → numbered image s ranges o ≡ []
@@ -130,16 +103,6 @@ module _ (image : Image) (s : Super) (ranges : List MapRange) where
         trees_are
         ∙ (ap (λ (o : Option ℕ). file ∷ numbered image s ranges o) is_other.named
         ∙ (ap (λ (o : Option NodePointer). file ∷ tree_if s is_other.number o) is_other.root ∙ ap (λ (x : Tree). file ∷ x ∷ []) (sym is_other.tree)))
-
-    pub other_among : (t : Tree) (e : BtrAnswer) → IsOther t → IsAmong (wrong image ranges t) e → IsAmong (image_refusals image s ranges) e
-    other_among t e is_other among =
-        let q : NodePointer = is_other.q in
-        let number : ℕ = is_other.number in
-        let own : IsAmong (wrong image ranges (tree_of s number q)) e = subst (λ (x : Tree). IsAmong (wrong image ranges x) e) is_other.tree among in
-        let entry = among_left (wrong image ranges (tree_of s number q)) (root_refusals (found image ranges (tree_of s number q))) e own in
-        number_among number e is_other.clear is_other.named
-        (subst (λ (rs : List BtrRefusal). IsAmong rs e) (sym (at_root (after_saved number) (root_item number roots) q is_other.root))
-        (among_first (entry_refusals image ranges (tree_of s number q)) (image_refusals_in ranges (items_at image s ranges number q)) e entry))
 
     pub both_told : (blocks : ℕ) (t : Tree) (o : Option ℕ) → IsOther t → TellsReserved (HoldsPartOf image ranges file) blocks None → TellsReserved (HoldsPartOf image ranges t) blocks o → TellsReserved InTrees blocks o
     both_told blocks t None is_other none other = λ b reserved holds.

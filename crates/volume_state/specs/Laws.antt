@@ -1,6 +1,6 @@
 -- What may differ of a volume from which the volume before can be had back.
 use Rattle.std.specs.Prelude.{◌≡◌, ℕ, ◌==◌, Bool, ◌&&◌, not, length}
-use Rattle.btrfs_format.specs.declared.block.TheConstants.{SUPER_BLOCK}
+use Rattle.btr_node.specs.btrfs_format.declared.block.TheConstants.{SUPER_BLOCK}
 use Rattle.reiser_bitmap.specs.outside.History.{Image, block_at}
 use Rattle.reiser_bitmap.specs.vol_block.Volume.{is_reserved}
 use Rattle.btr_reader.specs.Apart.{IsSameOutside}

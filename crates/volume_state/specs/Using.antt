@@ -1,8 +1,8 @@
 -- Which blocks of a disk are in use by what is read of its Btrfs volume.
 use Rattle.std.specs.Prelude.{◌≡◌, ◌⊎◌, ◌<◌, ℕ, ◌+◌, ◌/◌, ◌==◌, if◌then◌else◌, List, [], ◌∷◌, ◌++◌, Option, Some, None, Contains}
 use Rattle.std.specs.Option.{option_and_then}
-use Rattle.btrfs_format.specs.declared.key.TheConstants.{EXTENT_DATA}
-use Rattle.btrfs_format.specs.declared.object.TheConstants.{FS_TREE}
+use Rattle.btr_node.specs.btrfs_format.declared.key.TheConstants.{EXTENT_DATA}
+use Rattle.btr_node.specs.btrfs_format.declared.object.TheConstants.{FS_TREE}
 use Rattle.reiser_bitmap.specs.outside.History.{Image}
 use Rattle.reiser_bitmap.specs.refusals.declared.answer.BtrAnswer.{BtrAnswer}
 use Rattle.reiser_bitmap.specs.refusals.declared.answer.BtrAnswer.TheVariants.{Refused, Fault, Memory}
@@ -17,7 +17,7 @@ use Rattle.btr_reader.specs.Opening.{chunk_tree, root_tree, tree_of}
 use Rattle.btr_reader.specs.Parts.{IsBtrfsRefusal, SavedImage, log_tree, own_map, own_super}
 use Rattle.btr_reader.specs.Roots.{root_item}
 use Rattle.btr_reader.specs.Rows.{roots_on}
-use Rattle.btr_super.specs.declared.superblock.Super.{Super}
+use Rattle.btr_reader.specs.btr_super.declared.superblock.Super.{Super}
 use Rattle.btr_reader_walk.specs.Events.{TreeItem, nodes_in}
 use Rattle.btr_reader_walk.specs.Map.{place, second_place}
 use Rattle.btr_reader_walk.specs.Walks.{found, met}

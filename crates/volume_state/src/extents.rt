@@ -7,10 +7,10 @@ ghost use Rattle.volume_state.specs.Reserved.{IsMapApart};
 ghost use Rattle.volume_state.specs.Using.{HoldsExtent, TellsReserved, content_range, item_range, range_unless_hole};
 
 use crate::reserved::reserved_in;
+use btr_node::btrfs_format::key::EXTENT_DATA;
 use btr_node::{DiskRange, ExtentContent, FileExtent, Key};
 use btr_reader_contents::is_hole;
 use btr_reader_walk::{MapRange, Notes};
-use btrfs_format::key::EXTENT_DATA;
 use reiser_bitmap::{BlockNo, Memory};
 use std::alloc::Global;
 

@@ -4,8 +4,10 @@ ghost use Rattle.reiser_bitmap.specs.vol_block.Volume.{IsReserved};
 ghost use Rattle.volume_state.specs.Reserved.{IsMapApart, LieInCopy, LieInRange, LieInSecond, TellsBetween};
 ghost use Rattle.volume_state.specs.Using.{LieIn, TellsReserved};
 
+use btr_node::btrfs_format::block::{
+    FIRST_MIRROR, FIRST_MIRROR_END, SECOND_MIRROR, SECOND_MIRROR_END,
+};
 use btr_reader_walk::MapRange;
-use btrfs_format::block::{FIRST_MIRROR, FIRST_MIRROR_END, SECOND_MIRROR, SECOND_MIRROR_END};
 use reiser_bitmap::{BlockNo, usable_end};
 
 /// The first block from `first` to before `end` that is also one from `from` to before `to`.

@@ -18,10 +18,10 @@ ghost use Rattle.volume_state.specs.Using.{HoldsPartOf, IsInFiles, IsInRoots, Is
 
 use crate::extents::ReservedExtent;
 use crate::nodes::reserved_node;
+use btr_node::btrfs_format::block::SUPER_INFO_OFFSET;
+use btr_node::btrfs_format::object::FS_TREE;
 use btr_reader::{Btrfs, ImageMap, refused};
 use btr_reader_walk::Tree;
-use btrfs_format::block::SUPER_INFO_OFFSET;
-use btrfs_format::object::FS_TREE;
 use reiser_bitmap::{
     BlockNo, BlockSource, BtrAnswer, BtrRefusal, BtrRule, is_reserved, usable_end,
 };

@@ -1,5 +1,6 @@
 -- No part of a converted volume lies in a reserved block.
-use Rattle.convert_core_laws.proofs.Imports.{◌≡◌, ◌≤◌, ◌<◌, ℕ, ◌+◌, ◌-◌, ◌*◌, ◌/◌, eqb, Bool, true, false, List, [], ◌∷◌, ◌++◌, length, map, Option, None, Some, refl, sym, ap, subst, ◌∙◌, ⊎_elim, arith, Contains, if◌then◌else◌, map-append, Contains-permutation, IsPermutation-sym, map-map, IsPermutation, EXTENT_DATA, CHUNK_TREE, CONV_IMAGE_SUBVOL, FS_TREE, ROOT_TREE, in_map, Image, IsReserved, Ids, DiskRange, Item, IsNodeSize, range_of, boot_list, chunk_map, chunk_tree, form_of, root_tree, tree_of, own_map, own_super, ChunkAt, KeepsReserved, IsExtent, a_node, node_kind, Recount, Span, TreeOn, all_trees, Super, GivesItself, Root, TreeItem, nodes_in, walk_events, holds, place, second_place, bare_item, found, MapRange, Form, NodePointer, Tree, IsMaking, Making, chunk_slots, new_ids, TreesStand, file_tree_items, form, image_tree_items, root_tree_items, TreeRoots, piece_apart, new_super, IsReadableWithTrees, MapsChunks, IsNewVolume, boot_part, chunk_at, map_for, other_part, range_for, super_for, boot_map, all_from_contains, contains_cases, used_of, HasPlace, HoldsExtent, HoldsNodeOf, HoldsPartOf, IsInUse, chunk_node, file_part, file_trees, root_node, recount_for, tree_for, chunk_items, TreeNode, blocks_are, pointer_to_root, Options, PlannedChunk, Piece, Files, SavedImage}
+use Rattle.convert_core_laws.proofs.Imports.{◌≡◌, ◌≤◌, ◌<◌, ℕ, ◌+◌, ◌-◌, ◌*◌, ◌/◌, eqb, Bool, true, false, List, [], ◌∷◌, ◌++◌, length, map, Option, None, Some, refl, sym, ap, subst, ◌∙◌, ⊎_elim, arith, Contains, if◌then◌else◌, map-append, Contains-permutation, IsPermutation-sym, map-map, IsPermutation, EXTENT_DATA, CHUNK_TREE, CONV_IMAGE_SUBVOL, FS_TREE, ROOT_TREE, in_map, Image, IsReserved, Ids, DiskRange, Item, IsNodeSize, range_of, boot_list, chunk_map, chunk_tree, form_of, root_tree, tree_of, own_map, own_super, ChunkAt, KeepsReserved, IsExtent, a_node, node_kind, Recount, TreeOn, all_trees, Span, Super, GivesItself, Root, TreeItem, nodes_in, walk_events, holds, place, second_place, bare_item, found, MapRange, Form, NodePointer, Tree, IsMaking, Making, chunk_slots, new_ids, TreesStand, file_tree_items, form, image_tree_items, root_tree_items, TreeRoots, piece_apart, new_super, IsReadableWithTrees, MapsChunks, IsNewVolume, boot_part, chunk_at, map_for, other_part, range_for, super_for, boot_map, all_from_contains, contains_cases, used_of, HasPlace, HoldsExtent, HoldsNodeOf, HoldsPartOf, IsInUse, chunk_node, file_part, root_node, recount_for, tree_for, chunk_items, TreeNode, blocks_are, pointer_to_root, Options, PlannedChunk, Piece, Files, SavedImage}
+use Rattle.volume_state.specs.Using.{file_trees}
 use Rattle.convert_core_laws.proofs.reading.Mapped.{boot_nodes}
 use Rattle.convert_core_laws.proofs.reading.Superblock.{size}
 use Rattle.convert_core_laws.proofs.soundness.Nodes.{chunk_at as chunk_nodes_at, met as met_by, packed_at}
@@ -47,14 +48,8 @@ module _ (o : Options) (ids : Ids) (now : ℕ) (image other : Image) (m : Making
   abbrev stand : TreesStand image other other m r nodes
   stand = v.new.stands.trees
 
-  abbrev s : Super
-  s = super_for m r nodes
-
   abbrev k : Recount
   k = recount_for image other m r nodes
-
-  abbrev ranges : List MapRange
-  ranges = own_map other
 
   abbrev volume : ℕ
   volume = length (used_of image)

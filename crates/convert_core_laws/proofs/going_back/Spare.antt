@@ -1,5 +1,6 @@
 -- Where no block in use is reserved, no part of a volume lies in a reserved block but for the superblock.
-use Rattle.convert_core_laws.proofs.Imports.{◌≡◌, ℕ, ◌/◌, eqb, inl, inr, ◌&&◌, not, Bool, true, false, List, Some, refl, ap, ◌∙◌, Contains, FS_TREE, Image, IsReserved, is_reserved, decides_reserved, ImageFile, image_place, saved_image, chunk_tree, root_tree, tree_of, own_map, own_super, Super, found, MapRange, Tree, AreExtentsApart, AreNodesApart, IsVolumeApart, boot_map, is_spare, is_spare_in, HoldsPartOf, IsInUse, chunk_node, file_part, file_trees, root_node}
+use Rattle.convert_core_laws.proofs.Imports.{◌≡◌, ℕ, ◌/◌, eqb, inl, inr, ◌&&◌, not, Bool, true, false, List, Some, refl, ap, ◌∙◌, Contains, FS_TREE, Image, IsReserved, is_reserved, decides_reserved, ImageFile, image_place, saved_image, chunk_tree, root_tree, tree_of, own_map, own_super, Super, found, MapRange, Tree, AreExtentsApart, AreNodesApart, IsVolumeApart, boot_map, is_spare, is_spare_in, HoldsPartOf, IsInUse, chunk_node, file_part, root_node}
+use Rattle.volume_state.specs.Using.{file_trees}
 use Rattle.volume_state.proofs.Apart.{extents_apart, file_tree_among, nodes_apart, saved_tree_among}
 
 module _ (disk : Image) (blocks : ℕ) (total : (own_super disk).total_bytes / 4096 ≡ blocks) (free : (b : ℕ) → IsInUse disk b → ¬ IsReserved b blocks)

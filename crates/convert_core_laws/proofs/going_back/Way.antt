@@ -1,7 +1,7 @@
 -- The two file trees of a converted volume.
-use Rattle.convert_core_laws.proofs.Imports.{◌≡◌, ℕ, eqb, true, List, [], ◌∷◌, ◌++◌, Option, Some, ap, ◌∙◌, option_and_then, ROOT_ITEM, CONV_IMAGE_SUBVOL, FS_TREE, Image, Key, names_tree, has_root, image_below, image_in, items_at, pointer_in, saved_location as entry_of_saved, saved_image, tree_of, own_map, own_super, root_item, roots_on, Super, TreeItem, found, MapRange, NodePointer, Tree, IsMaking, Making, file_tree_items, image_tree_items, TreeRoots, IsReadableWithTrees, ReadsTree, KeepsFileNames, EntriesAreThere, NamesKeepRules, file_pointer, file_trees, named_by, tree_if, TreeNode, pointer_to_root, Files, SavedImage}
+use Rattle.convert_core_laws.proofs.Imports.{◌≡◌, ℕ, eqb, true, List, [], ◌∷◌, ◌++◌, Option, Some, ap, ◌∙◌, option_and_then, ROOT_ITEM, CONV_IMAGE_SUBVOL, FS_TREE, Image, Key, names_tree, has_root, image_below, image_in, items_at, pointer_in, saved_location as entry_of_saved, saved_image, tree_of, own_map, own_super, root_item, roots_on, Super, TreeItem, found, MapRange, NodePointer, Tree, IsMaking, Making, file_tree_items, image_tree_items, TreeRoots, IsReadableWithTrees, ReadsTree, KeepsFileNames, EntriesAreThere, NamesKeepRules, file_pointer, named_by, tree_if, TreeNode, pointer_to_root, Files, SavedImage}
 use Rattle.btr_reader.specs.Image.{tree_number}
-use Rattle.volume_state.specs.Using.{numbered}
+use Rattle.volume_state.specs.Using.{file_trees, numbered}
 use Rattle.convert_core_laws.proofs.reading.SavedWay.{HasSavedEntry, pointer_by, saved_there}
 use Rattle.convert_core_laws.proofs.reading.RootKept.{saved_found}
 use Rattle.convert_core_laws.proofs.reading.Named.{tree_read}

@@ -1,10 +1,10 @@
 -- The trees of a converted volume are read, and it is readable.
-use Rattle.convert_core_laws.proofs.Imports.{◌≡◌, ◌⊎◌, ◌≤◌, ◌<◌, ℕ, ◌^◌, inl, inr, List, [], ◌∷◌, map, drop, length, Option, Some, None, Ok, Err, sym, ap, subst, ◌∙◌, ⊎_elim, arith, length-drop, Contains, All, All-drop, SUPER_BLOCK, CONV_IMAGE_SUBVOL, EXTENT_TREE, FIRST_FREE_OBJECTID, FS_TREE, Image, block_at, BtrRefusal, Ids, has_root, BreaksNames, Item, chunk_map, opening_refusals, tree_of, own_map, own_super, pointer_of, root_item, BreaksExtents, IsFileTreeRefusal, roots_on, no_root_item, bad_root_item, bad_tree, bad_names, bad_extents, Super, super_refusals, unless_refused, super_of, super_in, Root, TreeItem, bare_item, found, wrong, MapRange, NodePointer, IsMaking, Making, new_ids, saved_index, slots, TreesStand, extents_from, file_tree_items, form, root_tree_items, TreeRoots, NamedTree, named_trees, all_from_contains, extent_items, tree_root_item as item_of_root, TreeNode, TreeRoot, TreeStands, pointer_to_root, Options, ConvertedIsReadable, IsReadableWithTrees, OpensWithTrees, TreesRead, AreRangesFor, GivesItsOwn, IsNewVolume, ReadsTree, ReadsTrees, map_for, super_for, Files, SavedImage, tree_number}
+use Rattle.convert_core_laws.proofs.Imports.{◌≡◌, ◌⊎◌, ◌≤◌, ◌<◌, ℕ, ◌^◌, inl, inr, List, [], ◌∷◌, map, drop, length, Option, Some, None, Ok, Err, sym, ap, subst, ◌∙◌, ⊎_elim, arith, length-drop, Contains, All, All-drop, SUPER_BLOCK, CONV_IMAGE_SUBVOL, EXTENT_TREE, FIRST_FREE_OBJECTID, FS_TREE, Image, block_at, BtrRefusal, Ids, has_root, BreaksNames, Item, chunk_map, opening_refusals, tree_of, own_map, own_super, pointer_of, root_item, root_pointer, BreaksExtents, IsFileTreeRefusal, roots_on, no_root_item, bad_root_item, bad_tree, bad_names, bad_extents, Super, super_refusals, unless_refused, super_of, super_in, Root, TreeItem, bare_item, found, wrong, MapRange, NodePointer, IsMaking, Making, new_ids, saved_index, slots, TreesStand, extents_from, file_tree_items, form, root_tree_items, TreeRoots, NamedTree, named_trees, all_from_contains, extent_items, tree_root_item as item_of_root, root_body, TreeNode, TreeRoot, TreeStands, pointer_to_root, Options, ConvertedIsReadable, IsReadableWithTrees, OpensWithTrees, TreesRead, AreRangesFor, GivesItsOwn, IsNewVolume, ReadsTree, ReadsTrees, map_for, super_for, Files, SavedImage, tree_number, option_and_then, root_item_of}
 use Rattle.convert_core.specs.convert_steps.Standing.{items_of}
 use Rattle.convert_core_laws.proofs.reading.Mapped.{slot_small}
 use Rattle.convert_core_laws.proofs.reading.Numbers.{size_small, slots_few}
 use Rattle.convert_core_laws.proofs.reading.Opening.{later_read, maps_chunks, opened, root_read}
-use Rattle.convert_core_laws.proofs.reading.Rooted.{IsFoundRoot, extents_found, leads, named, tree_found}
+use Rattle.convert_core_laws.proofs.reading.Rooted.{IsFoundRoot, extents_found, low_pointer, named, root_reads, tree_found}
 use Rattle.convert_core_laws.proofs.reading.Named.{every_named, tree_read, tree_stands}
 use Rattle.convert_core_laws.proofs.reading.Stood.{root_at, root_low}
 use Rattle.convert_core_laws.proofs.reading.Superblock.{reads, size, super_reads}
@@ -63,16 +63,25 @@ module _ (o : Options) (ids : Ids) (now : ℕ) (image other : Image) (m : Making
   abbrev ranges : List MapRange
   ranges = map_for m.chunks
 
-  -- a root item leads to the root of its tree
+  -- a root item is read back
+  pub root_told : (number k : ℕ) (root : Root) (items : List Item) → TreeStands other (form m) number (drop k (slots m)) items root
+      → root_item_of (item_of_root (new_ids m) m.options.nodesize (record { tree = number; root = root })).1 ≡ Some (root_body (new_ids m) m.options.nodesize (record { tree = number; root = root }))
+  root_told number k root items stands =
+      let fit = size o ids now image other m r nodes v in
+      let own : TreeRoot = record { tree = number; root = root } in
+      let low : root.level ≤ 6 = root_low other (form m) number (drop k (slots m)) items root stands fit (let few = slots_few image m making fit in let long = length-drop k (slots m) in omega (arith, few, long)) in
+      let small : root.address < 2 ^ 41 = root_at other (form m) number (drop k (slots m)) items root stands (λ (a : ℕ). a < 2 ^ 41) (All-drop (λ (a : ℕ). a < 2 ^ 41) k (slots m) (all_from_contains (λ (a : ℕ). a < 2 ^ 41) (slots m) (slot_small image m making fit))) in
+      let few : root.nodes ≤ 2 ^ 40 = (let all = slots_few image m making fit in let long = length-drop k (slots m) in let fits = stands.few in omega (arith, all, long, fits)) in
+      root_reads (new_ids m) m.options.nodesize own v.ids_ (size_small m.options.nodesize fit) (omega (arith, small)) (omega (arith, low)) few
+
+  -- it leads to the root of its tree
   pub root_leads : (number k : ℕ) (root : Root) (items : List Item) → TreeStands other (form m) number (drop k (slots m)) items root
       → pointer_of (item_of_root (new_ids m) m.options.nodesize (record { tree = number; root = root })).1 ≡ Some (pointer_to_root root)
   root_leads number k root items stands =
       let fit = size o ids now image other m r nodes v in
       let own : TreeRoot = record { tree = number; root = root } in
       let low : root.level ≤ 6 = root_low other (form m) number (drop k (slots m)) items root stands fit (let few = slots_few image m making fit in let long = length-drop k (slots m) in omega (arith, few, long)) in
-      let small : root.address < 2 ^ 41 = root_at other (form m) number (drop k (slots m)) items root stands (λ (a : ℕ). a < 2 ^ 41) (All-drop (λ (a : ℕ). a < 2 ^ 41) k (slots m) (all_from_contains (λ (a : ℕ). a < 2 ^ 41) (slots m) (slot_small image m making fit))) in
-      let few : root.nodes ≤ 2 ^ 40 = (let all = slots_few image m making fit in let long = length-drop k (slots m) in let fits = stands.few in omega (arith, all, long, fits)) in
-      leads (new_ids m) m.options.nodesize own v.ids_ (size_small m.options.nodesize fit) (omega (arith, small)) (omega (arith, low)) few
+      ap (option_and_then root_pointer) (root_told number k root items stands) ∙ low_pointer (root_body (new_ids m) m.options.nodesize own) (omega (arith, low))
 
   -- a tree whose root item is found
   read_tree : (number k : ℕ) (root : Root) (items : List Item) → TreeStands other (form m) number (drop k (slots m)) items root

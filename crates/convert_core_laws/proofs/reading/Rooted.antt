@@ -1,7 +1,6 @@
 -- Each tree is found by its root item.
-use Rattle.convert_core_laws.proofs.Imports.{◌≡◌, ◌≤◌, ◌<◌, ℕ, ◌*◌, ◌^◌, eqb, Bool, true, false, ◌&&◌, ◌||◌, List, [], ◌∷◌, length, map, replicate, Option, Some, None, refl, ap, ◌∙◌, arith, if◌then◌else◌, codes, pos, list_any, option_and_then, option_map, le-ltb, or_left, or_right, w64, fits_signed_from_abs, mul-le, length-replicate, ROOT_BACKREF, ROOT_ITEM, ROOT_REF, CONV_IMAGE_SUBVOL, CSUM_TREE, DATA_RELOC_TREE, DEV_TREE, EXTENT_TREE, FS_TREE, ROOT_TREE_DIR_OBJECTID, DIRECTORY_MODE, Ids, inode_layout, key_layout, make_key, stamp_layout, has_root, is_root_of, Item, last_or, pointer_of, root_item, root_pointer as read_pointer, root_items_read_back, TreeItem, bare_item, TreeRoots, rooted_trees, AreIds, default_item, is_file_tree, root_body, root_dirid, root_items, tree_root_item as item_of_root, saved_ref, tree_uuid, TreeRoot, pointer_to_root, inode_item, inode_made, ref_item, Files, SavedImage, Relocation, Checksums, Devices, NewTree, tree_number}
-use Rattle.btr_reader.specs.btr_space_items.RootItem.{root_item_bytes, root_item_layout, root_item_of}
-use Rattle.btr_reader.specs.btr_space_items.declared.root_item.RootItem.{RootItem}
+use Rattle.convert_core_laws.proofs.Imports.{◌≡◌, ◌≤◌, ◌<◌, ℕ, ◌*◌, ◌^◌, eqb, Bool, true, false, ◌&&◌, ◌||◌, List, [], ◌∷◌, length, map, replicate, Option, Some, None, refl, ap, ◌∙◌, arith, if◌then◌else◌, codes, pos, list_any, option_and_then, option_map, le-ltb, or_left, or_right, w64, fits_signed_from_abs, mul-le, length-replicate, ROOT_BACKREF, ROOT_ITEM, ROOT_REF, CONV_IMAGE_SUBVOL, CSUM_TREE, DATA_RELOC_TREE, DEV_TREE, EXTENT_TREE, FS_TREE, ROOT_TREE_DIR_OBJECTID, DIRECTORY_MODE, Ids, inode_layout, key_layout, make_key, stamp_layout, has_root, is_root_of, Item, last_or, pointer_of, root_item, root_pointer as read_pointer, root_items_read_back, TreeItem, bare_item, TreeRoots, rooted_trees, AreIds, default_item, root_body, root_dirid, root_items, tree_root_item as item_of_root, saved_ref, tree_uuid, TreeRoot, pointer_to_root, inode_item, inode_made, ref_item, Files, SavedImage, Relocation, Checksums, Devices, NewTree, tree_number, root_item_bytes, root_item_layout, root_item_of, RootItem}
+use Rattle.convert_core.specs.space_items.Roots.{is_file_tree}
 
 -- ---- what a root item leads to
 
@@ -33,18 +32,12 @@ body_fits ids nodesize r are small address low few =
         by true = are.subvolume
         by false = length-replicate {A = ℕ} 16 0
 
-low_pointer : (r : RootItem) → r.level ≤ 7 → read_pointer r ≡ Some (record { address = r.bytenr; level = r.level; generation = r.generation })
+pub low_pointer : (r : RootItem) → r.level ≤ 7 → read_pointer r ≡ Some (record { address = r.bytenr; level = r.level; generation = r.generation })
 low_pointer r low = ap (λ (b : Bool). if b then None else Some (record { address = r.bytenr; level = r.level; generation = r.generation })) (le-ltb 7 r.level low)
 
 pub root_reads : (ids : Ids) (nodesize : ℕ) (r : TreeRoot) → AreIds ids → nodesize ≤ 65536 → r.root.address < 2 ^ 64 → r.root.level ≤ 7 → r.root.nodes ≤ 2 ^ 40
     → root_item_of (root_item_bytes (root_body ids nodesize r)) ≡ Some (root_body ids nodesize r)
 root_reads ids nodesize r are small address low few = root_items_read_back (root_body ids nodesize r) (body_fits ids nodesize r are small address low few)
-
-pub leads : (ids : Ids) (nodesize : ℕ) (r : TreeRoot) → AreIds ids → nodesize ≤ 65536 → r.root.address < 2 ^ 64 → r.root.level ≤ 7 → r.root.nodes ≤ 2 ^ 40
-    → pointer_of (root_item_bytes (root_body ids nodesize r)) ≡ Some (pointer_to_root r.root)
-leads ids nodesize r are small address low few =
-    ap (λ (o : Option RootItem). option_and_then read_pointer o) (root_reads ids nodesize r are small address low few)
-    ∙ low_pointer (root_body ids nodesize r) low
 
 -- ---- the items of the root tree, one after the other
 

@@ -1,5 +1,5 @@
 -- The uses of data by all trees.
-use Rattle.convert_core_laws.proofs.Imports.{◌≡◌, ◌≤◌, ℕ, ◌+◌, ◌*◌, ◌^◌, eqb, Bool, true, false, List, [], ◌∷◌, map, filter, Option, Some, None, refl, sym, ap, subst, ◌∙◌, ⊎_elim, arith, All, Contains, MatchOption, if◌then◌else◌, is_some, option_map_or, All-contains, All-cons, All-map, Contains-append_cases, DEV_ITEM, EXTENT_DATA, CONV_IMAGE_SUBVOL, DEV_ITEMS_OBJECTID, from_flat_map, from_map, in_filter, Image, file_extent_of, make_key, Item, IsNodeSize, DataUse, IsData, Recount, Span, TreeOn, all_trees, data_uses, use_in, uses_in, device_bytes, IsMaking, Making, new_ids, image_tree_items, root_tree_items, sum_tree_items, TreeRoots, well, all_at, extents_at, piece_bytes, pieces_of_volume, source_block, image_head, image_items, relocation_items, extent_item, regular_extent, all_from_contains, contains_cases, used_of, chunk_item, chunk_items, dev_extent_item, device_body, device_items, extent_items, group_item, node_item, piece_item, used_in, item_cmp, merged, run_items, sum_items, TreeNode, all-merge, used_few, PlannedChunk, Piece, recount_for, NewTree, Files, SavedImage, Relocation, Checksums, Devices}
+use Rattle.convert_core_laws.proofs.Imports.{◌≡◌, ◌≤◌, ℕ, ◌+◌, ◌*◌, ◌^◌, eqb, Bool, true, false, List, [], ◌∷◌, map, filter, Option, Some, None, refl, sym, ap, subst, ◌∙◌, ⊎_elim, arith, All, Contains, MatchOption, if◌then◌else◌, is_some, option_map_or, All-contains, All-cons, All-map, Contains-append_cases, DEV_ITEM, EXTENT_DATA, CONV_IMAGE_SUBVOL, DEV_ITEMS_OBJECTID, from_flat_map, from_map, in_filter, Image, file_extent_of, make_key, Item, IsNodeSize, DataUse, IsData, Recount, TreeOn, all_trees, data_uses, use_in, uses_in, Span, device_bytes, IsMaking, Making, new_ids, image_tree_items, root_tree_items, sum_tree_items, TreeRoots, well, all_at, extents_at, piece_bytes, pieces_of_volume, source_block, image_head, image_items, relocation_items, extent_item, regular_extent, all_from_contains, contains_cases, used_of, chunk_item, chunk_items, dev_extent_item, device_body, device_items, extent_items, group_item, node_item, piece_item, used_in, item_cmp, merged, run_items, sum_items, TreeNode, all-merge, used_few, PlannedChunk, Piece, recount_for, NewTree, Files, SavedImage, Relocation, Checksums, Devices}
 use Rattle.std.specs.Prelude.{length}
 use Rattle.convert_core.specs.convert_steps.Standing.{items_of}
 use Rattle.convert_core_laws.proofs.reading.SavedPieces.{member}

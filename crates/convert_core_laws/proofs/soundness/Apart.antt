@@ -1,5 +1,5 @@
 -- The extents of a converted volume lie apart.
-use Rattle.convert_core_laws.proofs.Imports.{◌≡◌, ◌≢◌, ◌⊎◌, ◌≤◌, ◌<◌, ℕ, zero, suc, ◌+◌, ◌*◌, ◌/◌, ◌%◌, ◌^◌, inl, inr, eqb, Bool, cond, List, [], ◌∷◌, length, length-drop, drop, get_or, refl, sym, ap, subst, ◌∙◌, ⊎_elim, arith, All, AllPairs, Contains, flat_map, sum_by, cases_eq, cases_lt, eq-eqb, ne_eqb, sum_by-cons, CHUNK_TREE, EXTENT_TREE, Image, Ids, IsNodeSize, EndsBefore, IsExtent, a_node, node_kind, some_data, Recount, Span, TreeOn, all_trees, IsInSlots, NodePointer, IsMaking, Making, chunk_slots, new_ids, slots, TreesStand, extents_from, nodes_of_others, TreeRoots, piece_not_metadata, piece_not_system, sound, well, slot_unit, IsNewVolume, tree_nodes, lengths_of, all_at, pairs_head, pairs_tail, two_cases, used_of, chunk_items, extent_items, AreNodes, TreeNode, merged_ascend, nodes_at_slots, tree_at, used_few, node_places, places_serve, Options, Piece, recount_for}
+use Rattle.convert_core_laws.proofs.Imports.{◌≡◌, ◌≢◌, ◌⊎◌, ◌≤◌, ◌<◌, ℕ, zero, suc, ◌+◌, ◌*◌, ◌/◌, ◌%◌, ◌^◌, inl, inr, eqb, Bool, cond, List, [], ◌∷◌, length, length-drop, drop, get_or, refl, sym, ap, subst, ◌∙◌, ⊎_elim, arith, All, AllPairs, Contains, flat_map, sum_by, cases_eq, cases_lt, eq-eqb, ne_eqb, sum_by-cons, CHUNK_TREE, EXTENT_TREE, Image, Ids, IsNodeSize, EndsBefore, IsExtent, a_node, node_kind, some_data, Recount, TreeOn, all_trees, Span, IsInSlots, NodePointer, IsMaking, Making, chunk_slots, new_ids, slots, TreesStand, extents_from, nodes_of_others, TreeRoots, piece_not_metadata, piece_not_system, sound, well, slot_unit, IsNewVolume, tree_nodes, lengths_of, all_at, pairs_head, pairs_tail, two_cases, used_of, chunk_items, extent_items, AreNodes, TreeNode, merged_ascend, nodes_at_slots, tree_at, used_few, node_places, places_serve, Options, Piece, recount_for}
 use Rattle.reiser_volume.proofs.Reaching.{sum_two}
 use Rattle.convert_core_laws.proofs.reading.Numbers.{chunk_slots_few, slots_few}
 use Rattle.convert_core_laws.proofs.soundness.AllUses.{data_is, span_of}

@@ -1,7 +1,8 @@
 -- The block groups of a converted volume tell what its chunks hold.
-use Rattle.convert_core_laws.proofs.Imports.{◌≡◌, ◌≤◌, ℕ, ◌+◌, ◌*◌, ◌&&◌, Bool, cond, List, [], ◌∷◌, map, get_or, Some, refl, sym, ap, subst, ◌∙◌, ⊎_elim, arith, nat_le, nat_lt, All, AllPairs, Contains, flat_map, sum_by, All-map, sum_by-cons, FIRST_CHUNK_TREE_OBJECTID, from_map, in_map, Image, Ids, Item, IsNodeSize, AreRanges, IsGroupOf, chunk_span, data_bytes_in, groups, node_bytes_in, bytes_used_in, KeepsBlockGroups, IsData, object_of, Recount, Span, TreeOn, all_trees, is_within, ChunkAt, BlockGroup, NodePointer, IsMaking, Making, new_ids, TreeRoots, well, NewIdsFit, IsNewVolume, chunk_at, pairs_map, FilesAreHeld, sum_alike, sum_kept, sum_mapped, all_from_contains, contains_cases, chunk_kind, bytes_of_nodes, bytes_of_pieces, group_item, is_in_chunk, used_in as used_of_chunk, TreeNode, PlannedChunk, Options, Piece, ConvertedBlockGroupsAreSound, recount_for, each_at}
+use Rattle.convert_core_laws.proofs.Imports.{filter, ◌≡◌, ◌≤◌, ℕ, ◌+◌, ◌*◌, ◌&&◌, Bool, cond, List, [], ◌∷◌, map, get_or, Some, refl, sym, ap, subst, ◌∙◌, ⊎_elim, arith, nat_le, nat_lt, All, AllPairs, Contains, flat_map, sum_by, All-map, sum_by-cons, FIRST_CHUNK_TREE_OBJECTID, from_map, in_map, Image, Ids, Item, IsNodeSize, AreRanges, IsGroupOf, chunk_span, data_bytes_in, groups, node_bytes_in, bytes_used_in, KeepsBlockGroups, IsData, object_of, Recount, TreeOn, all_trees, is_within, Span, ChunkAt, BlockGroup, NodePointer, IsMaking, Making, new_ids, TreeRoots, well, NewIdsFit, IsNewVolume, chunk_at, pairs_map, FilesAreHeld, sum_alike, sum_kept, sum_mapped, all_from_contains, contains_cases, chunk_kind, bytes_of_nodes, bytes_of_pieces, group_item, is_in_chunk, used_in as used_of_chunk, TreeNode, PlannedChunk, Options, Piece, ConvertedBlockGroupsAreSound, recount_for, each_at}
 use Rattle.convert_core_laws.proofs.reading.Numbers.{used_small}
 use Rattle.convert_core_laws.proofs.soundness.AllUses.{data_is, span_of}
+use Rattle.convert_core_laws.proofs.soundness.MetOnce.{met_is}
 use Rattle.convert_core_laws.proofs.soundness.Recounting.{nodesize_is, volume_for}
 use Rattle.convert_core_laws.proofs.soundness.Row.{nodes_sum}
 use Rattle.convert_core_laws.proofs.soundness.Stripes.{chunk_from, chunk_there}
@@ -56,11 +57,13 @@ module _ (o : Options) (ids : Ids) (now : ℕ) (image other : Image) (m : Making
 
   of_nodes : (c : PlannedChunk) → node_bytes_in k (span c) ≡ bytes_of_nodes nodes m.options.nodesize c
   of_nodes c =
-      sum_kept (λ (p : NodePointer). is_within (span c) p.address) (λ (p : NodePointer). k.super.nodesize) (flat_map (λ (t : TreeOn). t.nodes) (all_trees k))
+      ap (λ (l : List ℕ). sum_by (λ (n : ℕ). k.super.nodesize) (filter (is_within (span c)) l)) (met_is o ids now image other m r nodes v)
+      ∙ (sum_kept (is_within (span c)) (λ (n : ℕ). k.super.nodesize) (map (λ (p : NodePointer). p.address) (flat_map (λ (t : TreeOn). t.nodes) (all_trees k)))
+      ∙ (sum_mapped (λ (p : NodePointer). p.address) (λ (a : ℕ). cond (is_within (span c) a) k.super.nodesize 0) (flat_map (λ (t : TreeOn). t.nodes) (all_trees k))
       ∙ (nodes_sum o ids now image other m r nodes v (λ (a : ℕ). cond (is_within (span c) a) k.super.nodesize 0)
       ∙ (sum_alike (λ (t : TreeNode). cond (is_within (span c) t.address) k.super.nodesize 0) (λ (t : TreeNode). cond (is_in_chunk c t.address) m.options.nodesize 0) nodes
       (λ t. ap (λ (b : Bool). cond b k.super.nodesize 0) (same_test (new_ids m) c t.address) ∙ ap (λ (n : ℕ). cond (is_in_chunk c t.address) n 0) (nodesize_is m r nodes))
-      ∙ sym (sum_kept (λ (t : TreeNode). is_in_chunk c t.address) (λ (t : TreeNode). m.options.nodesize) nodes)))
+      ∙ sym (sum_kept (λ (t : TreeNode). is_in_chunk c t.address) (λ (t : TreeNode). m.options.nodesize) nodes)))))
 
   of_data : (c : PlannedChunk) → data_bytes_in spans (span c) ≡ bytes_of_pieces m.pieces c
   of_data c =

@@ -1,5 +1,5 @@
 -- The bodies of extents are read back.
-use Rattle.convert_core_laws.proofs.Imports.{◌≡◌, ◌≤◌, ◌<◌, ℕ, ◌^◌, nat_lt, true, false, List, [], ◌∷◌, length, refl, ap, ◌∙◌, arith, AllPairs, AllByRecursion, flat_map, sum_by, nat_tests, drop_at, All-cons, All-nil, AllPairs-cons, HasRefs, StandsBefore, FitsInline, data_ref_layout, inline_ref_bytes, inline_refs_of, tree_block_layout, ref_uses, InlineRef, DataRef, TreeBlock, extent_heads_read_back, extent_body}
+use Rattle.convert_core_laws.proofs.Imports.{◌≡◌, ◌≤◌, ◌<◌, ℕ, ◌^◌, nat_lt, true, false, List, [], ◌∷◌, length, refl, ap, ◌∙◌, arith, AllPairs, AllByRecursion, flat_map, sum_by, nat_tests, drop_at, All-cons, All-nil, AllPairs-cons, TellsRefs, StandsBefore, FitsInline, data_ref_layout, inline_ref_bytes, inline_refs_of, tree_block_layout, ref_uses, InlineRef, DataRef, TreeBlock, extent_heads_read_back, extent_body}
 use Rattle.btr_reader.specs.btr_space_items.ExtentHead.{extent_head_bytes, extent_head_layout}
 use Rattle.btr_reader.specs.btr_space_items.declared.extent_head.ExtentHead.{ExtentHead}
 use Rattle.btr_reader.proofs.btr_space_items.InlineLaw.{inline_refs_read_back}
@@ -39,7 +39,7 @@ pub hash_below : (a b : ℕ) → nat_lt a b ≡ false → b ≤ a
 hash_below a b f = grind (arith, nat_tests)
 
 -- the body has just these references
-pub has_refs : (newest flags : ℕ) (refs : List InlineRef) → 1 ≤ newest → flags < 2 ^ 64 → sum_by ref_uses refs < 2 ^ 64 → AllByRecursion FitsInline refs → AllPairs StandsBefore refs → HasRefs newest (extent_body flags refs) flags (sum_by ref_uses refs) refs
+pub has_refs : (newest flags : ℕ) (refs : List InlineRef) → 1 ≤ newest → flags < 2 ^ 64 → sum_by ref_uses refs < 2 ^ 64 → AllByRecursion FitsInline refs → AllPairs StandsBefore refs → TellsRefs newest (extent_body flags refs) flags (sum_by ref_uses refs) refs
 has_refs newest flags refs some low few fits order =
     let head : ExtentHead = head_of (sum_by ref_uses refs) flags in
     let rest : List ℕ = flat_map inline_ref_bytes refs in

@@ -1,5 +1,5 @@
 -- The checksums of a converted volume are sound.
-use Rattle.convert_core_laws.proofs.Imports.{◌≡◌, ◌≢◌, ◌≤◌, ◌<◌, ℕ, ◌+◌, ◌*◌, ◌/◌, ◌%◌, ◌^◌, Bool, true, false, not, ◌&&◌, List, [], map, take, drop, Option, Some, None, refl, sym, ap, subst, ◌∙◌, ⊎_elim, true≢false, arith, nat_le, nat_lt, get_or, All, AllPairs, Contains, if◌then◌else◌, is_some, append-nil, INODE_ITEM, CONV_IMAGE_SUBVOL, FS_TREE, from_flat_map, in_flat_map, Image, block_at, Ids, inode_bytes, inode_of, make_key, Inode, Item, IsNodeSize, data_kind, range_of, form_of, has_no_sums, IsExtent, some_data, DataUse, Recount, TreeOn, all_trees, data_uses, uses_in, map_of, Span, is_within, span_of as span_of_use, HasBlockSum, IsSumItem, sum_count, IsReadBy, IsSumRight, KeepsCover, KeepsSums, read_span, sum_end, sums_of, place, and_from, and_parts, le-leb, lt-ltb, leb-true, ltb-true, Form, IsMaking, Making, HasPieces, made_from, file_tree_items, image_tree_items, sum_tree_items, TreeRoots, well, blocks_few, NewIdsFit, IsNewVolume, map_for, super_for, SumKind, two_cases, piece_bytes, pieces_of_volume, source_block, Source, inode_in, kind_in, ino_of, FilesAreHeld, InodesAreThere, ImageKeysAscend, File, all_from_contains, ObjectKey, HasBytes, block_sum, sum_items, sums_item, TreeNode, Options, Piece, recount_for, tree_for, ConvertedChecksumsAreSound, Files, SavedImage, each_at, pairs_at, kind_sum, kind_width}
+use Rattle.convert_core_laws.proofs.Imports.{◌≡◌, ◌≢◌, ◌≤◌, ◌<◌, ℕ, ◌+◌, ◌*◌, ◌/◌, ◌%◌, ◌^◌, Bool, true, false, not, ◌&&◌, List, [], map, take, drop, Option, Some, None, refl, sym, ap, subst, ◌∙◌, ⊎_elim, true≢false, arith, nat_le, nat_lt, get_or, ◌∷◌, All, AllPairs, Contains, if◌then◌else◌, is_some, append-nil, INODE_ITEM, CONV_IMAGE_SUBVOL, FS_TREE, from_flat_map, in_flat_map, from_filter, in_tail, Image, block_at, Ids, inode_bytes, inode_of, make_key, Inode, Item, IsNodeSize, data_kind, range_of, form_of, has_no_sums, IsExtent, some_data, DataUse, Recount, TreeOn, all_trees, data_uses, uses_in, map_of, is_within, span_of as span_of_use, file_trees, is_file_tree, Span, HasBlockSum, IsSumItem, sum_count, IsReadBy, IsSumRight, KeepsCover, KeepsSums, read_span, sum_end, sums_of, place, and_from, and_parts, le-leb, lt-ltb, leb-true, ltb-true, Form, IsMaking, Making, HasPieces, made_from, file_tree_items, image_tree_items, sum_tree_items, TreeRoots, well, blocks_few, NewIdsFit, IsNewVolume, map_for, super_for, SumKind, two_cases, piece_bytes, pieces_of_volume, source_block, Source, inode_in, kind_in, ino_of, FilesAreHeld, InodesAreThere, ImageKeysAscend, File, all_from_contains, ObjectKey, HasBytes, block_sum, sum_items, sums_item, TreeNode, Options, Piece, recount_for, tree_for, ConvertedChecksumsAreSound, Files, SavedImage, each_at, pairs_at, kind_sum, kind_width}
 use Rattle.btr_check_rules.specs.Sums.{sum_items as sums_told}
 use Rattle.convert_core_laws.proofs.reading.SavedExtents.{AreSources, sources_bytes}
 use Rattle.convert_core_laws.proofs.reading.SavedPieces.{are_sources}
@@ -129,13 +129,6 @@ module _ (o : Options) (ids : Ids) (now : ℕ) (image other : Image) (m : Making
   saved_there : Contains (all_trees k) saved
   saved_there = tree_there image other m r nodes SavedImage
 
-  -- a use by a tree is one of this tree
-  used_by : (u : DataUse) (t : TreeOn) → Contains (all_trees k) t → u.tree ≡ t.number → Contains (data_uses k) u → Contains (uses_in t) u
-  used_by u t h is l =
-      let at = from_flat_map uses_in (all_trees k) u l in
-      let same : at.0 ≡ t = one_tree at.0 at.1 t h (sym (uses_tree at.0 u at.2) ∙ is) in
-      subst (λ (x : TreeOn). Contains (uses_in x) u) same at.2
-
   -- ---- inodes
 
   made_low : m.now < 2 ^ 63
@@ -249,11 +242,15 @@ module _ (o : Options) (ids : Ids) (now : ℕ) (image other : Image) (m : Making
 
   -- ---- what reads a block
 
+  -- a file tree is one of all
+  file_tree_there : (t : TreeOn) → Contains (file_trees k) t → Contains (all_trees k) t
+  file_tree_there t h = in_tail k.chunk_tree (k.root_tree ∷ k.others) t (in_tail k.root_tree k.others t (from_filter is_file_tree k.others t h).0)
+
   -- an inode that reads data has checksums of it where the option says so
   reader_sums : (a : ℕ) (u : DataUse) (inode : Inode) → IsReadBy k a u inode → IsUse m u → has_no_sums inode ≡ not m.options.datasum
   reader_sums a u inode w (by_file p n block h own e) =
       let f : HasFile n = file_of p n block h own in
-      let tree : w.tree ≡ files = one_tree w.tree w.among files files_there (sym (uses_tree w.tree u w.used) ∙ ap (λ (x : DataUse). x.tree) e) in
+      let tree : w.tree ≡ files = one_tree w.tree (file_tree_there w.tree w.among) files files_there (sym (uses_tree w.tree u w.used) ∙ ap (λ (x : DataUse). x.tree) e) in
       let number : u.inode ≡ n = ap (λ (x : DataUse). x.inode) e in
       let item : Contains (file_tree_items image m) (make_key n INODE_ITEM 0, w.owner.body) =
       subst (λ (x : ℕ). Contains (file_tree_items image m) (make_key x INODE_ITEM 0, w.owner.body)) number (subst (λ (t : TreeOn). Contains t.items (make_key u.inode INODE_ITEM 0, w.owner.body)) tree w.owner.there) in
@@ -266,7 +263,7 @@ module _ (o : Options) (ids : Ids) (now : ℕ) (image other : Image) (m : Making
       by true on f = file_sums s f.key on ∙ sym (ap not on)
       by false off f = file_no_sums s f.key off f.file ∙ sym (ap not off)
   reader_sums a u inode w (by_image p block h from e) =
-      let tree : w.tree ≡ saved = one_tree w.tree w.among saved saved_there (sym (uses_tree w.tree u w.used) ∙ ap (λ (x : DataUse). x.tree) e) in
+      let tree : w.tree ≡ saved = one_tree w.tree (file_tree_there w.tree w.among) saved saved_there (sym (uses_tree w.tree u w.used) ∙ ap (λ (x : DataUse). x.tree) e) in
       let number : u.inode ≡ 257 = ap (λ (x : DataUse). x.inode) e in
       let item : Contains (image_tree_items m) (make_key 257 INODE_ITEM 0, w.owner.body) =
       subst (λ (x : ℕ). Contains (image_tree_items m) (make_key x INODE_ITEM 0, w.owner.body)) number (subst (λ (t : TreeOn). Contains t.items (make_key u.inode INODE_ITEM 0, w.owner.body)) tree w.owner.there) in
@@ -292,7 +289,7 @@ module _ (o : Options) (ids : Ids) (now : ℕ) (image other : Image) (m : Making
   reads_piece a u here (by_image p block h from e) = of_piece_use a p h (subst (λ (x : DataUse). is_within (read_span x) a ≡ true) e here)
 
   use_is : (a : ℕ) (u : DataUse) (inode : Inode) → IsReadBy k a u inode → IsUse m u
-  use_is a u inode w = uses_are image m making fit other r nodes u (in_flat_map uses_in (all_trees k) w.tree u w.among w.used)
+  use_is a u inode w = uses_are image m making fit other r nodes u (in_flat_map uses_in (all_trees k) w.tree u (file_tree_there w.tree w.among) w.used)
 
   is_written : (u : DataUse) → IsUse m u → u.written ≡ true
   is_written u (by_file p n block h own e) = ap (λ (x : DataUse). x.written) e

@@ -1,7 +1,8 @@
 -- An extent's item tells of the uses of its range: where there is one, and where there are two by different trees.
-use Rattle.convert_core_laws.proofs.Imports.{◌≡◌, ◌≢◌, ◌⊎◌, ℕ, eqb, Bool, true, List, [], ◌∷◌, refl, sym, ap, subst, ◌∙◌, ⊎_elim, arith, ◌&&◌, Contains, and_from, and_parts, eq-eqb, eqb-true, All-cons, All-nil, AllPairs-cons, EXTENT_FLAG_DATA, EXTENT_ITEM, at_head, in_tail, Item, DataUse, Recount, data_uses, CountsUses, HasRefs, IsDataItem, is_of_range, is_use, same_ref, InlineRef, DataRef}
+use Rattle.convert_core_laws.proofs.Imports.{◌≡◌, ◌≢◌, ◌⊎◌, ℕ, eqb, Bool, true, List, [], ◌∷◌, refl, sym, ap, subst, ◌∙◌, ⊎_elim, arith, ◌&&◌, false, Contains, and_from, and_parts, eq-eqb, eqb-true, false_from_ne_true, All-cons, All-nil, AllPairs-cons, EXTENT_FLAG_DATA, EXTENT_ITEM, at_head, in_tail, Item, DataUse, Recount, data_uses, CountsUses, TellsRefs, IsDataItem, is_of_range, is_use, InlineRef, DataRef, AreDistinct, one_passes, two_pass}
+use Rattle.btr_check_rules.specs.Extents.{same_ref}
 use Rattle.std.specs.List.{count_by}
-use Rattle.convert_core_laws.proofs.soundness.Distinct.{AreDistinct, one_passes, two_pass}
+use Rattle.btr_check_rules.proofs.Refs.{alike}
 
 -- the reference that a use is
 abbrev pub ref_of : DataUse → InlineRef
@@ -37,6 +38,9 @@ same_parts u v t =
     let three = and_parts (eqb v.tree u.tree) last two.1 in
     record { start_is = eqb-true v.start u.start one.0; length_is = eqb-true v.length u.length two.0; tree_is = eqb-true v.tree u.tree three.0 }
 
+abbrev Differ : InlineRef → InlineRef → Type 0
+Differ a b = same_ref a b ≡ false
+
 module _ (r : Recount) (once : AreDistinct (data_uses r)) (i : Item) where
   -- a reference counts one use, where no other use of its range is by its tree
   counts : (start length : ℕ) (u : DataUse) → u.start ≡ start → u.length ≡ length → Contains (data_uses r) u
@@ -50,7 +54,7 @@ module _ (r : Recount) (once : AreDistinct (data_uses r)) (i : Item) where
       (λ e. omega (arith, e), here)
 
   -- one use
-  pub one_ref : (u : DataUse) → Contains (data_uses r) u → i.0 ≡ record { objectid = u.start; kind = EXTENT_ITEM; offset = u.length } → HasRefs r.super.generation i.1 EXTENT_FLAG_DATA 1 (ref_of u ∷ [])
+  pub one_ref : (u : DataUse) → Contains (data_uses r) u → i.0 ≡ record { objectid = u.start; kind = EXTENT_ITEM; offset = u.length } → TellsRefs r.super.generation i.1 EXTENT_FLAG_DATA 1 (ref_of u ∷ [])
       → ((v : DataUse) → Contains (data_uses r) v → v.start ≡ u.start → v.length ≡ u.length → u ≡ v) → IsDataItem r i
   one_ref u h key body only =
       let refs : List InlineRef = ref_of u ∷ [] in
@@ -61,7 +65,7 @@ module _ (r : Recount) (once : AreDistinct (data_uses r)) (i : Item) where
         used = h;
         key = key;
         refs = refs;
-        body = subst (λ (n : ℕ). HasRefs r.super.generation i.1 EXTENT_FLAG_DATA n refs) (sym count) body;
+        body = subst (λ (n : ℕ). TellsRefs r.super.generation i.1 EXTENT_FLAG_DATA n refs) (sym count) body;
         each = All-cons (CountsUses r u.start u.length) (ref_of u) [] (counts u.start u.length u refl refl h (λ v l s n t. only v l s n)) (All-nil (CountsUses r u.start u.length));
         once = λ a b d l k. absurd (omega (arith, l, k));
         whole = λ v l s n. (1, subst (λ (w : DataUse). Contains refs (ref_of w)) (only v l s n) (at_head (ref_of u) []));
@@ -69,7 +73,7 @@ module _ (r : Recount) (once : AreDistinct (data_uses r)) (i : Item) where
 
   -- two uses, by different trees
   pub two_refs : (u w : DataUse) → Contains (data_uses r) u → Contains (data_uses r) w → w.start ≡ u.start → w.length ≡ u.length → u.tree ≢ w.tree
-      → i.0 ≡ record { objectid = u.start; kind = EXTENT_ITEM; offset = u.length } → HasRefs r.super.generation i.1 EXTENT_FLAG_DATA 2 (ref_of u ∷ (ref_of w ∷ []))
+      → i.0 ≡ record { objectid = u.start; kind = EXTENT_ITEM; offset = u.length } → TellsRefs r.super.generation i.1 EXTENT_FLAG_DATA 2 (ref_of u ∷ (ref_of w ∷ []))
       → ((v : DataUse) → Contains (data_uses r) v → v.start ≡ u.start → v.length ≡ u.length → (u ≡ v) ⊎ (w ≡ v)) → IsDataItem r i
   two_refs u w h k start length apart key body only =
       let refs : List InlineRef = ref_of u ∷ (ref_of w ∷ []) in
@@ -81,13 +85,13 @@ module _ (r : Recount) (once : AreDistinct (data_uses r)) (i : Item) where
         used = h;
         key = key;
         refs = refs;
-        body = subst (λ (n : ℕ). HasRefs r.super.generation i.1 EXTENT_FLAG_DATA n refs) (sym count) body;
+        body = subst (λ (n : ℕ). TellsRefs r.super.generation i.1 EXTENT_FLAG_DATA n refs) (sym count) body;
         each = All-cons (CountsUses r u.start u.length) (ref_of u) (ref_of w ∷ [])
             (counts u.start u.length u refl refl h (λ v l s n t. ⊎_elim (λ (e : u ≡ v). e) (λ (e : w ≡ v). absurd (apart (sym (ap (λ (x : DataUse). x.tree) e ∙ t)))) (only v l s n)))
             (All-cons (CountsUses r u.start u.length) (ref_of w) []
             (counts u.start u.length w start length k (λ v l s n t. ⊎_elim (λ (e : u ≡ v). absurd (apart (ap (λ (x : DataUse). x.tree) e ∙ t))) (λ (e : w ≡ v). e) (only v l (s ∙ start) (n ∙ length))))
             (All-nil (CountsUses r u.start u.length)));
-        once = AllPairs-cons (λ (a b : InlineRef). ¬ same_ref a b) (ref_of u) (ref_of w ∷ []) (All-cons (λ (b : InlineRef). ¬ same_ref (ref_of u) b) (ref_of w) [] (λ e. apart e.0) (All-nil (λ (b : InlineRef). ¬ same_ref (ref_of u) b)))
+        once = AllPairs-cons Differ (ref_of u) (ref_of w ∷ []) (All-cons (Differ (ref_of u)) (ref_of w) [] (false_from_ne_true (same_ref (ref_of u) (ref_of w)) (λ t. apart (alike (ref_of u) (ref_of w) t).root)) (All-nil (Differ (ref_of u))))
             (λ a b d l g. absurd (omega (arith, l, g)));
         whole = λ v l s n. (
           1,

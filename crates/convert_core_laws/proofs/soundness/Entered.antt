@@ -1,5 +1,5 @@
 -- What the entries of the file tree lead to is there, and so is what the root tree tells of the saved image's tree.
-use Rattle.convert_core_laws.proofs.Imports.{◌≡◌, ◌<◌, ℕ, ◌^◌, Bool, true, false, List, [], ◌∷◌, map, Some, refl, sym, ap, subst, ◌∙◌, ⊎_elim, true≢false, arith, get_or, Contains-append_cases, All-map, All-from_recursion, ROOT_BACKREF, ROOT_ITEM, ROOT_REF, CONV_IMAGE_SUBVOL, FIRST_FREE_OBJECTID, FS_TREE, keys, Image, inode_bytes, make_key, Item, AreTreeNames, IsTreeEntry, IndexEntry, IsThere, names_inode_item, root_refs_read_back, NodePointer, IsMaking, Making, new_ids, saved_index, HasPieces, root_tree_items, TreeRoots, rooted_trees as trees_listed, rooted_trees, IndexedLink as Link, Indexed, indexed, names_in, next_index, saved_entry, Source, inode_in, kind_in, ino_of, index_small, FilesAreHeld, InodesAreThere, Kind, Directory, File, Symlink, Character, Block, Fifo, Socket, Subvolume, from_flat_map, from_map, head_or_tail, saved_name, root, same_key, ObjectKey, same_key-true, HasBytes, good_link, root_number, item_cmp, other_root_items, tree_root_item, saved_ref, RootRefValue, root_ref_head, root_ref_of, All, AllByRecursion, all-merge, TreeRoot}
+use Rattle.convert_core_laws.proofs.Imports.{◌≡◌, ◌<◌, ℕ, ◌^◌, Bool, true, false, List, [], ◌∷◌, map, Some, refl, sym, ap, subst, ◌∙◌, ⊎_elim, true≢false, arith, get_or, Contains-append_cases, All-map, All-from_recursion, ROOT_BACKREF, ROOT_ITEM, ROOT_REF, CONV_IMAGE_SUBVOL, FIRST_FREE_OBJECTID, FS_TREE, keys, Image, inode_bytes, make_key, Item, AreTreeNames, IsTreeEntry, IndexEntry, IsThere, names_inode_item, root_refs_read_back, NodePointer, IsMaking, Making, new_ids, saved_index, HasPieces, root_tree_items, TreeRoots, rooted_trees as trees_listed, rooted_trees, IndexedLink as Link, Indexed, indexed, names_in, next_index, saved_entry, Source, inode_in, kind_in, ino_of, index_small, FilesAreHeld, InodesAreThere, Kind, Directory, File, Symlink, Character, Block, Fifo, Socket, Subvolume, from_flat_map, from_map, head_or_tail, saved_name, root, same_key, ObjectKey, same_key-true, HasBytes, good_link, root_number, item_cmp, other_root_items, tree_root_item, saved_ref, RootRefValue, root_ref_head, root_ref_of, All, AllByRecursion, all-merge, TreeRoot, Walked}
 use Rattle.std.proofs.Common.{flat_map, Contains, if◌then◌else◌}
 use Rattle.convert_core_laws.proofs.soundness.Flags.{inode_there}
 use Rattle.convert_core_laws.proofs.soundness.InMerged.{in_second}
@@ -81,7 +81,7 @@ module _ (image : Image) (m : Making) (made : IsMaking image m) where
       let x = from_map (index_by (ino_of src at.0)) (listed image m made at.0 (kind_in src at.0)) e at.2 in
       record { key = at.0; among = from_order image m made at.0 at.1; x = x.0; is = x.2; entry = entry_at at.0 (kind_in src at.0) x.0 x.1 }
 
-  module _ (nodes : List NodePointer) (r : TreeRoots) where
+  module _ (nodes : Walked) (r : TreeRoots) where
     key_there : (key : ObjectKey) → Contains (keys m.volume.named) key → IsThere (tree image m made nodes) (ino_of src key)
     key_there key h = (inode_bytes (inode_in src key), inode_there src key h)
 

@@ -1,5 +1,5 @@
 -- The file extents of a converted volume keep the rules of Linux.
-use Rattle.convert_core_laws.proofs.Imports.{◌≡◌, ◌≤◌, ◌<◌, ℕ, ◌+◌, ◌*◌, ◌^◌, ◌==◌, Bool, true, false, List, [], ◌∷◌, filter, length, Some, refl, sym, ap, subst, ◌∙◌, ⊎_elim, true≢false, arith, AllByRecursion, and_from, eq-eqb, eqb-true, All-from_recursion, All-nil, AllPairs-filter, NO_HOLES, EXTENT_DATA, keys, Image, FileExtentValue, file_extent_of, Item, MapRange, NodePointer, Super, AreExtents, KeepsExtent, covered, EndsInFile, extents_in, HasKind, is_of_inode, TreeOn, has_feature, of_kind, well, all_at, numbered, extent_item, inline_extent, regular_extent, IsMaking, Making, HasPieces, AreSortedKeys, extents_at, file_block, pieces_of, pieces_of_volume, source_block, image_head, image_items, relocation_items, Source, file_extent_items, fs_tree_items, ino_of, inline_in, kind_in, size_in, Piece, FilesAreHeld, InodesAreThere, HasBytes, Apart, all_in, all_mapped, from_filter, in_filter, length_bytes, all_from_contains, volume_items, has_bytes, Kind, File, file_byte, target_bytes, items_of, IsNamed, ObjectKey}
+use Rattle.convert_core_laws.proofs.Imports.{◌≡◌, ◌≤◌, ◌<◌, ℕ, ◌+◌, ◌*◌, ◌^◌, ◌==◌, Bool, true, false, List, [], ◌∷◌, filter, length, Some, refl, sym, ap, subst, ◌∙◌, ⊎_elim, true≢false, arith, AllByRecursion, and_from, eq-eqb, eqb-true, All-from_recursion, All-nil, AllPairs-filter, NO_HOLES, EXTENT_DATA, keys, Image, FileExtentValue, file_extent_of, Item, MapRange, NodePointer, Super, AreExtents, KeepsExtent, covered, EndsInFile, extents_in, HasKind, is_of_inode, TreeOn, has_feature, of_kind, well, all_at, numbered, extent_item, inline_extent, regular_extent, IsMaking, Making, HasPieces, AreSortedKeys, extents_at, file_block, pieces_of, pieces_of_volume, source_block, image_head, image_items, relocation_items, Source, file_extent_items, fs_tree_items, ino_of, inline_in, kind_in, size_in, Piece, FilesAreHeld, InodesAreThere, HasBytes, Apart, all_in, all_mapped, from_filter, in_filter, length_bytes, all_from_contains, volume_items, has_bytes, Kind, File, file_byte, target_bytes, items_of, IsNamed, ObjectKey, Walked}
 use Rattle.std.proofs.Common.{Contains, All, AllPairs, if◌then◌else◌}
 use Rattle.btr_check_rules.specs.Files.{EndsBefore}
 use Rattle.convert_core_laws.proofs.ByteReading.{inline_read, is_extent, regular_read}
@@ -137,7 +137,7 @@ single i = λ a b d l h. absurd (omega (arith, l, h))
 
 -- ---- the file tree
 
-module _ (image : Image) (m : Making) (made : IsMaking image m) (sup : Super) (newest : 1 ≤ sup.generation) (full : has_feature sup NO_HOLES ≡ true) (nodes : List NodePointer) (held : FilesAreHeld) (there : InodesAreThere) (bytes : HasBytes image) where
+module _ (image : Image) (m : Making) (made : IsMaking image m) (sup : Super) (newest : 1 ≤ sup.generation) (full : has_feature sup NO_HOLES ≡ true) (nodes : Walked) (held : FilesAreHeld) (there : InodesAreThere) (bytes : HasBytes image) where
   abbrev of : HasPieces m.volume image m.options m.plan m.pieces
   of = made.has_pieces
 

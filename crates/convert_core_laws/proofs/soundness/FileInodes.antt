@@ -1,10 +1,9 @@
 -- The inodes and the entries of the file tree keep the rules of Linux.
-use Rattle.convert_core_laws.proofs.Imports.{◌≡◌, ◌≢◌, ◌≤◌, ◌<◌, ℕ, zero, suc, ◌+◌, ◌/◌, ◌^◌, ◌==◌, Bool, true, false, cond, List, [], ◌∷◌, map, count_by, length, Option, Some, None, refl, sym, ap, subst, ◌∙◌, ⊎_elim, true≢false, arith, ◌++◌, AllByRecursion, cases_lt, eq-eqb, eqb-true, ne_eqb, All-from_recursion, Contains-append_left, AllPairs-cons, sum_by-cons, FT_DIR, INODE_IMMUTABLE, INODE_APPEND, keys, Image, inode_bytes, Item, is_name, NodePointer, Super, AreInodes, IsDirEntry, IsOwned, KeepsInode, SameName, HasInode, HasKind, entry_type, is_orphan, ref_name_count, other_flags, ComesToEnd, below, unnamed, IndexEntry, IsThere, index_entries, names_inode_item, TreeOn, two_cases, IsMaking, Making, HasPieces, IndexedLink as Link, Indexed, entry_kind, indexed, indexed_in, indexed_links, names_in, next_index, saved_entry, entries_behind, entry_behind, Source, fs_tree_items, ino_of, inode_in, kind_in, link_count, object_items, stat_in, InodesAreThere, HasBytes, directories_apart, is_directory_there, kind_is, links_short, names_apart, root_known, entries_apart, is_link, Across, Apart, all_from, all_in, apart_both, apart_climb, apart_flat, apart_from, apart_map, apart_with, good_link, one_object, root_number, link_directory, from_filter, from_flat_map, from_map, head_or_tail, in_filter, in_map, in_flat_map, at_head, in_tail, all_from_contains, is_directory, kind_of_code, Kind, Directory, File, Symlink, Character, Block, Fifo, Socket, Subvolume, root, same_key, IsNamed, IsReachedBy, followed, is_followed, namings, IsDirectory, ObjectKey, Naming, volume_items, accepted_is_small, same_key-self, same_key-true, bit_and, inode_flags}
+use Rattle.convert_core_laws.proofs.Imports.{◌≡◌, ◌≢◌, ◌≤◌, ◌<◌, ℕ, zero, suc, ◌+◌, ◌/◌, ◌^◌, ◌==◌, Bool, true, false, cond, List, [], ◌∷◌, map, count_by, length, Option, Some, None, refl, sym, ap, subst, ◌∙◌, ⊎_elim, true≢false, arith, ◌++◌, AllByRecursion, cases_lt, eq-eqb, eqb-true, ne_eqb, All-from_recursion, Contains-append_left, AllPairs-cons, sum_by-cons, FT_DIR, INODE_IMMUTABLE, INODE_APPEND, keys, Image, inode_bytes, Item, is_name, NodePointer, Super, AreInodes, IsDirEntry, IsOwned, KeepsInode, SameName, HasInode, HasKind, entry_type, is_orphan, ref_name_count, other_flags, ComesToEnd, below, unnamed, IndexEntry, IsThere, index_entries, names_inode_item, TreeOn, two_cases, IsMaking, Making, HasPieces, IndexedLink as Link, Indexed, entry_kind, indexed, indexed_in, indexed_links, names_in, next_index, saved_entry, entries_behind, entry_behind, Source, fs_tree_items, ino_of, inode_in, kind_in, link_count, object_items, stat_in, InodesAreThere, HasBytes, directories_apart, is_directory_there, kind_is, links_short, names_apart, root_known, entries_apart, is_link, Across, Apart, all_from, all_in, apart_both, apart_climb, apart_flat, apart_from, apart_map, apart_with, good_link, one_object, root_number, link_directory, from_filter, from_flat_map, from_map, head_or_tail, in_filter, in_map, in_flat_map, at_head, in_tail, all_from_contains, is_directory, kind_of_code, Kind, Directory, File, Symlink, Character, Block, Fifo, Socket, Subvolume, root, same_key, IsNamed, IsReachedBy, followed, is_followed, namings, IsDirectory, ObjectKey, Naming, volume_items, accepted_is_small, same_key-self, same_key-true, bit_and, inode_flags, Walked, AreDistinct, none_pass, one_passes}
 use Rattle.std.proofs.Common.{flat_map, Contains, All, AllPairs, is_some, if◌then◌else◌}
 use Rattle.reiser_volume.specs.reiser_volume_objects.Kinds.{kind_of_mode}
 use Rattle.convert_core_laws.proofs.Owned.{IsOf, of_object}
 use Rattle.convert_core_laws.proofs.soundness.Assembling.{entries_are}
-use Rattle.convert_core_laws.proofs.soundness.Distinct.{AreDistinct, none_pass, one_passes}
 use Rattle.convert_core_laws.proofs.soundness.Entered.{IsEntry, IsOfDirectory, by_image, by_link, of_directory}
 use Rattle.convert_core_laws.proofs.soundness.Flags.{flags_are, flags_known, inode_reads, inode_there, link_flags}
 use Rattle.convert_core_laws.proofs.soundness.Inodes.{count_told, some_same, each_object, kind_told, made_once, mode_in, names_count, nlink_in, nlink_other, root_kind, tree}
@@ -123,7 +122,7 @@ module _ (image : Image) (m : Making) (made : IsMaking image m) where
   is_root : (key : ObjectKey) → Contains all key → (256 == ino_of src key) ≡ true → key ≡ root
   is_root key among t = one_object m.volume image m.options m.plan m.pieces of key root among (root_known m.volume image of.accepted of.opened) (sym (eqb-true 256 (ino_of src key) t) ∙ sym (root_number m.volume image m.options m.plan m.pieces of))
 
-  module _ (sup : Super) (nodes : List NodePointer) (there : InodesAreThere) (bytes : HasBytes image) where
+  module _ (sup : Super) (nodes : Walked) (there : InodesAreThere) (bytes : HasBytes image) where
     abbrev t : TreeOn
     t = tree image m made nodes
 

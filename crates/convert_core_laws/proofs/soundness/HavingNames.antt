@@ -1,6 +1,5 @@
 -- The names of a converted volume are sound.
-use Rattle.convert_core_laws.proofs.Imports.{◌≤◌, ◌<◌, ℕ, ◌^◌, List, [], ◌∷◌, filter, refl, sym, subst, arith, get_or, is_some, All, AllByRecursion, All-cons, All-nil, Contains-permutation, CONV_IMAGE_SUBVOL, DATA_RELOC_TREE, FS_TREE, Image, Ids, IsNodeSize, AreExtents, AreInodes, AreTreeNames, Recount, TreeOn, IsMaking, Making, HasPieces, file_tree_items, image_tree_items, root_tree_items, TreeRoots, blocks_few, NewIdsFit, IsNewVolume, map_for, super_for, piece_bytes, pieces_of_volume, source_block, relocation_items, FilesAreHeld, InodesAreThere, ImageKeysAscend, from_filter, HasBytes, all_from, TreeNode, Options, Piece, recount_for, tree_for, ConvertedFileExtentsAreSound, ConvertedInodesAreSound, ConvertedNamesAreSound, Files, SavedImage, Relocation, KeepsRootRefs}
-use Rattle.btr_check_rules.specs.Recount.{file_trees}
+use Rattle.convert_core_laws.proofs.Imports.{◌≤◌, ◌<◌, ℕ, ◌^◌, List, [], ◌∷◌, filter, refl, sym, subst, arith, get_or, is_some, All, AllByRecursion, All-cons, All-nil, Contains-permutation, CONV_IMAGE_SUBVOL, DATA_RELOC_TREE, FS_TREE, Image, Ids, IsNodeSize, AreExtents, AreInodes, AreTreeNames, Recount, TreeOn, file_trees, IsMaking, Making, HasPieces, file_tree_items, image_tree_items, root_tree_items, TreeRoots, blocks_few, NewIdsFit, IsNewVolume, map_for, super_for, piece_bytes, pieces_of_volume, source_block, relocation_items, FilesAreHeld, InodesAreThere, ImageKeysAscend, from_filter, HasBytes, all_from, TreeNode, Options, Piece, recount_for, tree_for, walked, ConvertedFileExtentsAreSound, ConvertedInodesAreSound, ConvertedNamesAreSound, Files, SavedImage, Relocation, KeepsRootRefs}
 use Rattle.convert_core_laws.proofs.reading.SavedExtents.{AreSources, sources_bytes}
 use Rattle.convert_core_laws.proofs.reading.SavedPieces.{are_sources}
 use Rattle.convert_core_laws.proofs.soundness.Recounting.{generation_is, volume_for, without_holes}
@@ -67,10 +66,10 @@ module _ (o : Options) (ids : Ids) (now : ℕ) (image other : Image) (m : Making
 
   pub have_names : All roots (file_trees k)
   have_names =
-      All-cons roots files (saved ∷ (relocation ∷ [])) (file_names image m making files.nodes r held are_there bytes)
+      All-cons roots files (saved ∷ (relocation ∷ [])) (file_names image m making (walked files) r held are_there bytes)
       (All-cons roots saved (relocation ∷ [])
-      (saved_names m.volume.sup.blocks m.now m.pieces m.options.datasum (blocks_few m.volume image m.options m.plan m.pieces of) image_bytes made_low parts_low saved.nodes (root_tree_items m r))
-      (All-cons roots relocation [] (relocation_names m.now made_low relocation.nodes (root_tree_items m r)) (All-nil roots)))
+      (saved_names m.volume.sup.blocks m.now m.pieces m.options.datasum (blocks_few m.volume image m.options m.plan m.pieces of) image_bytes made_low parts_low (walked saved) (root_tree_items m r))
+      (All-cons roots relocation [] (relocation_names m.now made_low (walked relocation) (root_tree_items m r)) (All-nil roots)))
 
   -- ---- what the root tree tells of them
 
@@ -79,7 +78,7 @@ module _ (o : Options) (ids : Ids) (now : ℕ) (image other : Image) (m : Making
 
   pub have_refs : All refs (file_trees k)
   have_refs =
-      All-cons refs files (saved ∷ (relocation ∷ [])) (file_refs image other m making r nodes files.nodes)
+      All-cons refs files (saved ∷ (relocation ∷ [])) (file_refs image other m making r nodes (walked files))
       (All-cons refs saved (relocation ∷ []) (other_refs image other m making r nodes saved refl (λ sub high. image_named image other m making r nodes))
       (All-cons refs relocation [] (other_refs image other m making r nodes relocation refl (λ sub high. absurd (cc sub))) (All-nil refs)))
 
@@ -90,10 +89,10 @@ module _ (o : Options) (ids : Ids) (now : ℕ) (image other : Image) (m : Making
 
   pub have_inodes : All inodes (file_trees k)
   have_inodes =
-      All-cons inodes files (saved ∷ (relocation ∷ [])) (file_inodes image m making (super_for m r nodes) files.nodes are_there bytes)
+      All-cons inodes files (saved ∷ (relocation ∷ [])) (file_inodes image m making (super_for m r nodes) (walked files) are_there bytes)
       (All-cons inodes saved (relocation ∷ [])
-      (saved_inodes m.volume.sup.blocks m.now m.pieces m.options.datasum (blocks_few m.volume image m.options m.plan m.pieces of) image_bytes made_low parts_low saved.nodes (root_tree_items m r) (super_for m r nodes))
-      (All-cons inodes relocation [] (relocation_inodes m.now made_low relocation.nodes (root_tree_items m r) (super_for m r nodes)) (All-nil inodes)))
+      (saved_inodes m.volume.sup.blocks m.now m.pieces m.options.datasum (blocks_few m.volume image m.options m.plan m.pieces of) image_bytes made_low parts_low (walked saved) (root_tree_items m r) (super_for m r nodes))
+      (All-cons inodes relocation [] (relocation_inodes m.now made_low (walked relocation) (root_tree_items m r) (super_for m r nodes)) (All-nil inodes)))
 
   -- ---- their extents
 
@@ -106,10 +105,10 @@ module _ (o : Options) (ids : Ids) (now : ℕ) (image other : Image) (m : Making
   pub have_extents : All extents (file_trees k)
   have_extents =
       let full = without_holes m r nodes in
-      All-cons extents files (saved ∷ (relocation ∷ [])) (file_extents image m making (super_for m r nodes) newest full files.nodes held are_there bytes)
+      All-cons extents files (saved ∷ (relocation ∷ [])) (file_extents image m making (super_for m r nodes) newest full (walked files) held are_there bytes)
       (All-cons extents saved (relocation ∷ [])
       (saved_extents (super_for m r nodes) newest full m.volume.sup.blocks m.now m.pieces m.options.datasum (map_for m.chunks) sources saved refl
-      (own_is m.volume.sup.blocks m.now m.pieces m.options.datasum (blocks_few m.volume image m.options m.plan m.pieces of) image_bytes made_low parts_low saved.nodes (root_tree_items m r)))
+      (own_is m.volume.sup.blocks m.now m.pieces m.options.datasum (blocks_few m.volume image m.options m.plan m.pieces of) image_bytes made_low parts_low (walked saved) (root_tree_items m r)))
       (All-cons extents relocation [] (relocation_extents (super_for m r nodes) full m.now relocation refl) (All-nil extents)))
 
 pub converted_names_are_sound : NewIdsFit → FilesAreHeld → ImageKeysAscend → InodesAreThere → ConvertedNamesAreSound

@@ -1,5 +1,5 @@
 -- What the inodes of the file tree tell is so.
-use Rattle.convert_core_laws.proofs.Imports.{◌≡◌, ◌≢◌, ◌≤◌, ◌<◌, ℕ, ◌+◌, ◌*◌, ◌^◌, ◌==◌, ◌&&◌, Bool, true, false, not, cond, List, [], ◌∷◌, ◌++◌, length, map, filter, count_by, Option, Some, refl, sym, ap, subst, ◌∙◌, ⊎_elim, true≢false, arith, AllByRecursion, and_parts, eq-eqb, eqb-true, ne_eqb, sum_by-IsPermutation, sum_by-cons, INODE_NODATASUM, EXTENT_DATA, INODE_ITEM, INODE_REF, FS_TREE, keys, Image, file_extent_of, inode_bytes, inode_of, make_key, Inode, kind_of_mode, Item, BackName, IndexEntry, own_name, IsInode, directory_size, has_no_sums, inode_nbytes, is_of_inode, ref_name_count, nbytes_of, TreeOn, NodePointer, IsMaking, Making, HasPieces, AreSortedKeys, numbered, extents_at, file_block, is_owned_by, piece_bytes, pieces_of, Indexed, indexed_links, indexed_in, Source, nbytes_by, content_items, file_extent_items, inline_in, inode_in, kind_in, link_count, name_items, ino_of, object_items, size_by, size_in, stat_in, fs_tree_items, if_set, FilesAreHeld, InodesAreThere, sum_links, sum_mapped, length_bytes, has_bytes, is_directory, is_file, Kind, Directory, File, Symlink, Character, Block, Fifo, Socket, Subvolume, extent_item, inline_extent, regular_extent, inode_item, at_head, from_flat_map, from_map, head_or_tail, in_tail, from_filter, file_byte, target_bytes, items_of, root, same_key, IsNamed, ObjectKey, Naming, same_key-self, same_key-true, stays_in_tree, volume_items, HasBytes, directory_there, kind_is, root_known, tree_kind_is, all_in, good_link, one_object, root_number, size_of_inode, Piece}
+use Rattle.convert_core_laws.proofs.Imports.{◌≡◌, ◌≢◌, ◌≤◌, ◌<◌, ℕ, ◌+◌, ◌*◌, ◌^◌, ◌==◌, ◌&&◌, Bool, true, false, not, cond, List, [], ◌∷◌, ◌++◌, length, map, filter, count_by, Option, Some, refl, sym, ap, subst, ◌∙◌, ⊎_elim, true≢false, arith, AllByRecursion, and_parts, eq-eqb, eqb-true, ne_eqb, sum_by-IsPermutation, sum_by-cons, INODE_NODATASUM, EXTENT_DATA, INODE_ITEM, INODE_REF, FS_TREE, keys, Image, file_extent_of, inode_bytes, inode_of, make_key, Inode, kind_of_mode, Item, BackName, IndexEntry, own_name, IsInode, directory_size, has_no_sums, inode_nbytes, is_of_inode, ref_name_count, nbytes_of, TreeOn, NodePointer, IsMaking, Making, HasPieces, AreSortedKeys, numbered, extents_at, file_block, is_owned_by, piece_bytes, pieces_of, Indexed, indexed_links, indexed_in, Source, nbytes_by, content_items, file_extent_items, inline_in, inode_in, kind_in, link_count, name_items, ino_of, object_items, size_by, size_in, stat_in, fs_tree_items, if_set, FilesAreHeld, InodesAreThere, sum_links, sum_mapped, length_bytes, has_bytes, is_directory, is_file, Kind, Directory, File, Symlink, Character, Block, Fifo, Socket, Subvolume, extent_item, inline_extent, regular_extent, inode_item, at_head, from_flat_map, from_map, head_or_tail, in_tail, from_filter, file_byte, target_bytes, items_of, root, same_key, IsNamed, ObjectKey, Naming, same_key-self, same_key-true, stays_in_tree, volume_items, HasBytes, directory_there, kind_is, root_known, tree_kind_is, all_in, good_link, one_object, root_number, size_of_inode, Piece, Walked, walked_tree}
 use Rattle.std.proofs.Common.{flat_map, sum_by, Contains, if◌then◌else◌}
 use Rattle.convert_core_laws.proofs.Holding.{StaysInTree, stays}
 use Rattle.convert_core_laws.proofs.Owned.{any_extents, extents_found}
@@ -84,9 +84,9 @@ module _ (image : Image) (m : Making) (made : IsMaking image m) where
   pub root_kind : kind_in src root ≡ Directory
   root_kind = directory_there m.volume image of.accepted of.opened m.options m.pieces root of.accepted.objects.root_directory
 
-  module _ (nodes : List NodePointer) where
+  module _ (nodes : Walked) where
     abbrev pub tree : TreeOn
-    tree = record { number = FS_TREE; nodes = nodes; items = fs_tree_items src }
+    tree = walked_tree FS_TREE nodes (fs_tree_items src)
 
     abbrev order : List ObjectKey
     order = objects image m made
@@ -122,9 +122,6 @@ module _ (image : Image) (m : Making) (made : IsMaking image m) where
           ∙ kept_all in_own (indexes image m made key) (λ e l.
           let x = from_map (index_by n) (listed image m made key (kind_in src key)) e l in
           subst (λ (y : IndexEntry). in_own y ≡ true) x.2 (eq-eqb n n refl)))
-
-      letters_of : IndexEntry → ℕ
-      letters_of e = length e.entry.name
 
       size_told : kind_in src key ≡ Directory → (inode_in src key).size ≡ directory_size tree n
       size_told directory =

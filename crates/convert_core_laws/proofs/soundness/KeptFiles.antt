@@ -1,5 +1,5 @@
 -- What holds of a whole file tree is what part 2 asks at each number.
-use Rattle.convert_core_laws.proofs.Imports.{◌≡◌, ℕ, ◌==◌, false, map, Some, sym, ap, subst, ◌∙◌, arith, All, FIRST_FREE_OBJECTID, EXTENT_DATA, from_filter, Inode, Item, Directory, HasInode, HasKind, is_of_inode, ref_name_count, is_orphan, extents_in, IsThere, IndexEntry, NamedEntry, BackName, hashed_entries, index_entries, names_inode_item, ref_names, DifferInName, IsInodeNumber, IsOnForm, dir_of, given_names, KeepsRootRefs, Recount, TreeOn, of_kind, object_of, AreExtents, AreInodes, AreTreeNames, KeepsExtent, EndsInFile, KeepsExtents, all_at, all_from_contains, each_at, pairs_at, RootRefValue}
+use Rattle.convert_core_laws.proofs.Imports.{◌≡◌, ℕ, ◌==◌, false, map, Some, sym, ap, subst, ◌∙◌, arith, inl, All, FIRST_FREE_OBJECTID, EXTENT_DATA, from_filter, Inode, Item, Directory, HasInode, HasKind, is_of_inode, ref_name_count, is_orphan, extents_in, IsThere, IndexEntry, NamedEntry, BackName, hashed_entries, index_entries, names_inode_item, ref_names, DifferInName, IsInodeNumber, IsOnForm, dir_of, given_names, KeepsRootRefs, Recount, TreeOn, of_kind, object_of, AreExtents, AreInodes, AreTreeNames, KeepsExtent, EndsInFile, KeepsExtents, all_at, all_from_contains, each_at, pairs_at, RootRefValue}
 use Rattle.btr_check_rules.specs.Inodes.{IsDirEntry as StandsInDirectory, KeepsInode as KeepsNumber}
 use Rattle.btr_check_rules.specs.Names.{IsNamed, IsTreeEntry as HasBoth, KeepsNames}
 use Rattle.btr_check_rules.proofs.Filtered.{filter_permutation}
@@ -18,7 +18,7 @@ module _ (r : Recount) (t : TreeOn) (names : AreTreeNames r.root_tree.items t) (
     trees = each_at dir_of a IsRight (index_entries t) (λ i d h other.
         let e = names.trees i d h other in
         let same = ap (λ (x : RootRefValue). Some x) e.ref_is in
-        ((inodes.entries i d h).tree other, record { forth = (e.forth.0, e.forth.1, e.forth.2 ∙ same); back = (e.back.0, e.back.1, e.back.2 ∙ same) }));
+        ((inodes.entries i d h).tree other, inl (record { forth = (e.forth.0, e.forth.1, e.forth.2 ∙ same); back = (e.back.0, e.back.1, e.back.2 ∙ same) })));
     root_refs = refs a;
   }
 
@@ -28,9 +28,6 @@ module _ (r : Recount) (t : TreeOn) (names : AreTreeNames r.root_tree.items t) (
       let inode : Inode = inodes.root.0 in
       let has : HasInode t FIRST_FREE_OBJECTID inode = inodes.root.1 in
       sym (inodes.inodes FIRST_FREE_OBJECTID inode has).links ∙ ((names.inodes FIRST_FREE_OBJECTID has.body inode has.there has.reads).directory inodes.root.2).0
-
-  abbrev IsOwnedAt : ℕ → Item → Type 0
-  IsOwnedAt a i = is_orphan i ≡ false → IsThere t a × IsInodeNumber a
 
   pub inodes_kept : (a : ℕ) → KeepsNumber r.super t a
   inodes_kept a = record {

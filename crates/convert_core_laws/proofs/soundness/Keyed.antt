@@ -1,12 +1,11 @@
 -- A use of data has the key of the file extent that tells it, so no use is told twice.
-use Rattle.convert_core_laws.proofs.Imports.{◌≡◌, ◌≢◌, ◌<◌, ℕ, ◌*◌, ◌^◌, eqb, Bool, true, false, List, [], ◌∷◌, filter, get_or, Option, Some, None, refl, sym, ap, subst, ◌∙◌, ⊎_elim, arith, All, AllPairs, Contains, if◌then◌else◌, ordering_reverse, Ordering, Less, Equal, Greater, All-cons, All-contains, Contains-append_cases, Contains-get_or, AllPairs-cons, EXTENT_DATA, CONV_IMAGE_SUBVOL, FS_TREE, from_map, in_filter, in_flat_map, Image, Ids, is_hole, ContentValue, FileExtentValue, Inline, Prealloc, Regular, file_extent_of, make_key, Key, Item, IsNodeSize, DataUse, Recount, TreeOn, all_trees, data_uses, use_by, use_in, uses_in, IsMaking, Making, HasPieces, file_tree_items, image_tree_items, TreeRoots, named_extents, IsNewVolume, extents_at, file_block, piece_bytes, pieces_of_volume, source_block, image_head, image_items, ImageKeysAscend, file_keys_ascend, extent_item, regular_extent, contains_cases, item_cmp, TreeNode, Rise, ascends_rise, item_total, Options, Piece, recount_for, NewTree, Files, SavedImage}
+use Rattle.convert_core_laws.proofs.Imports.{◌≡◌, ◌≢◌, ◌<◌, ℕ, ◌*◌, ◌^◌, eqb, Bool, true, false, List, [], ◌∷◌, filter, get_or, Option, Some, None, refl, sym, ap, subst, ◌∙◌, ⊎_elim, arith, All, AllPairs, Contains, if◌then◌else◌, ordering_reverse, Ordering, Less, Equal, Greater, All-cons, All-contains, Contains-append_cases, Contains-get_or, AllPairs-cons, EXTENT_DATA, CONV_IMAGE_SUBVOL, FS_TREE, from_map, in_filter, in_flat_map, Image, Ids, is_hole, ContentValue, FileExtentValue, Inline, Prealloc, Regular, file_extent_of, make_key, Key, Item, IsNodeSize, DataUse, Recount, TreeOn, all_trees, data_uses, use_by, use_in, uses_in, IsMaking, Making, HasPieces, file_tree_items, image_tree_items, TreeRoots, named_extents, IsNewVolume, extents_at, file_block, piece_bytes, pieces_of_volume, source_block, image_head, image_items, ImageKeysAscend, file_keys_ascend, extent_item, regular_extent, contains_cases, item_cmp, TreeNode, Rise, ascends_rise, item_total, Options, Piece, recount_for, NewTree, Files, SavedImage, AreDistinct, distinct_flat, distinct_nil, distinct_one}
 use Rattle.btr_check_rules.specs.Recount.{use_of}
 use Rattle.convert_core_laws.proofs.reading.SavedPieces.{member}
 use Rattle.convert_core_laws.proofs.soundness.AllUses.{HasUses, from_is, has_uses, none_used, of_files, of_image, of_none, source_low, uses_are}
 use Rattle.convert_core_laws.proofs.soundness.Trees.{all_once}
 use Rattle.convert_core_laws.proofs.soundness.Unreserved.{fit_size}
 use Rattle.convert_core_laws.proofs.soundness.Uses.{IsUse, by_file, by_image, file_piece, owner_low, piece_use, use_at, uses_from}
-use Rattle.convert_core_laws.proofs.soundness.Distinct.{AreDistinct, distinct_flat, distinct_nil, distinct_one}
 use Rattle.convert_core_laws.proofs.reading.Named.{extents_named}
 use Rattle.convert_core_laws.proofs.soundness.Among.{extents_in, others_all, rooted_there, tree_in, trees_all}
 use Rattle.convert_core_laws.proofs.soundness.Listed.{not_chunks, not_root}

@@ -13,19 +13,6 @@ middle_swap {X} a b c d =
     subst (λ (l : List X). IsPermutation l ((a ++ c) ++ (b ++ d))) (sym one)
     (subst (IsPermutation (a ++ ((b ++ c) ++ d))) two (IsPermutation-append_right a ((b ++ c) ++ d) ((c ++ b) ++ d) (IsPermutation-append_left d (b ++ c) (c ++ b) (IsPermutation-append_comm b c))))
 
--- what two parts of each give
-pub flat_both : {X Y : Type 0} (f g : X → List Y) (xs : List X) → IsPermutation (flat_map (λ x. f x ++ g x) xs) (flat_map f xs ++ flat_map g xs)
-flat_both f g [] = IsPermutation-refl []
-flat_both {X} {Y} f g (x ∷ xs) =
-    IsPermutation-trans ((f x ++ g x) ++ flat_map (λ y. f y ++ g y) xs) ((f x ++ g x) ++ (flat_map f xs ++ flat_map g xs)) ((f x ++ flat_map f xs) ++ (g x ++ flat_map g xs))
-    (IsPermutation-append_right (f x ++ g x) (flat_map (λ y. f y ++ g y) xs) (flat_map f xs ++ flat_map g xs) (flat_both f g xs))
-    (middle_swap (f x) (g x) (flat_map f xs) (flat_map g xs))
-
--- where each gives the same elements
-pub flat_each : {X Y : Type 0} (f g : X → List Y) (xs : List X) → ((x : X) → Contains xs x → IsPermutation (f x) (g x)) → IsPermutation (flat_map f xs) (flat_map g xs)
-flat_each f g [] each = IsPermutation-refl []
-flat_each {X} f g (x ∷ xs) each = IsPermutation-append (f x) (g x) (flat_map f xs) (flat_map g xs) (each x (at_head x xs)) (flat_each f g xs (λ y h. each y (in_tail x xs y h)))
-
 pub flat_same : {X Y : Type 0} (f g : X → List Y) (xs : List X) → ((x : X) → Contains xs x → f x ≡ g x) → flat_map f xs ≡ flat_map g xs
 flat_same f g [] each = refl
 flat_same {X} {Y} f g (x ∷ xs) each = ap (λ (l : List Y). l ++ flat_map f xs) (each x (at_head x xs)) ∙ ap (λ (l : List Y). g x ++ l) (flat_same f g xs (λ y h. each y (in_tail x xs y h)))
@@ -37,11 +24,6 @@ flat_none {X} {Y} f (x ∷ xs) each = ap (λ (l : List Y). l ++ flat_map f xs) (
 pub flat_append : {X Y : Type 0} (f : X → List Y) (xs ys : List X) → flat_map f (xs ++ ys) ≡ flat_map f xs ++ flat_map f ys
 flat_append f [] ys = refl
 flat_append {X} {Y} f (x ∷ xs) ys = ap (λ (l : List Y). f x ++ l) (flat_append f xs ys) ∙ sym (append_assoc (f x) (flat_map f xs) (flat_map f ys))
-
--- what each part of a list of lists gives
-pub flat_flat : {X Y Z : Type 0} (f : X → List Y) (g : Y → List Z) (xs : List X) → flat_map g (flat_map f xs) ≡ flat_map (λ x. flat_map g (f x)) xs
-flat_flat f g [] = refl
-flat_flat {X} {Y} {Z} f g (x ∷ xs) = flat_append g (f x) (flat_map f xs) ∙ ap (λ (l : List Z). flat_map g (f x) ++ l) (flat_flat f g xs)
 
 pub flat_mapped : {X Y Z : Type 0} (f : X → Y) (g : Y → List Z) (xs : List X) → flat_map g (map f xs) ≡ flat_map (λ x. g (f x)) xs
 flat_mapped f g [] = refl

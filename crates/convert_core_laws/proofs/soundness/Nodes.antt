@@ -1,6 +1,7 @@
 -- The nodes of a converted volume lie at their slots.
-use Rattle.convert_core_laws.proofs.Imports.{◌≡◌, ◌≢◌, ℕ, suc, ◌+◌, List, [], ◌∷◌, length, take, drop, refl, sym, subst, arith, All, Contains, IsPermutation, All-append, All-contains, All-contains_itself, All-drop, All-map, All-nil, All-take, All-permutation, IsPermutation-sym, CHUNK_TREE, EXTENT_TREE, ROOT_TREE, Image, Ids, Item, chunk_map, Recount, TreeOn, all_trees, Super, pointer_to, GivesItself, IsSameBy, packed_leaves, tree_levels, level_pointers, lengths_of, pointers_to, Root, agree, TreeEvent, nodes_in, walk_events, identity, MapRange, Form, NodePointer, Making, chunk_slots, new_ids, slots, TreesStand, extents_from, form, root_from, root_tree_items, TreeRoots, IsNewVolume, super_for, all_from_contains, chunk_items, extent_items, TreeNode, TreeStands, pointer_to_root, Options, recount_for, tree_for, tree_number, NewTree, HasLinuxForm}
+use Rattle.convert_core_laws.proofs.Imports.{◌≡◌, ◌≢◌, ℕ, suc, ◌+◌, List, [], ◌∷◌, length, take, drop, refl, sym, subst, arith, false, ap, ◌∙◌, All, Contains, IsPermutation, All-append, All-contains, All-contains_itself, All-drop, All-map, All-nil, All-take, All-permutation, IsPermutation-sym, CHUNK_TREE, EXTENT_TREE, ROOT_TREE, Image, Ids, Item, chunk_map, Recount, TreeOn, all_trees, Super, pointer_to, GivesItself, IsSameBy, packed_leaves, tree_levels, level_pointers, lengths_of, pointers_to, Root, agree, TreeEvent, nodes_in, walk_events, identity, node_at, MapRange, Form, NodePointer, Making, chunk_slots, new_ids, slots, TreesStand, extents_from, form, root_from, root_tree_items, TreeRoots, IsNewVolume, super_for, all_from_contains, chunk_items, extent_items, TreeNode, TreeStands, pointer_to_root, Options, recount_for, tree_for, tree_number, NewTree, HasLinuxForm, IsWholeTree, is_relocated, head_in}
 use Rattle.convert_core.specs.convert_steps.Standing.{items_of}
+use Rattle.btr_reader.proofs.btr_node.NodeBack.{node_head}
 use Rattle.convert_core.proofs.btr_tree.LinuxForm.{have_form}
 use Rattle.convert_core_laws.proofs.reading.Opening.{maps_chunks}
 use Rattle.convert_core_laws.proofs.soundness.Recounting.{form_is}
@@ -32,23 +33,30 @@ met image form owner list items root ranges stands gives =
     let same : IsSameBy image ranges identity form (pointer_to_root root) owner = agree image ranges form (pointer_to_root root) owner all in
     subst (λ (es : List TreeEvent). IsPermutation (nodes_in es) (packed_at form.nodesize list items)) (sym same.events) stands.nodes_are
 
--- and what it meets has the form that Linux wants
+-- a node has the form that Linux wants, and no balance made it
+abbrev pub IsFresh : Image → List MapRange → ℕ → NodePointer → Type 0
+IsFresh image ranges nodesize p = HasLinuxForm image ranges nodesize p × (is_relocated (head_in (node_at image ranges nodesize p.address)) ≡ false)
+
+fresh : (image : Image) (ranges : List MapRange) (form : Form) (owner : ℕ) (chunk_tree : List ℕ) (root : NodePointer) → IsWholeTree image ranges form owner chunk_tree root
+    → All (IsFresh image ranges form.nodesize) (nodes_in (walk_events image ranges form root owner))
+fresh image ranges form owner chunk_tree root whole = λ i d h.
+    let is = whole i d h in
+    (have_form image ranges form owner chunk_tree root whole i d h, ap is_relocated (ap head_in is.exact.bytes_are ∙ node_head is.exact.draft is.exact.right))
+
+-- and so are the nodes that it meets
 pub all_in_form : (image : Image) (form : Form) (owner : ℕ) (list : List ℕ) (items : List Item) (root : Root) (ranges : List MapRange) → TreeStands image form owner list items root → All (GivesItself ranges form.nodesize) list
-    → All (HasLinuxForm image ranges form.nodesize) (nodes_in (walk_events image ranges form (pointer_to_root root) owner))
+    → All (IsFresh image ranges form.nodesize) (nodes_in (walk_events image ranges form (pointer_to_root root) owner))
 all_in_form image form owner list items root ranges stands gives =
     let own : List NodePointer = nodes_in (walk_events image identity form (pointer_to_root root) owner) in
     let all : All (λ p. GivesItself ranges form.nodesize p.address) own =
     All-permutation (λ (p : NodePointer). GivesItself ranges form.nodesize p.address) (packed_at form.nodesize list items) own (IsPermutation-sym own (packed_at form.nodesize list items) stands.nodes_are)
     (level_all (GivesItself ranges form.nodesize) 1 0 0 list (tree_levels form.nodesize (length (packed_leaves form.nodesize (lengths_of items)))) gives) in
     let same : IsSameBy image ranges identity form (pointer_to_root root) owner = agree image ranges form (pointer_to_root root) owner all in
-    have_form image ranges form owner stands.whole.0 (pointer_to_root root) (same.whole items stands.whole.0 stands.items_are stands.whole.1)
+    fresh image ranges form owner stands.whole.0 (pointer_to_root root) (same.whole items stands.whole.0 stands.items_are stands.whole.1)
 
 module _ (o : Options) (ids : Ids) (now : ℕ) (image other : Image) (m : Making) (r : TreeRoots) (nodes : List TreeNode) (v : IsNewVolume o ids now image other m r nodes) where
   abbrev stand : TreesStand image other other m r nodes
   stand = v.new.stands.trees
-
-  abbrev s : Super
-  s = super_for m r nodes
 
   abbrev k : Recount
   k = recount_for image other m r nodes
@@ -66,11 +74,11 @@ module _ (o : Options) (ids : Ids) (now : ℕ) (image other : Image) (m : Making
       (met other (form m) number list items root own stands gives)
 
   abbrev pub AreInForm : TreeOn → Type 0
-  AreInForm t = All (HasLinuxForm other own m.options.nodesize) t.nodes
+  AreInForm t = All (IsFresh other own m.options.nodesize) t.nodes
 
   in_form_at : (list : List ℕ) (number : ℕ) (items : List Item) (root : Root) → TreeStands other (form m) number list items root → All (GivesItself own m.options.nodesize) list → AreInForm (tree_for other (super_for m r nodes) number root items)
   in_form_at list number items root stands gives =
-      subst (λ (f : Form). All (HasLinuxForm other own m.options.nodesize) (nodes_in (walk_events other own f (pointer_to_root root) number))) (sym (form_is m r nodes)) (all_in_form other (form m) number list items root own stands gives)
+      subst (λ (f : Form). All (IsFresh other own m.options.nodesize) (nodes_in (walk_events other own f (pointer_to_root root) number))) (sym (form_is m r nodes)) (all_in_form other (form m) number list items root own stands gives)
 
   chunk_give : All (GivesItself own m.options.nodesize) (chunk_slots m)
   chunk_give =

@@ -1,6 +1,5 @@
 -- All parts of a recount are kept where each is.
-use Rattle.convert_core_laws.proofs.Imports.{ℕ, All, Image, Recount, KeepsExtents, KeepsBlockGroups, KeepsChunks, KeepsTotals, KeepsPlacement, KeepsReserved, KeepsReferences, KeepsSums, KeepsTrees, BlockGroups, Chunks, Keeps, Placement, References, Reserved, SoundPart, Totals, Trees}
-use Rattle.btr_check_rules.specs.Recount.{file_trees}
+use Rattle.convert_core_laws.proofs.Imports.{ℕ, All, Image, Recount, file_trees, KeepsExtents, KeepsBlockGroups, KeepsChunks, KeepsTotals, KeepsPlacement, KeepsReserved, KeepsReferences, KeepsSums, KeepsTrees, BlockGroups, Chunks, Keeps, Placement, References, Reserved, SoundPart, Totals, Trees}
 use Rattle.btr_check_rules.specs.Sound.{Checksums, Files}
 use Rattle.btr_check_rules.specs.Inodes.{KeepsInode}
 use Rattle.btr_check_rules.specs.Names.{KeepsNames}
@@ -10,7 +9,7 @@ pub record AreKept (image : Image) (k : Recount) : Type 0 where
   pub names : All (λ t. (a : ℕ) → KeepsNames k t a) (file_trees k)
   pub inodes : All (λ t. (a : ℕ) → KeepsInode k.super t a) (file_trees k)
   pub extents : All (λ t. (a : ℕ) → KeepsExtents k.super t a) (file_trees k)
-  pub references : (a : ℕ) → KeepsReferences k a
+  pub references : (a : ℕ) → KeepsReferences image k a
   pub placement : (a : ℕ) → KeepsPlacement k a
   pub checksums : (a : ℕ) → KeepsSums image k a
   pub block_groups : (a : ℕ) → KeepsBlockGroups k a

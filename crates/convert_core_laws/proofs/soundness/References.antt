@@ -1,6 +1,8 @@
 -- The references of a converted volume are sound: its extent tree is the recount of all nodes and of all uses of data.
-use Rattle.convert_core_laws.proofs.Imports.{◌≡◌, ◌≢◌, ◌⊎◌, ◌≤◌, ◌<◌, ℕ, ◌+◌, ◌*◌, ◌%◌, ◌^◌, inl, inr, Bool, true, false, List, [], ◌∷◌, length, map, Option, Some, None, refl, sym, ap, subst, ◌∙◌, ⊎_elim, true≢false, arith, ◌-◌, AllByRecursion, sum_by, All, AllPairs, Contains, if◌then◌else◌, is_some, option_map_or, Equal, eq-eqb, All-contains, All-map, EXTENT_FLAG_DATA, EXTENT_FLAG_TREE_BLOCK, BLOCK_GROUP_ITEM, EXTENT_ITEM, METADATA_ITEM, CONV_IMAGE_SUBVOL, EXTENT_TREE, FS_TREE, from_map, in_map, keys, Image, Ids, make_key, Key, Item, IsNodeSize, DataUse, Recount, TreeOn, all_trees, data_uses, recounted_items, EachAt, HasItem, object_of, FitFeatures, HasRefs, KeepsReferences, IsDataItem, IsNodeItem, IsWhole, StandsBefore, is_group, FitsInline, ref_uses, InlineRef, TreeBlock, NodePointer, IsMaking, Making, HasPieces, made_from, TreeRoots, well, NewIdsFit, IsNewVolume, all_at, two_cases, file_block, source_block, ino_of, FilesAreHeld, ImageKeysAscend, all_from_contains, accepted_is_small, data_ref, extent_body, extent_items, group_item, image_refs, node_item, owner_refs, piece_item, put_refs, used_in, place_of_ref, item_cmp, merged, TreeNode, all-merge, append-nil, PlannedChunk, Options, Piece, recount_for, ConvertedReferencesAreSound, each_at}
+use Rattle.convert_core_laws.proofs.Imports.{◌≡◌, ◌≢◌, ◌⊎◌, ◌≤◌, ◌<◌, ℕ, ◌+◌, ◌*◌, ◌%◌, ◌^◌, inl, inr, Bool, true, false, List, [], ◌∷◌, length, map, Option, Some, None, refl, sym, ap, subst, ◌∙◌, ⊎_elim, true≢false, arith, ◌-◌, AllByRecursion, sum_by, All, AllPairs, Contains, if◌then◌else◌, is_some, option_map_or, Equal, eq-eqb, All-contains, All-map, EXTENT_FLAG_DATA, EXTENT_FLAG_TREE_BLOCK, BLOCK_GROUP_ITEM, EXTENT_ITEM, METADATA_ITEM, CONV_IMAGE_SUBVOL, EXTENT_TREE, FS_TREE, from_map, in_map, keys, Image, Ids, make_key, Key, Item, IsNodeSize, DataUse, Recount, TreeOn, all_trees, data_uses, recounted_items, EachAt, HasItem, object_of, FitFeatures, KeepsReferences, StandsBefore, TellsRefs, IsDataItem, IsNodeItem, IsWhole, is_group, ArePlainReferences, FitsInline, ref_uses, InlineRef, TreeBlock, NodePointer, IsMaking, Making, HasPieces, made_from, TreeRoots, well, NewIdsFit, IsNewVolume, all_at, two_cases, file_block, source_block, ino_of, FilesAreHeld, ImageKeysAscend, all_from_contains, accepted_is_small, data_ref, extent_body, extent_items, group_item, image_refs, node_item, owner_refs, piece_item, put_refs, used_in, place_of_ref, item_cmp, merged, TreeNode, all-merge, append-nil, PlannedChunk, Options, Piece, recount_for, ConvertedReferencesAreSound, each_at, AreDistinct}
 use Rattle.std.specs.Prelude.{nat_lt}
+use Rattle.btr_check_rules.proofs.Unshared.{plain_references_are_kept}
+use Rattle.convert_core_laws.proofs.soundness.Alone.{unshared}
 use Rattle.convert_core_laws.proofs.soundness.AllUses.{from_is, source_low, uses_are}
 use Rattle.convert_core_laws.proofs.soundness.Nodes.{LiesAt, node_lies, of_chunks, of_others}
 use Rattle.convert_core_laws.proofs.soundness.Recounting.{generation_is, volume_for, with_extended, with_skinny}
@@ -11,7 +13,6 @@ use Rattle.convert_core_laws.proofs.soundness.Used.{file_use, owned, saved_use}
 use Rattle.convert_core_laws.proofs.soundness.Uses.{IsUse, by_file, by_image, owner_low, use_at}
 use Rattle.convert_core_laws.proofs.soundness.Bodies.{data_fits, has_refs, hash_above, hash_below, node_fits, one_alone, two_ordered}
 use Rattle.convert_core_laws.proofs.soundness.DataItems.{one_ref, two_refs}
-use Rattle.convert_core_laws.proofs.soundness.Distinct.{AreDistinct}
 use Rattle.convert_core_laws.proofs.soundness.InMerged.{in_first, in_second}
 use Rattle.convert_core_laws.proofs.soundness.Keyed.{uses_distinct}
 use Rattle.convert_core_laws.proofs.soundness.Numbers.{inode_low, kinds_apart}
@@ -85,7 +86,7 @@ module _ (o : Options) (ids : Ids) (now : ℕ) (image other : Image) (m : Making
       (λ x l e. let at = from_map node_item nodes x l in kinds_apart x.0 (piece_item p).0 (λ same. let is : x.0.kind ≡ METADATA_ITEM = sym (ap (λ (i : Item). i.0.kind) at.2) in omega (arith, same, is)) e) (in_map piece_item m.pieces p h))
 
   -- the body of an extent, as the volume has it
-  refs_made : (flags : ℕ) (refs : List InlineRef) → flags < 2 ^ 64 → sum_by ref_uses refs < 2 ^ 64 → AllByRecursion FitsInline refs → AllPairs StandsBefore refs → HasRefs k.super.generation (extent_body flags refs) flags (sum_by ref_uses refs) refs
+  refs_made : (flags : ℕ) (refs : List InlineRef) → flags < 2 ^ 64 → sum_by ref_uses refs < 2 ^ 64 → AllByRecursion FitsInline refs → AllPairs StandsBefore refs → TellsRefs k.super.generation (extent_body flags refs) flags (sum_by ref_uses refs) refs
   refs_made flags refs low few fits order = let newest = generation_is m r nodes in has_refs k.super.generation flags refs (omega (arith, newest)) low few fits order
 
   -- ---- nodes
@@ -308,17 +309,16 @@ module _ (o : Options) (ids : Ids) (now : ℕ) (image other : Image) (m : Making
   abbrev HasRange : DataUse → Type 0
   HasRange u = HasItem (recounted_items k EXTENT_TREE) u.start EXTENT_ITEM u.length
 
-  pub keeps : (a : ℕ) → KeepsReferences k a
-  keeps a = record {
-    each = each_at object_of a IsRight (recounted_items k EXTENT_TREE)
-        (subst (All IsRight) (sym items_are) (all_from_contains IsRight items (λ i h off. (each_item i h off, is_whole i h off))));
-    nodes = all_from_contains (λ (t : TreeOn). EachAt (λ (p : NodePointer). p.address) a HasNode t.nodes) (all_trees k) (λ t h.
-        each_at (λ (p : NodePointer). p.address) a HasNode t.nodes
-        (all_from_contains HasNode t.nodes (λ p l. subst (λ (is : List Item). HasItem is p.address METADATA_ITEM p.level) (sym items_are) (node_key t p h l))));
-    data_ = each_at (λ (u : DataUse). u.start) a HasRange (data_uses k)
-        (all_from_contains HasRange (data_uses k) (λ u h. subst (λ (is : List Item). HasItem is u.start EXTENT_ITEM u.length) (sym items_are) (data_key u h)));
-    features = fit_features a;
+  plain : ArePlainReferences k
+  plain = record {
+    each = subst (All IsRight) (sym items_are) (all_from_contains IsRight items (λ i h off. (each_item i h off, is_whole i h off)));
+    nodes = all_from_contains (λ (t : TreeOn). All HasNode t.nodes) (all_trees k)
+        (λ t h. all_from_contains HasNode t.nodes (λ p l. subst (λ (is : List Item). HasItem is p.address METADATA_ITEM p.level) (sym items_are) (node_key t p h l)));
+    data_ = all_from_contains HasRange (data_uses k) (λ u h. subst (λ (is : List Item). HasItem is u.start EXTENT_ITEM u.length) (sym items_are) (data_key u h));
   }
+
+  pub keeps : (a : ℕ) → KeepsReferences other k a
+  keeps = plain_references_are_kept other k (unshared o ids now image other m r nodes v) plain fit_features
 
 pub converted_references_are_sound : NewIdsFit → FilesAreHeld → ImageKeysAscend → ConvertedReferencesAreSound
 converted_references_are_sound ids_fit held rising = λ o ids now image other m r nodes is size low are has bytes.

@@ -1,5 +1,5 @@
 -- The names of the tree of the saved image.
-use Rattle.convert_core_laws.proofs.Imports.{◌≡◌, ◌≤◌, ◌<◌, ◌⊎◌, inl, inr, ℕ, ◌+◌, ◌*◌, ◌^◌, Bool, true, false, List, [], ◌∷◌, ◌++◌, map, Some, refl, sym, ap, subst, ◌∙◌, ⊎_elim, true≢false, arith, ◌≢◌, AllByRecursion, All-cons, All-from_recursion, All-nil, filter-append, IsPermutation-refl, INODE_ITEM, CONV_IMAGE_SUBVOL, FIRST_FREE_OBJECTID, inode_bytes, inode_of, InodeRefValue, inode_ref_head, make_key, Inode, Item, AreInodes, IsDirEntry, IsOwned, KeepsInode, SameName, AreTreeNames, IsInode, HasKind, is_orphan, inode_nbytes, ref_name_count, other_flags, ComesToEnd, below, unnamed, BackName, IndexEntry, IsThere, index_entries, names_inode_item, own_name, TreeOn, NodePointer, Super, extents_at, piece_bytes, pieces_of_volume, source_block, entry_items, entry_to, root_ref, image_entries, image_head, image_items, image_name, root_directory_items, all_append, all_mapped, all_true, sum_mapped, Directory, File, extent_item, regular_extent, inode_item, ref_item, at_head, head_or_tail, all_in, Piece, cases_eq}
+use Rattle.convert_core_laws.proofs.Imports.{◌≡◌, ◌≤◌, ◌<◌, ◌⊎◌, inl, inr, ℕ, ◌+◌, ◌*◌, ◌^◌, Bool, true, false, List, [], ◌∷◌, ◌++◌, map, Some, refl, sym, ap, subst, ◌∙◌, ⊎_elim, true≢false, arith, ◌≢◌, AllByRecursion, All-cons, All-from_recursion, All-nil, filter-append, IsPermutation-refl, INODE_ITEM, CONV_IMAGE_SUBVOL, FIRST_FREE_OBJECTID, inode_bytes, inode_of, InodeRefValue, inode_ref_head, make_key, Inode, Item, AreInodes, IsDirEntry, IsOwned, KeepsInode, SameName, AreTreeNames, IsInode, HasKind, is_orphan, inode_nbytes, ref_name_count, other_flags, ComesToEnd, below, unnamed, BackName, IndexEntry, IsThere, index_entries, names_inode_item, own_name, TreeOn, NodePointer, Super, extents_at, piece_bytes, pieces_of_volume, source_block, entry_items, entry_to, root_ref, image_entries, image_head, image_items, image_name, root_directory_items, all_append, all_mapped, all_true, sum_mapped, Directory, File, extent_item, regular_extent, inode_item, ref_item, at_head, head_or_tail, all_in, Piece, cases_eq, Walked, walked_tree}
 use Rattle.std.proofs.Common.{sum_by, All, AllPairs, Contains, bit_and}
 use Rattle.convert_core_laws.proofs.ByteReading.{filter_all, filter_none, is_extent, regular_read}
 use Rattle.convert_core_laws.proofs.soundness.Flags.{image_inode, image_inode_reads, image_inode_there}
@@ -70,9 +70,9 @@ module _ (blocks now : ℕ) (pieces : List Piece) (datasum : Bool) (few : blocks
   unfolding image_items image_head
   tells = tells_of ((root_directory_items now image_entries ++ of_image) ++ extents) (hash_entries FIRST_FREE_OBJECTID image_entries) indexes names [] names told (IsPermutation-refl (hash_entries FIRST_FREE_OBJECTID image_entries)) (IsPermutation-refl names)
 
-  module _ (nodes : List NodePointer) (roots : List Item) where
+  module _ (nodes : Walked) (roots : List Item) where
     abbrev pub saved : TreeOn
-    saved = record { number = CONV_IMAGE_SUBVOL; nodes = nodes; items = image_items blocks pieces datasum now }
+    saved = walked_tree CONV_IMAGE_SUBVOL nodes (image_items blocks pieces datasum now)
 
     -- ---- bytes
 

@@ -1,5 +1,6 @@
 -- What the root tree refers to from one tree to another, an entry of the first one tells.
-use Rattle.convert_core_laws.proofs.Imports.{◌≡◌, ◌≤◌, ℕ, eqb, Bool, true, false, List, [], ◌∷◌, map, filter, refl, sym, subst, ◌∙◌, true≢false, arith, All, Contains, if◌then◌else◌, Contains-append_right, flat_map, at_head, in_map, in_flat_map, from_filter, CONV_IMAGE_SUBVOL, FIRST_FREE_OBJECTID, FS_TREE, ROOT_BACKREF, Image, Item, make_key, HasItem, Recount, TreeOn, is_subvolume, IndexEntry, index_entries, IsToldBy, KeepsRootRefs, dir_told, tells_tree, told_by_tree, NodePointer, IsMaking, Making, saved_index, HasPieces, TreeRoots, root_tree_items, TreeNode, all_at, all_from_contains, saved_ref, saved_entry, indexed, names_in, next_index, Indexed, root_known, root_number, same_key, root, same_key-self, ino_of, kind_in, Source, Kind, Directory, recount_for, each_at, root_ref_of}
+use Rattle.convert_core_laws.proofs.Imports.{◌≡◌, ◌≤◌, ℕ, eqb, Bool, true, false, List, [], ◌∷◌, map, filter, refl, sym, subst, ◌∙◌, true≢false, arith, All, Contains, if◌then◌else◌, Contains-append_right, flat_map, at_head, in_map, in_flat_map, from_filter, CONV_IMAGE_SUBVOL, FIRST_FREE_OBJECTID, FS_TREE, ROOT_BACKREF, Image, Item, make_key, HasItem, Recount, TreeOn, IndexEntry, index_entries, IsToldBy, KeepsRootRefs, dir_told, tells_tree, told_by_tree, NodePointer, IsMaking, Making, saved_index, HasPieces, TreeRoots, root_tree_items, TreeNode, all_at, all_from_contains, saved_ref, saved_entry, indexed, names_in, next_index, Indexed, root_known, root_number, same_key, root, same_key-self, ino_of, kind_in, Source, Kind, Directory, recount_for, Walked, each_at, root_ref_of}
+use Rattle.btr_reader.specs.btr_reader_walk.Nodes.{is_file_tree as is_subvolume}
 use Rattle.convert_core_laws.proofs.soundness.Assembling.{entries_are}
 use Rattle.convert_core_laws.proofs.soundness.Entered.{in_roots, ref_reads, roots_all}
 use Rattle.convert_core_laws.proofs.soundness.Inodes.{root_kind, tree}
@@ -54,7 +55,7 @@ module _ (image other : Image) (m : Making) (made : IsMaking image m) (r : TreeR
 
   -- ---- the first one
 
-  module _ (met : List NodePointer) where
+  module _ (met : Walked) where
     abbrev t : TreeOn
     t = tree image m made met
 

@@ -1,5 +1,5 @@
 -- The names of the image's tree and of the relocation tree.
-use Rattle.convert_core_laws.proofs.Imports.{◌≡◌, ◌<◌, ℕ, ◌*◌, ◌^◌, ◌==◌, Bool, true, false, List, [], ◌∷◌, length, map, filter, count_by, Some, refl, sym, ap, subst, ◌∙◌, ⊎_elim, arith, AllByRecursion, All-from_recursion, All-nil, IsPermutation-refl, INODE_ITEM, DATA_RELOC_TREE, FIRST_FREE_OBJECTID, DIRECTORY_MODE, inode_bytes, inode_layout, inode_of, make_key, Inode, inodes_read_back, Item, AreTreeNames, IsInode, AreInodes, IsDirEntry, IsOwned, KeepsInode, SameName, BackName, IndexEntry, IsThere, index_entries, own_name, inode_nbytes, ref_name_count, is_orphan, unnamed, TreeOn, NodePointer, Super, Indexed, entry_items, letters, root_ref, relocation_items, root_directory_items, sum_mapped, inode_item, inode_made, at_head, from_map, head_or_tail}
+use Rattle.convert_core_laws.proofs.Imports.{◌≡◌, ◌<◌, ℕ, ◌*◌, ◌^◌, ◌==◌, Bool, true, false, List, [], ◌∷◌, length, map, filter, count_by, Some, refl, sym, ap, subst, ◌∙◌, ⊎_elim, arith, AllByRecursion, All-from_recursion, All-nil, IsPermutation-refl, INODE_ITEM, DATA_RELOC_TREE, FIRST_FREE_OBJECTID, DIRECTORY_MODE, inode_bytes, inode_layout, inode_of, make_key, Inode, inodes_read_back, Item, AreTreeNames, IsInode, AreInodes, IsDirEntry, IsOwned, KeepsInode, SameName, BackName, IndexEntry, IsThere, index_entries, own_name, inode_nbytes, ref_name_count, is_orphan, unnamed, TreeOn, NodePointer, Super, Indexed, entry_items, letters, root_ref, relocation_items, root_directory_items, sum_mapped, inode_item, inode_made, at_head, from_map, head_or_tail, Walked, walked_tree}
 use Rattle.std.proofs.Common.{sum_by, All, AllPairs, Contains}
 use Rattle.convert_core_laws.proofs.soundness.Flags.{stamp_fits}
 use Rattle.convert_core_laws.proofs.soundness.Assembling.{Tells, count_is, entries_are, have_names, size_is, tells_of}
@@ -60,9 +60,9 @@ root_inode_keeps now list sup t names tells one =
 
 -- ---- the relocation tree
 
-module _ (now : ℕ) (low : now < 2 ^ 63) (nodes : List NodePointer) (roots : List Item) where
+module _ (now : ℕ) (low : now < 2 ^ 63) (nodes : Walked) (roots : List Item) where
   abbrev pub relocation : TreeOn
-  relocation = record { number = DATA_RELOC_TREE; nodes = nodes; items = relocation_items now }
+  relocation = walked_tree DATA_RELOC_TREE nodes (relocation_items now)
 
   relocation_tells : Tells (relocation_items now) [] (own_name ∷ [])
   unfolding relocation_items

@@ -1,7 +1,6 @@
 -- The items of the checksum tree: checksums of the blocks of pieces, each block once.
-use Rattle.convert_core_laws.proofs.Imports.{◌≡◌, ◌≤◌, ◌<◌, ℕ, ◌+◌, ◌*◌, ◌/◌, ◌%◌, List, length, take, drop, get_or, refl, sym, subst, arith, AllPairs, Contains, from_flat_map, in_flat_map, Image, block_at, Item, IsSumItem, sum_count, most_sums, SumKind, Crc32c, Sha256, block_sum, run_items, sum_items, sums_item, Piece, kind_width, sums_in_item}
+use Rattle.convert_core_laws.proofs.Imports.{◌≡◌, ◌≤◌, ◌<◌, ℕ, ◌+◌, ◌*◌, ◌/◌, ◌%◌, List, length, take, drop, get_or, refl, sym, subst, arith, AllPairs, Contains, from_flat_map, in_flat_map, Image, block_at, Item, IsSumItem, sum_count, most_sums, SumKind, Crc32c, Sha256, block_sum, run_items, sum_items, sums_item, Piece, kind_width, sums_in_item, pairs_flat}
 use Rattle.btr_reader.proofs.csum_kinds.Widths.{length-sum}
-use Rattle.convert_core_laws.proofs.soundness.Distinct.{pairs_flat}
 use Rattle.convert_core_laws.proofs.soundness.Runs.{Covers, IsPart, row_at, row_long, runs_apart, runs_cover, runs_parts}
 
 block_wide : (sums : SumKind) (image : Image) (b : ℕ) → length (block_sum sums image b) ≡ kind_width sums

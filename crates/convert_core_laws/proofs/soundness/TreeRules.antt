@@ -1,10 +1,8 @@
 -- The root items and the nodes of a converted volume keep the rules of Linux.
-use Rattle.convert_core_laws.proofs.Imports.{◌≡◌, ◌≢◌, ◌≤◌, ◌<◌, ℕ, suc, ◌+◌, ◌%◌, ◌^◌, inl, eqb, Bool, true, List, [], ◌∷◌, length, take, drop, refl, ap, arith, length-drop, map, get_or, filter, length-append, ◌/◌, ⊎_elim, inr, replicate, sym, subst, ◌∙◌, All, AllPairs, Contains, list_any, All-append, All-drop, All-from_recursion, All-map, All-nil, All-take, All-contains, All-permutation, IsPermutation-sym, EXTENT_TREE, FIRST_FREE_OBJECTID, TREE_RELOC, CHUNK_TREE, ROOT_TREE, FS_TREE, all_from_contains, Image, Ids, Item, heads_in, IsNodeSize, NodePointer, Super, Recount, TreeOn, all_trees, holds_files, object_of, has_tree, IsRootItem, KeepsTrees, needed_trees, KeepsSuper, is_root_ref, referring, refused_at, pointer_to, packed_leaves, tree_levels, level_pointers, lengths_of, pointers_to, Root, TreeStands, Making, chunk_slots, new_ids, slots, IsMaking, saved_index, TreesStand, extents_from, form, root_from, TreeRoots, NamedTree, named_trees, rooted_trees, root_tree_items, named_in, extent_items, root_body, root_dirid, tree_root_item, other_root_items, TreeNode, TreeRoot, Options, NewIdsFit, IsNewVolume, super_for, boot_part, ConvertedTreesAreSound, recount_for, named_on, numbers_ascend, pairs_of, tree_number, list_any-from_Any, System, PlannedChunk, IsChunk, role_of, usable_end, all_at, any_from, boot_bytes, record_bytes, is_system_role, new_super, chunk_item, chunk_items, chunk_ends, in_filter, in_map, from_filter, item_cmp, all-merge, slot_unit, Files, each_at, pairs_at, length_record, chunk_map, ArePacked as IsPackedTo, HasLinuxForm}
+use Rattle.convert_core_laws.proofs.Imports.{◌≡◌, ◌≢◌, ◌≤◌, ◌<◌, ℕ, suc, ◌+◌, ◌%◌, ◌^◌, inl, eqb, Bool, true, List, [], ◌∷◌, length, take, drop, refl, ap, arith, length-drop, map, get_or, filter, length-append, ◌/◌, ⊎_elim, inr, replicate, sym, subst, ◌∙◌, nat_le, nat_lt, ◌||◌, ◌&&◌, false, All, AllPairs, Contains, list_any, All-append, All-drop, All-from_recursion, All-map, All-nil, All-take, All-contains, All-permutation, IsPermutation-sym, EXTENT_TREE, FIRST_FREE_OBJECTID, TREE_RELOC, CHUNK_TREE, ROOT_TREE, FS_TREE, DATA_RELOC_TREE, all_from_contains, Image, Ids, Item, heads_in, IsNodeSize, NodePointer, Super, Recount, TreeOn, all_trees, holds_files, object_of, has_tree, file_trees, is_file_tree, IsRootItem, KeepsTrees, needed_trees, KeepsSuper, is_root_ref, referring, refused_at, pointer_to, packed_leaves, tree_levels, level_pointers, lengths_of, pointers_to, Root, TreeStands, Making, chunk_slots, new_ids, slots, IsMaking, saved_index, TreesStand, extents_from, form, root_from, TreeRoots, NamedTree, named_trees, rooted_trees, root_tree_items, named_in, extent_items, root_body, root_dirid, tree_root_item, other_root_items, TreeNode, TreeRoot, Options, NewIdsFit, IsNewVolume, super_for, boot_part, ConvertedTreesAreSound, recount_for, named_on, numbers_ascend, pairs_of, tree_number, list_any-from_Any, System, PlannedChunk, IsChunk, role_of, usable_end, all_at, any_from, boot_bytes, record_bytes, is_system_role, new_super, chunk_item, chunk_items, chunk_ends, in_filter, in_map, from_filter, item_cmp, all-merge, slot_unit, Files, each_at, pairs_at, length_record, chunk_map, ArePacked as IsPackedTo, HasLinuxForm, eqb-true, le-leb, FilesAreHeld, ImageKeysAscend, InodesAreThere, HasFirstKey, KeepsChildren, KeepsNode, KeepsNodes, node_bytes, behind_head}
 use Rattle.std.proofs.Common.{flat_map, if◌then◌else◌}
-use Rattle.btr_check_rules.specs.Recount.{file_trees, is_file_tree}
 use Rattle.convert_core.specs.convert_steps.Standing.{items_of}
-use Rattle.btr_check_rules.specs.Nodes.{ArePacked, HasFirstKey, KeepsChildren, KeepsNode, KeepsNodes, node_bytes}
-use Rattle.btr_reader.specs.btr_node.Head.{behind_head}
+use Rattle.btr_check_rules.specs.Nodes.{ArePacked}
 use Rattle.btr_reader.specs.btr_node.Inner.{children_in}
 use Rattle.btr_reader.specs.btr_node.declared.child.Child.{Child}
 use Rattle.btr_reader.specs.btr_node.declared.item.BtrItemHead.{BtrItemHead}
@@ -13,7 +11,8 @@ use Rattle.convert_core_laws.proofs.reading.Numbers.{size_small, slots_few}
 use Rattle.convert_core_laws.proofs.reading.Rooted.{root_reads}
 use Rattle.convert_core_laws.proofs.reading.Stood.{root_at, root_low}
 use Rattle.convert_core_laws.proofs.reading.Superblock.{size}
-use Rattle.convert_core_laws.proofs.soundness.Nodes.{AreAt, AreInForm, forms, chunk_at, extents_at, packed_at, root_at as root_tree_at, tree_at}
+use Rattle.convert_core_laws.proofs.soundness.Nodes.{AreAt, AreInForm, IsFresh, forms, chunk_at, extents_at, packed_at, root_at as root_tree_at, tree_at}
+use Rattle.convert_core_laws.proofs.soundness.OwnKinds.{AreKept, all_kept}
 use Rattle.convert_core_laws.proofs.soundness.Recounting.{generation_is, nodesize_is, volume_for}
 use Rattle.convert_core_laws.proofs.soundness.Apart.{size_some}
 use Rattle.convert_core_laws.proofs.soundness.RootTree.{root_files}
@@ -33,7 +32,12 @@ level_of generation level skip list (n ∷ sizes) =
 
 -- a tree of files begins with the directory 256
 dirid : (number : ℕ) → holds_files number ≡ true → root_dirid number ≡ FIRST_FREE_OBJECTID
-dirid number is = ap (λ (b : Bool). if b then 256 else 0) is
+dirid number is = ap (λ (b : Bool). if b then 256 else 0) (in_tree (eqb number FS_TREE) (nat_le FIRST_FREE_OBJECTID number) (nat_lt number (2 ^ 48)) (eqb number DATA_RELOC_TREE) (λ t. let at = eqb-true number DATA_RELOC_TREE t in le-leb FIRST_FREE_OBJECTID number (omega (arith, at))) is)
+  where
+    in_tree : (a b c d : Bool) → (d ≡ true → b ≡ true) → (a || (b && c)) || d ≡ true → a || b ≡ true
+    in_tree true b c d last t = refl
+    in_tree false true c d last t = refl
+    in_tree false false c d last t = last t
 
 abbrev Differ : Item → Item → Type 0
 Differ i j = i.0.objectid ≢ j.0.objectid
@@ -41,9 +45,6 @@ Differ i j = i.0.objectid ≢ j.0.objectid
 module _ (o : Options) (ids : Ids) (now : ℕ) (image other : Image) (m : Making) (r : TreeRoots) (nodes : List TreeNode) (v : IsNewVolume o ids now image other m r nodes) where
   abbrev stand : TreesStand image other other m r nodes
   stand = v.new.stands.trees
-
-  abbrev s : Super
-  s = super_for m r nodes
 
   abbrev k : Recount
   k = recount_for image other m r nodes
@@ -125,7 +126,7 @@ module _ (o : Options) (ids : Ids) (now : ℕ) (image other : Image) (m : Making
   same_packed end (h ∷ heads) packed = (packed.0, same_packed h.offset heads packed.1)
 
   in_form : (t : TreeOn) (p : NodePointer) → Contains (all_trees k) t → Contains t.nodes p → HasLinuxForm other (chunk_map other (super_for m r nodes)) m.options.nodesize p
-  in_form t p h l = All-contains (HasLinuxForm other (chunk_map other (super_for m r nodes)) m.options.nodesize) t.nodes p (all_at (AreInForm o ids now image other m r nodes v) (all_trees k) t (forms o ids now image other m r nodes v) h) l
+  in_form t p h l = (All-contains (IsFresh other (chunk_map other (super_for m r nodes)) m.options.nodesize) t.nodes p (all_at (AreInForm o ids now image other m r nodes v) (all_trees k) t (forms o ids now image other m r nodes v) h) l).0
 
   sized : (t : TreeOn) (p : NodePointer) → Contains (all_trees k) t → Contains t.nodes p → HasLinuxForm other (chunk_map other (super_for m r nodes)) k.super.nodesize p
   sized t p h l = subst (λ (n : ℕ). HasLinuxForm other (chunk_map other (super_for m r nodes)) n p) (sym (nodesize_is m r nodes)) (in_form t p h l)
@@ -238,8 +239,8 @@ module _ (o : Options) (ids : Ids) (now : ℕ) (image other : Image) (m : Making
   abbrev IsNeeded : ℕ → Type 0
   IsNeeded number = has_tree k number ≡ true
 
-  pub keeps : m.now < 2 ^ 63 → (a : ℕ) → KeepsTrees other k a
-  keeps low a = record {
+  pub keeps : m.now < 2 ^ 63 → All AreKept (all_trees k) → (a : ℕ) → KeepsTrees other k a
+  keeps low kinds a = record {
     sound = λ i d h. subst (All (λ fault. refused_at fault ≢ a)) (sym (no_faults o ids now image other m r nodes v i d h)) (All-nil (λ fault. refused_at fault ≢ a));
     nodes = all_from_contains (KeepsNodes other k a) (all_trees k) (keeps_nodes a);
     needed = each_at (λ (number : ℕ). number) a IsNeeded needed_trees (All-from_recursion IsNeeded needed_trees (refl, (refl, (refl, (refl, (refl, tt))))));
@@ -247,12 +248,13 @@ module _ (o : Options) (ids : Ids) (now : ℕ) (image other : Image) (m : Making
     root_once = pairs_at object_of a Differ items all_differ;
     root_refs = each_at referring a Refers (filter is_root_ref (root_tree_items m r)) (all_from_contains Refers (filter is_root_ref (root_tree_items m r)) (λ i h.
         let kept = from_filter is_root_ref (root_tree_items m r) i h in all_at RefersToFiles (root_tree_items m r) i refer_all kept.0 kept.1));
+    kinds = each_at (λ (t : TreeOn). t.number) a AreKept (all_trees k) kinds;
     root_files = λ at. root_files image other m r nodes low;
     super = λ at. keeps_super;
     array = λ at. array o ids now image other m r nodes v;
   }
 
-pub converted_trees_are_sound : NewIdsFit → ConvertedTreesAreSound
-converted_trees_are_sound fit = λ o ids now image other m r nodes is size low are has bytes.
+pub converted_trees_are_sound : NewIdsFit → FilesAreHeld → ImageKeysAscend → InodesAreThere → ConvertedTreesAreSound
+converted_trees_are_sound fit held rising are_there = λ o ids now image other m r nodes is size low are has bytes.
     let v = volume_for fit o ids now image other m r nodes is size are has in
-    keeps o ids now image other m r nodes v (subst (λ (n : ℕ). n < 2 ^ 63) (sym v.new.conversion.now_is) low)
+    keeps o ids now image other m r nodes v (subst (λ (n : ℕ). n < 2 ^ 63) (sym v.new.conversion.now_is) low) (all_kept o ids now image other m r nodes v held rising are_there low bytes)

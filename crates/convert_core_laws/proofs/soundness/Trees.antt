@@ -1,10 +1,10 @@
 -- The recount of a converted volume: each tree is there. Its bootstrap array has the system chunks.
-use Rattle.convert_core_laws.proofs.Imports.{◌≡◌, ◌≤◌, ◌<◌, ℕ, ◌+◌, eqb, Bool, true, false, List, ◌++◌, map, refl, sym, ap, subst, ◌∙◌, ⊎_elim, arith, cond, filter, Option, Some, ◌∷◌, ◌||◌, [], ◌^◌, ◌*◌, ap₂, All, AllPairs, Contains, flat_map, map-append, All-map, All-head, All-tail, All-cons, CHUNK_TREE, ROOT_TREE, EXTENT_TREE, from_filter, in_filter, Image, Ids, Item, boot_chunks, boot_list, chunk_map, chunk_tree, form_of, root_tree, ChunkAt, Recount, TreeOn, chunks_on, RootOn, all_roots, recount, recount_by, recount_of, root_by, roots_in, tree_on, NewIdsFit, ConvertedVolumesAreRecounted, chunk_made, contains_cases, contains_head, contains_tail, all_from_contains, chunk_item, chunk_items, chunk_kind, Super, GivesItself, Root, nodes_in, walk_events, IsTree, tree_refusals, MapRange, Form, NodePointer, IsMaking, Making, chunk_slots, new_ids, TreesStand, form, TreeRoots, named_trees, NamedTree, extents_from, root_tree_items, is_system_role, new_super, MapsChunks, IsNewVolume, ReadsTrees, boot_part, chunk_at, map_for, other_part, super_for, two_cases, TreeNode, pointer_to_root, IsChunk, role_of, usable_end, PlannedChunk, Role, System, Metadata, Data, Options, all_at, recount_for, tree_for, trees_for, named_on, numbers_ascend, pairs_of, IsArray, chunk_by, is_system, system_chunks, is_chunk_key, placed_chunk, extent_items, tree_number, tree_root_item, pointer_of}
+use Rattle.convert_core_laws.proofs.Imports.{slots, IsMaking, Making, chunk_slots, new_ids, drop, ◌≡◌, ◌≤◌, ◌<◌, ℕ, ◌+◌, eqb, Bool, true, false, List, ◌++◌, map, refl, sym, ap, subst, ◌∙◌, ⊎_elim, arith, cond, filter, Option, Some, ◌∷◌, ◌||◌, [], ◌^◌, ◌*◌, ap₂, get_or, All, AllPairs, Contains, flat_map, map-append, All-map, All-head, All-tail, All-cons, All-contains, CHUNK_TREE, ROOT_TREE, EXTENT_TREE, from_filter, in_filter, Image, Ids, Item, keys_of, boot_chunks, boot_list, chunk_map, chunk_tree, form_of, root_tree, tree_of, ChunkAt, Recount, TreeOn, chunks_on, RootOn, recount, recount_by, recount_of, root_by, roots_in, tree_on, plain_root, last_snapshot_of, all_trees, NewIdsFit, ConvertedVolumesAreRecounted, chunk_made, contains_cases, contains_head, contains_tail, all_from_contains, chunk_item, chunk_items, chunk_kind, Super, GivesItself, Root, nodes_in, walk_events, IsTree, tree_refusals, bare_item, MapRange, Form, NodePointer, TreesStand, form, TreeRoots, named_trees, NamedTree, extents_from, root_tree_items, named_extents, is_system_role, new_super, MapsChunks, IsNewVolume, ReadsTrees, boot_part, chunk_at, map_for, other_part, super_for, two_cases, TreeNode, pointer_to_root, TreeStands, IsChunk, role_of, usable_end, PlannedChunk, Role, System, Metadata, Data, Options, all_at, recount_for, tree_for, trees_for, named_on, walked_tree, numbers_ascend, pairs_of, IsArray, chunk_by, is_system, system_chunks, tree_faults, is_chunk_key, placed_chunk, extent_items, tree_number, tree_root_item, pointer_of, option_map_or, met_alone, Ascends, RootItem}
 use Rattle.convert_core.specs.convert_steps.Standing.{items_of}
 use Rattle.convert_core_laws.proofs.reading.Chunks.{all_fit}
 use Rattle.convert_core_laws.proofs.reading.Opening.{maps_chunks, opened}
-use Rattle.convert_core_laws.proofs.reading.Named.{every_named, tree_stands}
-use Rattle.convert_core_laws.proofs.reading.Reading.{all_read, own_super_is, root_leads}
+use Rattle.convert_core_laws.proofs.reading.Named.{every_named, extents_named, tree_stands}
+use Rattle.convert_core_laws.proofs.reading.Reading.{all_read, own_super_is, root_leads, root_told}
 use Rattle.convert_core_laws.proofs.reading.Stood.{IsRead, read_by}
 use Rattle.convert_core_laws.proofs.soundness.ChunkList.{Known, chunks_added}
 use Rattle.convert_core_laws.proofs.soundness.Recounting.{form_is, volume_for}
@@ -46,7 +46,7 @@ module _ (o : Options) (ids : Ids) (now : ℕ) (image other : Image) (m : Making
 
   -- ---- each tree is read
 
-  abbrev IsReadAs : ℕ → Root → List Item → Type 0
+  abbrev pub IsReadAs : ℕ → Root → List Item → Type 0
   IsReadAs number root items = IsTree other own (form_of s) (pointer_to_root root) number items
 
   chunk_read : IsReadAs CHUNK_TREE r.chunk (chunk_items (new_ids m) m.volume.sup.blocks m.chunks)
@@ -69,38 +69,44 @@ module _ (o : Options) (ids : Ids) (now : ℕ) (image other : Image) (m : Making
   each_read = λ i d h. let tree = reads.each i d h in record { sound = tree.sound; items_are = tree.items_are }
 
   -- what is read is what was written
-  tree_is : (number : ℕ) (root : Root) (items : List Item) → IsReadAs number root items → tree_on other (super_for m r nodes) number (pointer_to_root root) ≡ tree_for other (super_for m r nodes) number root items
+  tree_is : (number : ℕ) (root : Root) (items : List Item) → IsReadAs number root items → tree_on other (super_for m r nodes) (plain_root number (pointer_to_root root)) ≡ tree_for other (super_for m r nodes) number root items
   tree_is number root items is =
-      ap (λ (xs : List Item). let t : TreeOn = record { number = number; nodes = nodes_in (walk_events other own (form_of s) (pointer_to_root root) number); items = xs } in t) is.items_are
+      let met = met_alone other own (tree_of s number (pointer_to_root root)) is.sound in
+      ap₂ (λ (ps : List NodePointer) (xs : List Item). walked_tree number (pointer_to_root root, ps) xs) met.nodes_are (ap (map bare_item) met.items_are ∙ is.items_are)
 
   -- ---- the roots
 
   abbrev root_for : NamedTree → RootOn
-  root_for t = record { number = t.number; pointer = pointer_to_root t.root }
+  root_for t = plain_root t.number (pointer_to_root t.root)
 
   abbrev root_item_for : NamedTree → Item
   root_item_for t = tree_root_item (new_ids m) m.options.nodesize (record { tree = t.number; root = t.root })
 
   abbrev Leads : NamedTree → Type 0
-  Leads t = pointer_of (root_item_for t).1 ≡ Some (pointer_to_root t.root)
+  Leads t = (pointer_of (root_item_for t).1 ≡ Some (pointer_to_root t.root)) × (last_snapshot_of (root_item_for t).1 ≡ 0)
+
+  leads : (number k : ℕ) (root : Root) (items : List Item) → TreeStands other (form m) number (drop k (slots m)) items root → Leads (record { number = number; root = root; items = items })
+  leads number k root items stands =
+      (root_leads o ids now image other m r nodes v number k root items stands, ap (λ (x : Option RootItem). option_map_or (λ told. told.last_snapshot) x 0) (root_told o ids now image other m r nodes v number k root items stands))
 
   all_lead : All Leads (named_trees image other m r nodes)
   all_lead =
       every_named image other m r nodes Leads
-      (root_leads o ids now image other m r nodes v EXTENT_TREE (extents_from r) r.extents (extent_items m.chunks m.pieces nodes m.options.nodesize) stand.extents)
-      (λ t. let at = tree_stands image other m r nodes other stand t in root_leads o ids now image other m r nodes v (tree_number t) at.first (r.tree t) (items_of image other m t) at.stands)
+      (leads EXTENT_TREE (extents_from r) r.extents (extent_items m.chunks m.pieces nodes m.options.nodesize) stand.extents)
+      (λ t. let at = tree_stands image other m r nodes other stand t in leads (tree_number t) at.first (r.tree t) (items_of image other m t) at.stands)
 
   pointed : (ts : List NamedTree) → All Leads ts → flat_map (λ (i : Item). root_by i (pointer_of i.1)) (map root_item_for ts) ≡ map root_for ts
   pointed [] all = refl
   pointed (t ∷ ts) all =
-      ap (λ (p : Option NodePointer). root_by (root_item_for t) p ++ flat_map (λ (i : Item). root_by i (pointer_of i.1)) (map root_item_for ts)) (All-head Leads t ts all)
+      ap (λ (p : Option NodePointer). root_by (root_item_for t) p ++ flat_map (λ (i : Item). root_by i (pointer_of i.1)) (map root_item_for ts)) (All-head Leads t ts all).0
+      ∙ ap (λ (n : ℕ). record (root_for t) { last_snapshot = n } ∷ flat_map (λ (i : Item). root_by i (pointer_of i.1)) (map root_item_for ts)) (All-head Leads t ts all).1
       ∙ ap (λ (l : List RootOn). root_for t ∷ l) (pointed ts (All-tail Leads t ts all))
 
   roots_are : roots_in (root_tree_items m r) ≡ map root_for (named_trees image other m r nodes)
   roots_are = pointed (named_trees image other m r nodes) all_lead
 
   abbrev tree_of_root : RootOn → TreeOn
-  tree_of_root x = tree_on other (super_for m r nodes) x.number x.pointer
+  tree_of_root x = tree_on other (super_for m r nodes) x
 
   trees_of : (ts : List NamedTree) → All NamedIsRead ts → map tree_of_root (map root_for ts) ≡ map (named_on other (super_for m r nodes)) ts
   trees_of [] all = refl
@@ -155,20 +161,31 @@ module _ (o : Options) (ids : Ids) (now : ℕ) (image other : Image) (m : Making
   pub recount_is : recount other ≡ k
   recount_is =
       ap (recount_by other) (own_super_is o ids now image other m r nodes v)
-      ∙ (ap₂ (recount_of other (super_for m r nodes)) (ap (tree_on other (super_for m r nodes) CHUNK_TREE) (chunk_root_is m r nodes) ∙ tree_is CHUNK_TREE r.chunk (chunk_items (new_ids m) m.volume.sup.blocks m.chunks) chunk_read)
-      (ap (tree_on other (super_for m r nodes) ROOT_TREE) (root_root_is m r nodes) ∙ tree_is ROOT_TREE r.root (root_tree_items m r) root_read)
+      ∙ (ap₂ (recount_of other (super_for m r nodes)) (ap (λ (p : NodePointer). tree_on other (super_for m r nodes) (plain_root CHUNK_TREE p)) (chunk_root_is m r nodes) ∙ tree_is CHUNK_TREE r.chunk (chunk_items (new_ids m) m.volume.sup.blocks m.chunks) chunk_read)
+      (ap (λ (p : NodePointer). tree_on other (super_for m r nodes) (plain_root ROOT_TREE p)) (root_root_is m r nodes) ∙ tree_is ROOT_TREE r.root (root_tree_items m r) root_read)
       ∙ ap₂ (λ (cs : List ChunkAt) (us : List TreeOn). let c : Recount = record { super = super_for m r nodes; chunks = cs; chunk_tree = k.chunk_tree; root_tree = k.root_tree; others = us } in c) (sym chunks_are) others_are)
 
   -- nothing is wrong with any tree
-  abbrev HasNoFault : RootOn → Type 0
-  HasNoFault x = tree_refusals other own (form_of s) x.pointer x.number ≡ []
+  abbrev HasNoFault : TreeOn → Type 0
+  HasNoFault t = tree_faults other k t ≡ []
 
-  pub no_faults : All HasNoFault (all_roots k)
-  no_faults =
-      All-cons HasNoFault (record { number = CHUNK_TREE; pointer = (chunk_tree s).root }) (record { number = ROOT_TREE; pointer = (root_tree s).root } ∷ roots_in (root_tree_items m r))
-      (subst (λ (p : NodePointer). tree_refusals other own (form_of s) p CHUNK_TREE ≡ []) (sym (chunk_root_is m r nodes)) chunk_read.sound)
-      (All-cons HasNoFault (record { number = ROOT_TREE; pointer = (root_tree s).root }) (roots_in (root_tree_items m r)) reads.roots_sound
-      (subst (All HasNoFault) (sym roots_are) (All-map HasNoFault root_for (named_trees image other m r nodes) (λ i d h. (each_read i d h).sound))))
+  right : (number : ℕ) (root : Root) (items : List Item) → IsReadAs number root items → HasNoFault (tree_for other (super_for m r nodes) number root items)
+  right number root items is = (met_alone other own (tree_of s number (pointer_to_root root)) is.sound).sound
+
+  pub all_read_as : (P : TreeOn → Type 0) → ((number : ℕ) (root : Root) (items : List Item) → IsReadAs number root items → P (tree_for other (super_for m r nodes) number root items)) → All P (all_trees k)
+  all_read_as P each =
+      All-cons P k.chunk_tree (k.root_tree ∷ k.others) (each CHUNK_TREE r.chunk (chunk_items (new_ids m) m.volume.sup.blocks m.chunks) chunk_read)
+      (All-cons P k.root_tree k.others (each ROOT_TREE r.root (root_tree_items m r) root_read)
+      (All-map P (named_on other (super_for m r nodes)) (named_trees image other m r nodes) (λ i d h. let t = get_or (named_trees image other m r nodes) i d in each t.number t.root t.items (each_read i d h))))
+
+  pub no_faults : All HasNoFault (all_trees k)
+  no_faults = all_read_as HasNoFault right
+
+  -- the keys of the extent tree ascend
+  pub extents_rise : Ascends (keys_of (extent_items m.chunks m.pieces nodes m.options.nodesize))
+  extents_rise =
+      let is = All-contains NamedIsRead (named_trees image other m r nodes) (named_extents m r nodes) each_read (extents_named image other m r nodes) in
+      subst (λ (xs : List Item). Ascends (keys_of xs)) is.items_are (met_alone other own (tree_of s EXTENT_TREE (pointer_to_root r.extents)) is.sound).rises
 
   -- ---- the bootstrap array
 

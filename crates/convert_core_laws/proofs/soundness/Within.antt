@@ -1,5 +1,5 @@
 -- Each extent of a converted volume lies in one chunk of its kind.
-use Rattle.convert_core_laws.proofs.Imports.{◌≡◌, ◌≢◌, ◌≤◌, ◌<◌, ℕ, zero, suc, ◌+◌, ◌-◌, ◌*◌, ◌/◌, ◌%◌, inl, inr, Bool, true, false, not, List, [], ◌∷◌, ◌++◌, length, map, take, drop, Some, refl, sym, ap, subst, ◌∙◌, ⊎_elim, arith, Contains, range_with_len, flat_map, and_from, and_parts, both_ways, cases_Bool, cases_lt, not_from_false, or_left, or_right, Contains-append_cases, list_any-from_Any, Contains-permutation, IsPermutation-sym, take-append_seam, IsReserved, is_reserved, decides_reserved, Image, Ids, IsNodeSize, ChunkAt, IsExtent, IsUncrossed, KeepsPlacement, LiesIn, kind_alone, Recount, Span, TreeOn, all_trees, data_kind, NodePointer, IsMaking, Making, new_ids, HasPieces, TreeRoots, can_move, piece_not_metadata, piece_not_system, sound, stays_or_moves, well, piece_apart, slot_unit, NewIdsFit, IsNewVolume, chunk_at, owner, tails, files_of, IsKeptPiece, LiesInUnit, Owners, copied_pieces, kept_pieces, tail_piece, at_places, blocks_of_units, all_at, any_from, kept_are_maximal, has, IsFreeUnit, contains_cases, contains_head, contains_range, contains_tail, range_contains, from_flat_map, used_of, chunk_kind, TreeNode, chunks_of, holds_data, is_among, is_data, AreChunks, HoldsUnit, IsChunk, is_data_unit, role_of, usable_end, use_of, IsSoundPlan, need, node_places, PlannedChunk, Role, System, Metadata, Data, Options, Piece, among_contains, contains_among, role_is, ConvertedPlacementIsSound, recount_for, pairs_at}
+use Rattle.convert_core_laws.proofs.Imports.{◌≡◌, ◌≢◌, ◌≤◌, ◌<◌, ℕ, zero, suc, ◌+◌, ◌-◌, ◌*◌, ◌/◌, ◌%◌, inl, inr, Bool, true, false, not, List, [], ◌∷◌, ◌++◌, length, map, take, drop, Some, refl, sym, ap, subst, ◌∙◌, ⊎_elim, arith, Contains, range_with_len, flat_map, and_from, and_parts, both_ways, cases_Bool, cases_lt, not_from_false, or_left, or_right, Contains-append_cases, list_any-from_Any, Contains-permutation, IsPermutation-sym, take-append_seam, IsReserved, is_reserved, decides_reserved, Image, Ids, IsNodeSize, ChunkAt, IsExtent, IsUncrossed, KeepsPlacement, LiesIn, kind_alone, Recount, TreeOn, all_trees, PairsAt, Span, data_kind, NodePointer, IsMaking, Making, new_ids, HasPieces, TreeRoots, can_move, piece_not_metadata, piece_not_system, sound, stays_or_moves, well, piece_apart, slot_unit, NewIdsFit, IsNewVolume, chunk_at, owner, tails, files_of, IsKeptPiece, LiesInUnit, Owners, copied_pieces, kept_pieces, tail_piece, at_places, blocks_of_units, all_at, any_from, kept_are_maximal, has, IsFreeUnit, contains_cases, contains_head, contains_range, contains_tail, range_contains, all_from_contains, from_flat_map, used_of, chunk_kind, TreeNode, chunks_of, holds_data, is_among, is_data, AreChunks, HoldsUnit, IsChunk, is_data_unit, role_of, usable_end, use_of, IsSoundPlan, need, node_places, PlannedChunk, Role, System, Metadata, Data, Options, Piece, among_contains, contains_among, role_is, ConvertedPlacementIsSound, recount_for, pairs_at, pairs_in}
 use Rattle.convert_core_laws.proofs.soundness.AllUses.{span_of}
 use Rattle.convert_core_laws.proofs.soundness.Apart.{IsAt, a_piece, apart, in_chunk_slots, in_slots, is_at, once, size_some}
 use Rattle.convert_core_laws.proofs.soundness.Recounting.{volume_for}
@@ -302,10 +302,13 @@ module _ (o : Options) (ids : Ids) (now : ℕ) (image other : Image) (m : Making
       by (in_slots a h e kind_is) = at_slot m.plan.metadata a h e
       by (a_piece p h e kind_is) = absurd (no_data kind_is)
 
+  abbrev Apart : NodePointer → NodePointer → Type 0
+  Apart p q = p.address ≢ q.address
+
   pub keeps : (at : ℕ) → KeepsPlacement k at
   keeps at = record {
     apart = λ a b kind other_kind here is also. apart o ids now image other m r nodes v a b kind other_kind is also;
-    nodes = pairs_at (λ (p : NodePointer). p.address) at (λ p q. p.address ≢ q.address) (flat_map (λ (t : TreeOn). t.nodes) (all_trees k)) (once o ids now image other m r nodes v);
+    nodes = all_from_contains (λ (t : TreeOn). PairsAt (λ (p : NodePointer). p.address) at Apart t.nodes) (all_trees k) (λ t h. pairs_at (λ (p : NodePointer). p.address) at Apart t.nodes (pairs_in Apart (λ (u : TreeOn). u.nodes) (all_trees k) t h (once o ids now image other m r nodes v)));
     within = λ span kind here is. within_alone span kind is;
     uncrossed = λ span kind here is no_data. uncrossed span kind is no_data;
   }

@@ -1,6 +1,6 @@
 -- The data of files stays where it is.
 use Rattle.std.specs.Prelude.{◌≡◌, ◌≢◌, ◌<◌, ℕ, ◌+◌, ◌-◌, ◌*◌, true, if◌then◌else◌, List, [], ◌∷◌, Option, Some, None}
-use Rattle.btrfs_format.specs.declared.object.TheConstants.{FS_TREE}
+use Rattle.btr_reader.specs.btrfs_format.declared.object.TheConstants.{FS_TREE}
 use Rattle.reiser_volume.specs.outside.History.{Image, block_at}
 use Rattle.reiser_volume.specs.vol_block.Volume.{IsReserved}
 use Rattle.convert_core_laws.specs.going_back.Lying.{OfConverted}

@@ -1,6 +1,6 @@
 -- The identifiers of a converted volume.
 use Rattle.std.specs.Prelude.{◌≡◌, ◌≤◌, length}
-use Rattle.btrfs_format.specs.declared.block.TheConstants.{SUPER_BLOCK}
+use Rattle.btr_reader.specs.btrfs_format.declared.block.TheConstants.{SUPER_BLOCK}
 use Rattle.reiser_volume.specs.outside.History.{Image, block_at}
 use Rattle.convert_core.specs.convert_steps.Making.{IsMaking, Making, new_ids}
 use Rattle.convert_core.specs.space_items.Laws.{AreIds}

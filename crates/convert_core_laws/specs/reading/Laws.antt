@@ -1,6 +1,6 @@
 -- What holds of every converted volume as it is opened.
 use Rattle.std.specs.Prelude.{◌≡◌, ◌⊎◌, ℕ, List, map, Some, None, Ok}
-use Rattle.btrfs_format.specs.declared.object.TheConstants.{FS_TREE}
+use Rattle.btr_reader.specs.btrfs_format.declared.object.TheConstants.{FS_TREE}
 use Rattle.reiser_volume.specs.outside.History.{Image}
 use Rattle.reiser_volume.specs.refusals.declared.refusal.BtrRefusal.{BtrRefusal}
 use Rattle.reiser_volume.specs.vol_block.declared.ids.Ids.{Ids}

@@ -1,6 +1,6 @@
 -- The saved image of a converted volume.
 use Rattle.std.specs.Prelude.{◌≡◌, ◌<◌, ℕ, ◌^◌, true, false, List, [], map, Some, None}
-use Rattle.btrfs_format.specs.declared.object.TheConstants.{FS_TREE}
+use Rattle.btr_reader.specs.btrfs_format.declared.object.TheConstants.{FS_TREE}
 use Rattle.reiser_volume.specs.outside.History.{Image, block_at}
 use Rattle.reiser_volume.specs.vol_block.declared.ids.Ids.{Ids}
 use Rattle.btr_reader.specs.btr_reader_names.Roots.{has_root}

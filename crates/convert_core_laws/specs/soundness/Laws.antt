@@ -62,7 +62,7 @@ ConvertedTotalsAreSound = OfConvertedRecount (λ other k. (a : ℕ) → KeepsTot
 
 -- The extent tree tells of each node and of each range of data, with all that refers to it, and of nothing else.
 abbrev pub ConvertedReferencesAreSound : Type 0
-ConvertedReferencesAreSound = OfConvertedRecount (λ other k. (a : ℕ) → KeepsReferences k a)
+ConvertedReferencesAreSound = OfConvertedRecount (λ other k. (a : ℕ) → KeepsReferences other k a)
 
 -- Exactly the blocks of data whose inode has checksums have one, and each is right.
 abbrev pub ConvertedChecksumsAreSound : Type 0

@@ -1,10 +1,10 @@
 -- What the laws on part 2 are proved of: what it asks at each number, said of a whole file tree at once.
 use Rattle.std.specs.Prelude.{◌≡◌, ◌≢◌, ◌≤◌, ◌<◌, ℕ, ◌+◌, ◌-◌, ◌^◌, true, false, bit_and, List, length, map, IsTrue, is_some, Some, All, AllPairs, Any, Contains}
 use Rattle.std.specs.List.Sorted.{IsPermutation}
-use Rattle.btrfs_format.specs.declared.feature.TheConstants.{NO_HOLES}
-use Rattle.btrfs_format.specs.declared.flag.TheConstants.{FT_DIR, INODE_APPEND, INODE_IMMUTABLE}
-use Rattle.btrfs_format.specs.declared.key.TheConstants.{EXTENT_DATA, INODE_ITEM, ROOT_BACKREF, ROOT_ITEM, ROOT_REF}
-use Rattle.btrfs_format.specs.declared.object.TheConstants.{FIRST_FREE_OBJECTID}
+use Rattle.btr_reader.specs.btrfs_format.declared.feature.TheConstants.{NO_HOLES}
+use Rattle.btr_reader.specs.btrfs_format.declared.flag.TheConstants.{FT_DIR, INODE_APPEND, INODE_IMMUTABLE}
+use Rattle.btr_reader.specs.btrfs_format.declared.key.TheConstants.{EXTENT_DATA, INODE_ITEM, ROOT_BACKREF, ROOT_ITEM, ROOT_REF}
+use Rattle.btr_reader.specs.btrfs_format.declared.object.TheConstants.{FIRST_FREE_OBJECTID}
 use Rattle.btr_reader.specs.fs_rows.Kinds.{has_bytes}
 use Rattle.btr_reader.specs.fs_rows.declared.row.Kind.{Kind}
 use Rattle.btr_reader.specs.fs_rows.declared.row.Kind.TheVariants.{Directory, File, Symlink}

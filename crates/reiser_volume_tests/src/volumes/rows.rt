@@ -132,16 +132,20 @@ fn rows_are_made(rt: HostRuntime) -> Result<(), Fail> {
 }
 
 #[test]
-fn each_object_is_read_once(rt: HostRuntime) -> Result<(), Fail> {
-    // Opening reads the superblock, 33 blocks of the journal, the bitmap and the leaf. Then the leaf is read for the file,
-    // for the symlink and for the sparse file, and last its block.
+fn each_read_may_fail(rt: HostRuntime) -> Result<(), Fail> {
+    // Opening reads the superblock, 33 blocks of the journal, the bitmap and the leaf. Then the leaf is read for the first
+    // blocks of both files, for the mark of the one that has none, for the blocks that are told of the other, and for its
+    // mark, behind which its block is read; and last for the symlink.
     for (call, answer) in [
         (36, Err(VolAnswer::Fault)),
         (37, Err(VolAnswer::Fault)),
         (38, Err(VolAnswer::Fault)),
         (39, Err(VolAnswer::Fault)),
         (40, Err(VolAnswer::Fault)),
-        (41, Ok(())),
+        (41, Err(VolAnswer::Fault)),
+        (42, Err(VolAnswer::Fault)),
+        (43, Err(VolAnswer::Fault)),
+        (44, Ok(())),
     ] {
         let mut disk = sample(rt.alloc(), b"\x01\0\0\0")?;
         disk.fail_call(call)?;

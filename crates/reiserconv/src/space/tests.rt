@@ -130,7 +130,7 @@ fn nodes_of_another_size(rt: HostRuntime) -> Result<(), Fail> {
         &rt,
         &said,
         &[
-            "Or take nodes of 8192 bytes, which need 3 units, so that 0 MiB are to spare: 'reiserconv convert --nodesize 8192 --no-datasum --no-inline /dev/sda1'. Linux takes",
+            "Or take nodes of 8192 bytes, which need 3 units, so that none is to spare: 'reiserconv convert --nodesize 8192 --no-datasum --no-inline /dev/sda1'. Linux takes",
         ],
     );
     assert!(rt; !said.as_str().contains("leave '--no-inline' out"));
@@ -159,7 +159,7 @@ fn without_an_option(rt: HostRuntime) -> Result<(), Fail> {
         &said,
         &[
             "Nodes of 4096 or 8192 bytes need no fewer units.",
-            "Or leave '--no-inline' out: then 2 units are needed, so that 1 MiB is to spare: 'reiserconv convert --csum sha256 --nodesize 65536 /dev/sda1'. Linux takes",
+            "Or leave '--no-inline' out: then 2 units are needed, so that 1 is to spare: 'reiserconv convert --csum sha256 --nodesize 65536 /dev/sda1'. Linux takes",
         ],
     );
     let said = told(&rt, &space(2, 4), asked, Some(&recount(2, 4, 3)))?;
@@ -190,5 +190,7 @@ fn the_space_suffices(rt: HostRuntime) -> Result<(), Fail> {
             "have 16 to spare",
         ],
     );
+    let said = told(&rt, &space(20, 20), "inspect", None)?;
+    has(&rt, &said, &["and so none is to spare. This command"]);
     Ok(())
 }

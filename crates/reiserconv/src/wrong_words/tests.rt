@@ -3,14 +3,14 @@ use crate::paragraph::Paragraph;
 use std::process::Abort;
 use std::test::Fail;
 
-/// What is found wrong with words that stand with spaces between them, in one line.
+/// What is found wrong with words that stand with spaces between them, in one line. The word `folder` is the path of one.
 fn found(rt: &impl AllocGlobal, line: &str) -> Result<String, Fail> {
     let mut words = Vec::new(rt.alloc());
     for word in line.split(' ') {
         words.push(String::from_str(rt.alloc(), word)?)?;
     }
     let mut text = Paragraph::new(rt.alloc(), "");
-    if let Some(finding) = find(rt.alloc(), words.as_slice())? {
+    if let Some(finding) = find(rt.alloc(), words.as_slice(), Some("folder"))? {
         let parts = [finding.first.as_str(), finding.second.as_str()];
         text.say(finding.sentence, &parts)?;
     }
@@ -87,6 +87,9 @@ fn values_are_in_their_range(rt: HostRuntime) -> Result<(), Fail> {
             ("trial abc x", "'reiserconv trial 1000 x'"),
             ("trial x 5", "'reiserconv trial 5 x'"),
             ("trial x 4001", "'reiserconv trial 1000 4001'"),
+            ("trial folder 5", "trial 5 folder/scratch.img'"),
+            ("trial folder", "trial 1000 folder/scratch.img'"),
+            ("trial x folder", "trial 1000 folder/scratch.img'"),
         ],
     )
 }

@@ -1,5 +1,5 @@
 use Rattle.btr_reader.proofs.Imports.{◌≡◌, List, Some, sym, ◌∙◌, subst, err_from_is_err_and, Refused, MapRange, extents_of, find_inode_item, file_refusals, IsAmong, TellsExtents}
-use Rattle.btr_reader.proofs.Stages.{among_file, inode_off, file_maps}
+use Rattle.btr_reader.proofs.Stages.{inode_off}
 use Rattle.btr_reader.proofs.image.noted_map.Goals as goal
 
 pub returns-in_err-own-clause-reads : goal.returns-in_err-own-clause-reads

@@ -1,5 +1,5 @@
 use Rattle.convert_options.proofs.Imports.{◌≡◌, ◌∙◌, Bool, List, ℕ, [], ◌∷◌, sym, ap, map, string_bytes, refl, inl, inr, None, Some, has_verbose, without_verbose, plain}
-use Rattle.convert_options.proofs.Asking.{asked_none, asked_some, left, left_end, left_met, left_none, left_step, left_twice, no_words, told, told_end, told_met, told_step}
+use Rattle.convert_options.proofs.Asking.{asked_none, asked_some, left, left_end, left_none, left_step, left_twice, no_words, told, told_end, told_step}
 use Rattle.convert_options.proofs.OneByOne.{after, first_word, rest_of, sized}
 use Rattle.convert_options.proofs.asked.read_beside.Goals as goal
 

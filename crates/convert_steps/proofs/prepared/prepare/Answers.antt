@@ -1,6 +1,6 @@
 use Rattle.convert_steps.proofs.Imports.{Bool, List, refl, sym, ap, subst, ◌∙◌, ids_by, label_by, label_field, HasEnoughSpace, IsPlan, need, Counts, IsPrepareAnswer, RefusesConversion}
 use Rattle.command_answers.proofs.Handed.{handed_on, volume_cause}
-use Rattle.reiser_super.specs.declared.superblock.Super.{Super}
+use Rattle.reiser_volume.specs.reiser_super.declared.superblock.Super.{Super}
 use Rattle.convert_steps.proofs.Preparing.{by_find, by_open, fits, has_plan, plan_answers, plan_cause, plan_refuses, volume_answers}
 use Rattle.convert_steps.proofs.prepared.prepare.Goals as goal
 

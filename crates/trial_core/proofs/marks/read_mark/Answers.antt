@@ -1,5 +1,5 @@
 use Rattle.trial_core.proofs.Imports.{◌≡◌, ℕ, ◌+◌, ◌<◌, List, sym, ◌∙◌, ap, subst, arith, slice_index, Marks, mark_of, has}
-use Rattle.fs_rows.specs.declared.mark.Marker.{Marker}
+use Rattle.reiser_volume.specs.fs_rows.declared.mark.Marker.{Marker}
 use Rattle.trial_core.proofs.Marking.{all_marked, before, is_free, more_bytes, more_marked, none_marked}
 use Rattle.trial_core.proofs.marks.read_mark.Goals as goal
 use Rattle.trial_core.proofs.marks.read_mark.Goals.{then-is_used+in_ok-block, else-is_used}

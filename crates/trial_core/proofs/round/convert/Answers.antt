@@ -1,5 +1,5 @@
 use Rattle.trial_core.proofs.Imports.{sym, subst, RefusesConvert, IsConverted, Image, reads, Answer, LeavesRound, RefusesRound, synced_now, first_goes_on, plain, put_back}
-use Rattle.convert_options.specs.declared.options.Options.{Options}
+use Rattle.convert_core.specs.convert_options.declared.options.Options.{Options}
 use Rattle.super_turn.proofs.Backs.{put_none}
 use Rattle.trial_core.proofs.Refusing.{convert_leaves, convert_refused, step_cause}
 use Rattle.trial_core.proofs.round.convert.Goals as goal

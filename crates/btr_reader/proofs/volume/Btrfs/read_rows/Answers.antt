@@ -1,4 +1,5 @@
-use Rattle.btr_reader.proofs.Imports.{◌≡◌, ℕ, nat_eq, List, [], Option, sym, subst, ap, ◌∙◌, err_from_is_err_and, FS_TREE, get, contains, same_node, MapRange, Tree, LieOn, found, wrong, AreInBlocks, has_root, HasNotedNames, Content, wanted_at, HasContents, IsChecked, RefusesChecked, RefusesTree, tree_of, roots_on}
+use Rattle.btr_reader.proofs.Imports.{◌≡◌, ℕ, nat_eq, List, [], Option, sym, subst, ap, ◌∙◌, err_from_is_err_and, FS_TREE, get, contains, same_node, MapRange, Tree, LieOn, found, wrong, AreInBlocks, has_root, Content, wanted_at, HasContents, IsChecked, RefusesChecked, RefusesTree, tree_of, roots_on}
+use Rattle.btr_reader_names.specs.Table.{HasNotedNames}
 use Rattle.btr_reader.proofs.Answered.{tree_refused, names_refused, contents_refused, rows_answered, here}
 use Rattle.btr_reader.proofs.Bridging.{extents_sound}
 use Rattle.btr_reader.proofs.volume.Btrfs.read_rows.Goals as goal

@@ -1,4 +1,5 @@
-use Rattle.btr_reader_contents.proofs.Imports.{◌≡◌, ℕ, List, [], ◌∷◌, ◌++◌, Option, nat_eq, sym, ◌∙◌, ap, subst, refl, err_from_is_err_and, Image, get, contains, same_node, MapRange, Tree, TreeItem, Blames, LieOn, found, wrong, given_first, HasNotedNames, Wanted, wanted_at, HasContents, RefusesContents, HasGathered, last_inode}
+use Rattle.btr_reader_contents.proofs.Imports.{◌≡◌, ℕ, List, [], ◌∷◌, ◌++◌, Option, nat_eq, sym, ◌∙◌, ap, subst, refl, err_from_is_err_and, Image, get, contains, same_node, MapRange, Tree, TreeItem, Blames, LieOn, found, wrong, HasNotedNames, Wanted, wanted_at, HasContents, RefusesContents, HasGathered, last_inode}
+use Rattle.btr_reader_walk.proofs.Walking.{given_first}
 use Rattle.btr_reader_contents.proofs.Gathered.{refuses_all, refuses_tree}
 use Rattle.btr_reader_contents.proofs.Orders.{next_inode, now_last}
 use Rattle.btr_reader_contents.proofs.contents.Contents.read.Goals as goal

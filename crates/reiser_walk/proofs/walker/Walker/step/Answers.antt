@@ -1,4 +1,5 @@
-use Rattle.reiser_walk.proofs.Imports.{false, ◌∙◌, subst, ReiserTree, BlamesDamage, Moves}
+use Rattle.reiser_walk.proofs.Imports.{false, ◌∙◌, subst, ReiserTree, Moves}
+use Rattle.reiser_walk.specs.Answers.{BlamesDamage}
 use Rattle.reiser_bitmap.specs.refusals.declared.answer.VolAnswer.TheVariants.{Refused}
 use Rattle.reiser_walk.proofs.walker.Walker.step.Goals as goal
 

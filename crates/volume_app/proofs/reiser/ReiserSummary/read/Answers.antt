@@ -1,5 +1,5 @@
 use Rattle.volume_app.proofs.Imports.{◌∙◌, List, Bool, ap, sym, subst, err_from_is_err_and, RefusesVolume, superblock, rules_pass}
-use Rattle.reiser_super.specs.declared.superblock.Super.{Super}
+use Rattle.reiser_volume.specs.reiser_super.declared.superblock.Super.{Super}
 use Rattle.volume_app.specs.Reiser.{summary_with}
 use Rattle.volume_app.proofs.reiser.ReiserSummary.read.Goals as goal
 

@@ -1,0 +1,10 @@
+pub mod ChunkRules
+pub mod Deciding
+pub mod ExtentRules
+pub mod GroupRules
+pub mod Imports
+pub mod Listing
+pub mod NodeRules
+pub mod NotedRules
+pub mod RootRules
+pub mod TotalRules
