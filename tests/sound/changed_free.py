@@ -67,9 +67,65 @@ def flags_of_bitmaps_where_runs_are(edit):
     edit.put(FREE, with_runs(edit), 4, "<I", 1)
 
 
-def as_bitmap(edit):
-    """A block group that is told by bitmaps of 2048 blocks each, as Linux writes them."""
+@change("10.form")
+def unknown_flags(edit):
+    edit.put(FREE, with_runs(edit), 4, "<I", 2)
+
+
+@change("10.form")
+def a_run_outside_of_its_block_group(edit):
     group = with_runs(edit)
+    key = runs(edit, group)[-1]
+    edit.move(FREE, key, key._replace(offset=key.offset + BLOCK))
+
+
+@change("10.groups")
+def a_range_that_is_no_block_group(edit):
+    """It lies in one."""
+    key = runs(edit, with_runs(edit))[-1]
+    edit.insert(FREE, Key(key.objectid + BLOCK, forms.FREE_INFO, BLOCK), bytes(8))
+
+
+@change("10.form")
+def a_run_in_two_items(edit):
+    group = with_runs(edit)
+    key = next(key for key in runs(edit, group) if key.offset > BLOCK)
+    edit.move(FREE, key, key._replace(offset=BLOCK))
+    edit.insert(FREE, Key(key.objectid + BLOCK, forms.FREE_EXTENT, key.offset - BLOCK), b"")
+    edit.add(FREE, group, 0, "<I", 1)
+
+
+@change("10.form")
+def a_run_behind_the_last_block_group(edit):
+    """It has no item of a range, so Linux takes it to be of the block group before."""
+    edit.insert(FREE, Key(behind_all(edit), forms.FREE_EXTENT, BLOCK), b"")
+
+
+def behind_all(edit):
+    """An address at which there is no block group, behind all of them."""
+    return max(key.objectid + key.offset for key in edit.keys(forms.EXTENT_TREE, forms.BLOCK_GROUP)) + (1 << 30)
+
+
+@change("10.range")
+def a_range_behind_the_last_block_group(edit):
+    edit.insert(FREE, Key(behind_all(edit), forms.FREE_INFO, BLOCK), bytes(8))
+
+
+@change("10.range")
+def a_run_before_all_ranges(edit):
+    edit.insert(FREE, Key(0, forms.FREE_EXTENT, BLOCK), b"")
+
+
+@change(None)
+def what_meets_no_block_group(edit):
+    """It is in a range before the first block group, so Linux does not read it."""
+    edit.insert(FREE, Key(0, forms.FREE_INFO, 8 * BLOCK), bytes(9))
+    edit.insert(FREE, Key(BLOCK, forms.FREE_EXTENT, 16 * BLOCK), bytes(1))
+
+
+def as_bitmap(edit):
+    """A block group, the largest, that is told by bitmaps of 2048 blocks each, as Linux writes them."""
+    group = max((key for key in own_groups(edit) if runs(edit, key)), key=lambda key: key.offset)
     bits = 0
     for key in runs(edit, group):
         first = (key.objectid - group.objectid) // BLOCK
@@ -88,6 +144,18 @@ def as_bitmap(edit):
 @change(None)
 def free_space_by_bitmaps(edit):
     as_bitmap(edit)
+
+
+@change("10.form")
+def a_gap_between_bitmaps(edit):
+    """Linux takes the blocks in it to be as the one before."""
+    edit.remove(FREE, as_bitmap(edit)[1])
+
+
+@change("10.form")
+def a_bitmap_of_half_a_block(edit):
+    key = as_bitmap(edit)[-1]
+    edit.move(FREE, key, key._replace(offset=key.offset - BLOCK // 2))
 
 
 @change("10.free")

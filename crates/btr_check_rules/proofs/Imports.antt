@@ -1,5 +1,5 @@
 -- What the proofs of btr_check_rules import of std, of lower crates and of its specs.
-pub use Rattle.std.proofs.Common.{All, AllPairs, Bool, Contains, List, None, Option, Some, [], ap, append_assoc, ap₂, arith, cond, eqb, false, filter, get_or, if◌then◌else◌, inl, inr, length, map, nat_lt, refl, set, subst, suc, sym, true, zero, ℕ, ⊎_elim, ◌%◌, ◌&&◌, ◌*◌, ◌++◌, ◌+◌, ◌<◌, ◌==◌, ◌||◌, ◌∙◌, ◌∷◌, ◌≡◌, ◌≢◌, ◌≤◌, ◌⊎◌}
+pub use Rattle.std.proofs.Common.{All, AllPairs, Bool, Contains, List, None, Option, Some, [], ap, append_assoc, ap₂, arith, cond, eqb, false, filter, get_or, if◌then◌else◌, inl, inr, length, map, nat_lt, not, refl, set, subst, suc, sym, true, zero, ℕ, ⊎_elim, ◌%◌, ◌&&◌, ◌*◌, ◌++◌, ◌+◌, ◌<◌, ◌==◌, ◌||◌, ◌∙◌, ◌∷◌, ◌≡◌, ◌≢◌, ◌≤◌, ◌⊎◌}
 pub use Rattle.std.proofs.lemmas.Bool.{and_from, and_parts, cases_lt, eq-eqb, eqb-true, false_from_ne_true, true≢false}
 pub use Rattle.std.proofs.lemmas.List.{append-nil, get_or-map, get_or_default, length-map, map-append}
 pub use Rattle.std.proofs.lemmas.List.Concat.{flat_map-append}

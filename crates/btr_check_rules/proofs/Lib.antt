@@ -2,6 +2,7 @@ pub mod At
 pub mod Counted
 pub mod Distinct
 pub mod Filtered
+pub mod FreeSpace
 pub mod Imports
 pub mod OwnWalk
 pub mod Refs

@@ -1,6 +1,8 @@
 pub use Rattle.btr_reader.specs as btr_reader
+pub use Rattle.free_space.specs as free_space
 pub mod Extents
 pub mod Files
+pub mod FreeSpace
 pub mod Groups
 pub mod Inodes
 pub mod Names

@@ -4,6 +4,7 @@ use Rattle.std.specs.Prelude.{◌≡◌, ℕ, [], All}
 use Rattle.btr_reader.specs.outside.History.{Image}
 use Rattle.btr_reader.specs.Opening.{opening_refusals}
 use Rattle.btr_check_rules.specs.Files.{KeepsExtents}
+use Rattle.btr_check_rules.specs.FreeSpace.{KeepsFreeSpace}
 use Rattle.btr_check_rules.specs.Groups.{KeepsBlockGroups, KeepsChunks, KeepsTotals}
 use Rattle.btr_check_rules.specs.Inodes.{KeepsInode}
 use Rattle.btr_check_rules.specs.Names.{KeepsNames}
@@ -19,7 +20,7 @@ pub record KeepsFiles (r : Recount) (t : TreeOn) (ino : ℕ) : Type 0 where
   pub inode : KeepsInode r.super t ino
   pub extents : KeepsExtents r.super t ino
 
--- Its nine parts.
+-- Its ten parts.
 pub data SoundPart : Type 0 where
   Trees : SoundPart
   Files : SoundPart
@@ -30,6 +31,7 @@ pub data SoundPart : Type 0 where
   Chunks : SoundPart
   Reserved : SoundPart
   Totals : SoundPart
+  FreeSpace : SoundPart
 
 -- the number by which a refusal tells a part
 abbrev pub part_number : SoundPart → ℕ
@@ -42,6 +44,7 @@ part_number BlockGroups = 6
 part_number Chunks = 7
 part_number Reserved = 8
 part_number Totals = 9
+part_number FreeSpace = 10
 
 -- What a part asks at an address, in bytes; at the number of an inode or a tree where a part says so.
 abbrev pub Keeps : Image → Recount → SoundPart → ℕ → Type 0
@@ -54,6 +57,7 @@ Keeps image r BlockGroups a = KeepsBlockGroups r a
 Keeps image r Chunks a = KeepsChunks r a
 Keeps image r Reserved a = KeepsReserved r a
 Keeps image r Totals a = KeepsTotals r a
+Keeps image r FreeSpace a = KeepsFreeSpace r a
 
 -- The volume can be opened, and no part fails anywhere.
 pub record IsSound (image : Image) : Type 0 where

@@ -1,10 +1,8 @@
 -- The items of groups ascend by key, and are short.
-use Rattle.free_space.proofs.Imports.{◌≡◌, ◌≤◌, ◌<◌, ℕ, suc, zero, ◌+◌, ◌-◌, max, cond, ◌&&◌, Bool, true, false, List, [], ◌∷◌, ◌++◌, All, get_or, length, length-append, map, refl, sym, ◌∙◌, ap, subst, ⊎_elim, arith, and_from, cases_lt, le-ltb, lt-ltb, Item, keys_of, behind, free_items, gap, gaps, free_info_layout, AreGroups, FitTree, FreeItemsFit, AreRanges, end_of, group_items, info_item, run_item, Range, All-append, All-cons, All-map}
-use Rattle.btr_node.specs.btr_keys.Key.{key_cmp}
+use Rattle.free_space.proofs.Imports.{◌≡◌, ◌≤◌, ◌<◌, ℕ, ◌+◌, ◌-◌, max, cond, true, List, [], ◌∷◌, ◌++◌, All, length, map, refl, sym, subst, ⊎_elim, arith, and_from, cases_lt, le-ltb, lt-ltb, Item, keys_of, behind, free_items, gap, gaps, free_info_layout, FreeItemsFit, end_of, info_item, run_item, Range, All-append, All-cons, All-map}
 use Rattle.btr_node.specs.btr_keys.declared.key.Key.{Key}
 use Rattle.btr_node.specs.Order.{Ascends, ascends, is_before, is_before_first}
 use Rattle.free_space.proofs.Apart.{Up, gaps_up, up_from, up_lower}
-use Rattle.free_space.proofs.Telling.{Kept, AllKept}
 
 -- the first key has an address from one on
 abbrev pub From : ℕ → List Item → Type 0

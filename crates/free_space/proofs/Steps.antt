@@ -1,5 +1,5 @@
 -- One used range more.
-use Rattle.free_space.proofs.Imports.{◌≡◌, ◌≤◌, ◌<◌, ℕ, ◌+◌, max, List, [], ◌∷◌, ◌++◌, drop, length, length-append, refl, slice_get, None, Option, MatchOption, Some, arith, behind, free_items, gap, gaps, end_of, Range}
+use Rattle.free_space.proofs.Imports.{◌≡◌, ◌≤◌, ◌<◌, ℕ, ◌+◌, max, List, [], ◌∷◌, ◌++◌, drop, length, length-append, refl, slice_get, None, Option, MatchOption, Some, arith, behind, gap, gaps, end_of, Range}
 
 pub gaps_of_first : (at end : ℕ) (used : List Range) (u : Range) → slice_get used 0 ≡ Some u → u.address < end
     → gaps at end used ≡ gap at u.address ++ gaps (max at (end_of u)) end (drop 1 used)

@@ -1,6 +1,6 @@
 -- The items of groups tell their free runs.
-use Rattle.free_space.proofs.Imports.{◌≡◌, ◌≤◌, ◌<◌, ℕ, suc, zero, ◌+◌, max, nat_lt, cond, Bool, true, false, List, [], ◌∷◌, ◌++◌, All, AllPairs, Any, get_or, length, map, refl, sym, ◌∙◌, ap, subst, ⊎_elim, arith, flat_map, cases_eq, cases_lt, le-ltb, lt-ltb, Item, behind, free_items, gap, gaps, AreGroups, FreeItemsTell, LiesIn, AreFreeRuns, AreRanges, end_of, is_in, is_in_any, TellsFreeSpace, group_items, Range}
-use Rattle.free_space.proofs.Apart.{Up, gaps_exact, gaps_up, up_apart, up_from, up_low, up_lower, up_some}
+use Rattle.free_space.proofs.Imports.{◌≡◌, ◌≤◌, ◌<◌, ℕ, suc, ◌+◌, cond, List, [], ◌∷◌, ◌++◌, AllPairs, Any, get_or, length, refl, sym, ◌∙◌, ap, subst, ⊎_elim, arith, flat_map, cases_eq, cases_lt, le-ltb, lt-ltb, Item, behind, free_items, gaps, FreeItemsTell, LiesIn, AreFreeRuns, AreRanges, end_of, group_items, Range}
+use Rattle.free_space.proofs.Apart.{Up, gaps_exact, gaps_up, up_apart, up_from, up_lower, up_some}
 
 -- what begins before an end ends there too
 abbrev pub Kept : ℕ → List Range → Type 0

@@ -19,8 +19,9 @@ pub record AreRanges (ranges : List Range) : Type 0 where
   pub some : All (λ r. 1 ≤ r.length) ranges
   pub ascending : AllPairs (λ r s. end_of r ≤ s.address) ranges
 
--- The maximal runs of addresses of a range that no used range has, ascending: they hold exactly the free addresses, none is
--- empty, and an address in use lies between two of them. Where all ranges are multiples of a block, these are runs of blocks.
+-- The maximal runs of addresses of a range that no used range has, ascending: they hold exactly the free addresses,
+-- none is empty, and an address in use lies between two of them. Where all ranges are multiples of a block, these are
+-- runs of blocks.
 pub record AreFreeRuns (used : List Range) (within : Range) (runs : List Range) : Type 0 where
   pub exact : (a : ℕ) → is_in_any runs a ≡ (is_in a within && not (is_in_any used a))
   pub some : All (λ r. 1 ≤ r.length) runs

@@ -1,5 +1,5 @@
 -- The items of the free space tree, as Linux has them (fs/btrfs/free-space-tree.c). Nothing is told by bitmaps.
-use Rattle.std.specs.Prelude.{◌≡◌, ℕ, List, [], ◌∷◌, ◌++◌, All, length, map}
+use Rattle.std.specs.Prelude.{◌≡◌, ℕ, List, [], ◌∷◌, All, length, map}
 use Rattle.std.specs.List.{flat_map}
 use Rattle.btr_node.specs.btrfs_format.declared.key.TheConstants.{FREE_SPACE_EXTENT, FREE_SPACE_INFO}
 use Rattle.btr_node.specs.btr_keys.Key.{make_key}

@@ -32,8 +32,8 @@ struct FreeItem {
 impl<'a, U: UsedRanges> FreeStream<'a, U> {
     /// The items for these block groups, of which these ranges are in use.
     ///
-    /// Groups end below 2^64, and there are fewer than 2^32 - 1 ranges. Where both ascend without overlaps, and each range in use
-    /// lies in one group, the items tell the free space (`free_items_tell`).
+    /// Groups end below 2^64, and there are fewer than 2^32 - 1 ranges. Where both ascend without overlaps, and each
+    /// range in use lies in one group, the items tell the free space (`free_items_tell`).
     pub fn new(groups: &'a [Range], used: U) -> FreeStream<'a, U>
         requires live { U.is_live used }
         requires few { length (U.ahead used) + 1 < 2 ^ 32 }

@@ -1,4 +1,4 @@
-use Rattle.free_space.proofs.Imports.{◌≡◌, ◌<◌, ◌+◌, ◌^◌, length, gaps}
+use Rattle.free_space.proofs.Imports.{◌≡◌, ◌+◌, length, gaps}
 use Rattle.free_space.proofs.rest.Rest.count_runs.Given as goal
 
 abbrev pub invariant-loop-count : goal.invariant-loop-count

@@ -1,4 +1,4 @@
-use Rattle.free_space.proofs.Imports.{◌≡◌, arith}
+use Rattle.free_space.proofs.Imports.{arith}
 use Rattle.free_space.proofs.Steps.{no_gaps_to_zero, none_behind_zero}
 use Rattle.free_space.proofs.stream.FreeStream.new.Goals as goal
 
