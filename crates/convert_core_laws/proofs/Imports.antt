@@ -26,6 +26,7 @@ pub use Rattle.btr_check_rules.proofs.At.{each_at, pairs_at}
 pub use Rattle.btr_check_rules.proofs.Distinct.{AreDistinct, distinct_flat, distinct_nil, distinct_one, none_pass, one_passes, pairs_flat, pairs_in, two_pass}
 pub use Rattle.btr_check_rules.proofs.OwnWalk.{met_alone, told}
 pub use Rattle.btr_check_rules.specs.Files.{EndsInFile, KeepsExtent, KeepsExtents, covered}
+pub use Rattle.btr_check_rules.specs.FreeSpace.{KeepsFreeSpace, has_ro_feature}
 pub use Rattle.btr_check_rules.specs.Groups.{AreRanges, AreTotals, IsChunkOn, IsChunkTreeItem, IsExtentOf, IsGroupOf, IsOfChunk, IsStripe, KeepsBlockGroups, KeepsChunks, KeepsTotals, TellsDevice, bytes_used_in, chunk_span, data_bytes_in, dev_extents, dev_items, group_used, groups, node_bytes_in, stripe_bytes, stripe_spans, stripes_of}
 pub use Rattle.btr_check_rules.specs.Inodes.{ComesToEnd, HasInode, HasKind, KeepsFields, below, directory_size, entry_type, extents_in, has_no_sums, inode_nbytes, is_of_inode, is_orphan, nbytes_of, other_flags, ref_name_count, unnamed}
 pub use Rattle.btr_check_rules.specs.Names.{BackName, DifferInName, IndexEntry, IsEntry, IsInodeNumber, IsOnForm, IsThere, IsToldBy, KeepsRootRefs, NamedEntry, back_name, dir_of, dir_told, entry_of, file_kinds, given_names, hashed_entries, index_entries, names_inode_item, or_none, own_name, ref_names, tells_tree, told_by_tree}
@@ -34,7 +35,7 @@ pub use Rattle.btr_check_rules.specs.Places.{EndsBefore, IsExtent, IsUncrossed, 
 pub use Rattle.btr_check_rules.specs.Plain.{ArePlainReferences, AreUnshared, CountsUses, IsDataItem, IsNodeItem, IsOwnNode, IsOwnTree, IsWhole, TellsRefs, is_group, is_of_range, is_use}
 pub use Rattle.btr_check_rules.specs.Recount.{DataUse, EachAt, HasItem, IsData, PairsAt, Recount, RootOn, TreeOn, added_chunk, all_trees, chunks_on, data_uses, file_trees, has_feature, has_tree, holds_files, is_file_tree, is_within, last_snapshot_of, map_of, node_addresses, nodes_met, object_of, of_kind, plain_root, recount, recount_by, recount_of, recounted_items, root_by, roots_in, span_of, tree_on, use_by, use_in, uses_in}
 pub use Rattle.btr_check_rules.specs.References.{FitFeatures, KeepsReferences, StandsBefore}
-pub use Rattle.btr_check_rules.specs.Sound.{BlockGroups, Chunks, Keeps, Placement, References, Reserved, SoundPart, Totals, Trees}
+pub use Rattle.btr_check_rules.specs.Sound.{BlockGroups, Chunks, FreeSpace, Keeps, Placement, References, Reserved, SoundPart, Totals, Trees}
 pub use Rattle.btr_check_rules.specs.Sums.{HasBlockSum, IsReadBy, IsSumItem, IsSumRight, KeepsCover, KeepsSums, most_sums, read_span, sum_count, sum_end, sums_of}
 pub use Rattle.btr_check_rules.specs.Trees.{IsArray, IsRootItem, KeepsSuper, KeepsTrees, chunk_by, has_own_tree, is_root_ref, is_system, needed_trees, own_kinds, referring, refused_at, system_chunks, tree_faults}
 pub use Rattle.btr_check_rules.specs.declared.span.Span.{Span}
@@ -107,7 +108,7 @@ pub use Rattle.btr_reader.specs.btr_super.Super.{node_fsid, super_bytes, super_i
 unfoldable pub use Rattle.btr_reader.specs.btr_super.Super.{super_layout}
 pub use Rattle.btr_reader.specs.btr_super.declared.superblock.Super.{Super}
 pub use Rattle.btr_reader.specs.btrfs_format.declared.block.TheConstants.{SUPER_BLOCK, SUPER_INFO_OFFSET, SUPER_MAGIC_OFFSET}
-pub use Rattle.btr_reader.specs.btrfs_format.declared.feature.TheConstants.{BIG_METADATA, EXTENDED_IREF, METADATA_UUID, MIXED_BACKREF, NO_HOLES, SKINNY_METADATA}
+pub use Rattle.btr_reader.specs.btrfs_format.declared.feature.TheConstants.{BIG_METADATA, EXTENDED_IREF, FREE_SPACE_TREE, METADATA_UUID, MIXED_BACKREF, NO_HOLES, SKINNY_METADATA}
 pub use Rattle.btr_reader.specs.btrfs_format.declared.flag.TheConstants.{EXTENT_FLAG_DATA, EXTENT_FLAG_TREE_BLOCK, FT_DIR, INODE_APPEND, INODE_IMMUTABLE, INODE_NOATIME, INODE_NODATASUM, INODE_NODUMP, INODE_SYNC}
 pub use Rattle.btr_reader.specs.btrfs_format.declared.key.TheConstants.{BLOCK_GROUP_ITEM, CHUNK_ITEM, DEV_EXTENT, DEV_ITEM, DIR_INDEX, DIR_ITEM, EXTENT_DATA, EXTENT_ITEM, INODE_EXTREF, INODE_ITEM, INODE_REF, METADATA_ITEM, ROOT_BACKREF, ROOT_ITEM, ROOT_REF}
 pub use Rattle.btr_reader.specs.btrfs_format.declared.object.TheConstants.{CHUNK_TREE, CONV_IMAGE_SUBVOL, CSUM_TREE, DATA_RELOC_TREE, DEV_ITEMS_OBJECTID, DEV_TREE, EXTENT_TREE, FIRST_CHUNK_TREE_OBJECTID, FIRST_FREE_OBJECTID, FS_TREE, ROOT_TREE, ROOT_TREE_DIR_OBJECTID, TREE_RELOC}

@@ -32,8 +32,8 @@ pub use reading::{
 };
 pub use soundness::{
     converted_block_groups_are_sound, converted_checksums_are_sound, converted_chunks_are_sound,
-    converted_file_extents_are_sound, converted_inodes_are_sound, converted_names_are_sound,
-    converted_placement_is_sound, converted_references_are_sound, converted_reserved_are_sound,
-    converted_totals_are_sound, converted_trees_are_sound, converted_volumes_are_recounted,
-    converted_volumes_are_sound,
+    converted_file_extents_are_sound, converted_free_space_is_sound, converted_inodes_are_sound,
+    converted_names_are_sound, converted_placement_is_sound, converted_references_are_sound,
+    converted_reserved_are_sound, converted_totals_are_sound, converted_trees_are_sound,
+    converted_volumes_are_recounted, converted_volumes_are_sound,
 };

@@ -4,6 +4,7 @@ ghost use Rattle.convert_core_laws.specs.soundness.Laws.{
   ConvertedChecksumsAreSound,
   ConvertedChunksAreSound,
   ConvertedFileExtentsAreSound,
+  ConvertedFreeSpaceIsSound,
   ConvertedInodesAreSound,
   ConvertedNamesAreSound,
   ConvertedPlacementIsSound,
@@ -72,6 +73,11 @@ pub fn converted_totals_are_sound()
     new_ids_fit();
 }
 
+/// Its superblock has no free space tree.
+pub fn converted_free_space_is_sound()
+    ensures { ConvertedFreeSpaceIsSound }
+{}
+
 /// The extent tree of a converted volume tells of each node and of each range of data, with all references to it.
 pub fn converted_references_are_sound()
     ensures { ConvertedReferencesAreSound }
@@ -139,4 +145,5 @@ pub fn converted_volumes_are_sound()
     converted_chunks_are_sound();
     converted_reserved_are_sound();
     converted_totals_are_sound();
+    converted_free_space_is_sound();
 }

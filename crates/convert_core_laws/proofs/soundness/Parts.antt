@@ -1,5 +1,5 @@
 -- All parts of a recount are kept where each is.
-use Rattle.convert_core_laws.proofs.Imports.{ℕ, All, Image, Recount, file_trees, KeepsExtents, KeepsBlockGroups, KeepsChunks, KeepsTotals, KeepsPlacement, KeepsReserved, KeepsReferences, KeepsSums, KeepsTrees, BlockGroups, Chunks, Keeps, Placement, References, Reserved, SoundPart, Totals, Trees}
+use Rattle.convert_core_laws.proofs.Imports.{ℕ, All, Image, Recount, file_trees, KeepsExtents, KeepsBlockGroups, KeepsChunks, KeepsTotals, KeepsPlacement, KeepsReserved, KeepsReferences, KeepsSums, KeepsTrees, BlockGroups, Chunks, Keeps, Placement, References, Reserved, SoundPart, Totals, Trees, FreeSpace, KeepsFreeSpace}
 use Rattle.btr_check_rules.specs.Sound.{Checksums, Files}
 use Rattle.btr_check_rules.specs.Inodes.{KeepsInode}
 use Rattle.btr_check_rules.specs.Names.{KeepsNames}
@@ -16,6 +16,7 @@ pub record AreKept (image : Image) (k : Recount) : Type 0 where
   pub chunks : (a : ℕ) → KeepsChunks k a
   pub reserved : (a : ℕ) → KeepsReserved k a
   pub totals : (a : ℕ) → KeepsTotals k a
+  pub free_space : (a : ℕ) → KeepsFreeSpace k a
 
 pub all_kept : (image : Image) (k : Recount) → AreKept image k → (part : SoundPart) (a : ℕ) → Keeps image k part a
 all_kept image k are Trees a = are.trees a
@@ -27,3 +28,4 @@ all_kept image k are BlockGroups a = are.block_groups a
 all_kept image k are Chunks a = are.chunks a
 all_kept image k are Reserved a = are.reserved a
 all_kept image k are Totals a = are.totals a
+all_kept image k are FreeSpace a = are.free_space a

@@ -1,5 +1,5 @@
 -- The fields of a converted volume's superblock, and its chunks as they are read.
-use Rattle.convert_core_laws.proofs.Imports.{◌≡◌, ℕ, ◌+◌, ◌*◌, ◌==◌, Bool, true, false, not, List, ◌++◌, Option, refl, sym, ap, subst, ◌∙◌, unwrap_or, BIG_METADATA, EXTENDED_IREF, MIXED_BACKREF, NO_HOLES, SKINNY_METADATA, Image, Ids, form_of, SumKind, Crc32c, csum_number, known_kind, Form, has_feature, Making, new_ids, form, used_bytes, TreeRoots, IsNew, new_super, HasFsid, NewIdsFit, IsNewVolume, boot_part, other_part, super_for, IsNodeSize, device_body, AreIds, TreeNode, PlannedChunk, Options, known-number}
+use Rattle.convert_core_laws.proofs.Imports.{◌≡◌, ℕ, ◌+◌, ◌*◌, ◌==◌, Bool, true, false, not, List, ◌++◌, Option, refl, sym, ap, subst, ◌∙◌, unwrap_or, BIG_METADATA, EXTENDED_IREF, MIXED_BACKREF, NO_HOLES, SKINNY_METADATA, FREE_SPACE_TREE, Image, Ids, form_of, SumKind, Crc32c, csum_number, known_kind, Form, has_feature, Making, new_ids, form, used_bytes, TreeRoots, IsNew, new_super, HasFsid, NewIdsFit, IsNewVolume, boot_part, other_part, super_for, IsNodeSize, device_body, AreIds, TreeNode, PlannedChunk, Options, known-number, has_ro_feature}
 use Rattle.std.proofs.Common.{bit_and, if◌then◌else◌}
 use Rattle.convert_core_laws.proofs.reading.Superblock.{own_fsid}
 
@@ -44,6 +44,10 @@ module _ (m : Making) (r : TreeRoots) (nodes : List TreeNode) where
       by : (b : Bool) → not (bit_and (if b then MIXED_BACKREF + EXTENDED_IREF + SKINNY_METADATA + NO_HOLES else MIXED_BACKREF + EXTENDED_IREF + SKINNY_METADATA + NO_HOLES + BIG_METADATA) NO_HOLES == 0) ≡ true
       by true = refl
       by false = refl
+
+  pub without_free_space_tree : has_ro_feature (super_for m r nodes) FREE_SPACE_TREE ≡ false
+  unfolding new_super
+  without_free_space_tree = refl
 
   pub total_is : (super_for m r nodes).total_bytes ≡ 4096 * m.volume.sup.blocks
   unfolding new_super

@@ -5,6 +5,7 @@ use Rattle.reiser_volume.specs.vol_block.declared.ids.Ids.{Ids}
 use Rattle.btr_reader.specs.btr_node.NodeSize.{IsNodeSize}
 use Rattle.btr_reader.specs.Opening.{opening_refusals}
 use Rattle.btr_check_rules.specs.Files.{KeepsExtents}
+use Rattle.btr_check_rules.specs.FreeSpace.{KeepsFreeSpace}
 use Rattle.btr_check_rules.specs.Groups.{KeepsBlockGroups, KeepsChunks, KeepsTotals}
 use Rattle.btr_check_rules.specs.Inodes.{KeepsInode}
 use Rattle.btr_check_rules.specs.Names.{KeepsNames}
@@ -60,6 +61,10 @@ ConvertedReservedAreSound = OfConvertedRecount (λ other k. (a : ℕ) → KeepsR
 abbrev pub ConvertedTotalsAreSound : Type 0
 ConvertedTotalsAreSound = OfConvertedRecount (λ other k. (a : ℕ) → KeepsTotals k a)
 
+-- It has no free space tree that might be wrong.
+abbrev pub ConvertedFreeSpaceIsSound : Type 0
+ConvertedFreeSpaceIsSound = OfConvertedRecount (λ other k. (a : ℕ) → KeepsFreeSpace k a)
+
 -- The extent tree tells of each node and of each range of data, with all that refers to it, and of nothing else.
 abbrev pub ConvertedReferencesAreSound : Type 0
 ConvertedReferencesAreSound = OfConvertedRecount (λ other k. (a : ℕ) → KeepsReferences other k a)
@@ -80,6 +85,6 @@ ConvertedInodesAreSound = OfConvertedRecount (λ other k. All (λ t. (a : ℕ) �
 abbrev pub ConvertedFileExtentsAreSound : Type 0
 ConvertedFileExtentsAreSound = OfConvertedRecount (λ other k. All (λ t. (a : ℕ) → KeepsExtents k.super t a) (file_trees k))
 
--- It is sound in all nine parts.
+-- It is sound in all ten parts.
 abbrev pub ConvertedVolumesAreSound : Type 0
 ConvertedVolumesAreSound = OfConvertedRecount (λ other k. IsSound other)

@@ -19,5 +19,6 @@ returns c = λ o ids now image other m r nodes is size low are has bytes.
         chunks = c.converted_chunks_are_sound.ensures o ids now image other m r nodes is size low are has bytes;
         reserved = c.converted_reserved_are_sound.ensures o ids now image other m r nodes is size low are has bytes;
         totals = c.converted_totals_are_sound.ensures o ids now image other m r nodes is size low are has bytes;
+        free_space = c.converted_free_space_is_sound.ensures o ids now image other m r nodes is size low are has bytes;
       }));
     }
