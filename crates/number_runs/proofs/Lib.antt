@@ -1,0 +1,4 @@
+pub mod Finding
+pub mod Imports
+pub mod Joining
+pub mod Sets
