@@ -95,7 +95,7 @@ module _ (xs : List MadeCount) (i : ℕ) (done : List MadeCount) (e : MadeCount)
       let long : length (map made_in done) ≡ length done = length-map done made_in in
       let same_last : get_or (map made_in done) (length done - 1) d ≡ made_in (get_or done (length done - 1) e) = get_or-map made_in done (length done - 1) e d (omega arith) in
       let last_before : IsBefore (get_or (map made_in done) (length done - 1) d) (made_in e) =
-          before (get_or (map made_in done) (length done - 1) d) (made_in e) (low_here up (length done - 1) d (omega arith)) (subst (λ m. is_same m (made_in e) ≡ false) (sym same_last) (other e (omega arith))) in
+      before (get_or (map made_in done) (length done - 1) d) (made_in e) (low_here up (length done - 1) d (omega arith)) (subst (λ m. is_same m (made_in e) ≡ false) (sym same_last) (other e (omega arith))) in
       ⊎_elim (λ (at_end : k ≡ length done - 1). subst (λ j. IsBefore (get_or (map made_in done) j d) (made_in e)) (sym at_end) last_before)
       (λ (early : k < length done - 1). order_total.trans (get_or (map made_in done) k d) (get_or (map made_in done) (length done - 1) d) (made_in e) (of.ascend up k (length done - 1) d early (omega arith)) last_before)
       (at_or_below k (length done - 1) (omega arith))
@@ -124,7 +124,7 @@ module _ (xs : List MadeCount) (i : ℕ) (done : List MadeCount) (e : MadeCount)
     low = λ up. ⊎_elim
         (λ (is : map made_in next ≡ map made_in done). subst (All (StandsLow xs (i + 1))) (sym is) (All-weaker (StandsLow xs i) (StandsLow xs (i + 1)) lower (map made_in done) (of.low up)))
         (λ is. subst (All (StandsLow xs (i + 1))) (sym is.0)
-            (All-push (StandsLow xs (i + 1)) (map made_in done) (made_in e) (All-weaker (StandsLow xs i) (StandsLow xs (i + 1)) lower (map made_in done) (of.low up)) (low_next up)))
+        (All-push (StandsLow xs (i + 1)) (map made_in done) (made_in e) (All-weaker (StandsLow xs i) (StandsLow xs (i + 1)) lower (map made_in done) (of.low up)) (low_next up)))
         (joined_refs done next e with_it);
   }
 

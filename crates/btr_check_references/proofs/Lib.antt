@@ -1,3 +1,4 @@
+pub mod Blocks
 pub mod Imports
 pub mod Joining
 pub mod Order

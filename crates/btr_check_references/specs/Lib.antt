@@ -1,2 +1,4 @@
 pub mod Counts
+pub mod NodeMaps
+pub mod NodeRanges
 pub mod Rules

@@ -3,6 +3,13 @@
 
 mod gather;
 mod made;
+mod node_map;
+mod node_state;
+mod node_table;
+mod span;
 
 pub use gather::{MadeCount, References};
 pub use made::Made;
+pub use node_state::NodeState;
+pub use node_table::NodeMap;
+pub use span::Span;

@@ -30,15 +30,7 @@ impl Made {
                 objectid,
                 offset,
                 ..
-            } => [
-                self.start,
-                self.length,
-                kind,
-                root,
-                objectid,
-                offset,
-                0,
-            ],
+            } => [self.start, self.length, kind, root, objectid, offset, 0],
             InlineRef::SharedData { parent, .. } => {
                 [self.start, self.length, kind, 0, 0, 0, parent]
             }

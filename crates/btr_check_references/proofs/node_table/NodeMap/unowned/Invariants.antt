@@ -1,0 +1,7 @@
+use Rattle.std.proofs.Common.{◌≡◌, ◌<◌, ◌+◌, ℕ, false, get_or}
+use Rattle.btr_check_references.specs.declared.node_state.NodeRange.{NodeRange}
+use Rattle.btr_check_references.proofs.Blocks.{IsRangeOwned}
+use Rattle.btr_check_references.proofs.node_table.NodeMap.unowned.Given as goal
+
+abbrev pub invariant-loop-range : goal.invariant-loop-range
+invariant-loop-range l = (k : ℕ) (d : NodeRange) → k < l.range-index → IsRangeOwned l.fn.self.states.items (get_or l.fn.self.ranges.items k d)
