@@ -13,8 +13,9 @@ use Rattle.std.proofs.lemmas.List.Sorted.{IsPartitionedBy-leb}
 use Rattle.btr_check_references.specs.declared.node_state.NodeRange.{NodeRange}
 use Rattle.btr_check_references.specs.declared.node_state.NodeState.{NodeState}
 use Rattle.btr_check_references.specs.declared.node_state.NodeState.TheVariants.{Unmet, Met}
-use Rattle.btr_check_references.specs.declared.span.Span.{Span}
-use Rattle.btr_check_references.specs.NodeRanges.{AreNodeRanges, AreRangesOf, EndsBefore, IsOwned, IsRangeBefore, block_count, first_block, first_state, has_block, holds_block, is_unowned, range_blocks, slot_in, span_blocks, state_in}
+use Rattle.btr_check_rules.specs.declared.span.Span.{Span}
+use Rattle.btr_check_rules.specs.Places.{EndsBefore}
+use Rattle.btr_check_references.specs.NodeRanges.{AreNodeRanges, AreRangesOf, IsOwned, IsRangeBefore, block_count, first_block, first_state, has_block, holds_block, is_unowned, range_blocks, slot_in, span_blocks, state_in}
 
 rises : (rs : List NodeRange) → AllPairs IsRangeBefore rs → IsNonDecreasingBy (λ (r : NodeRange). r.first) rs
 rises rs apart i j d ordered within =

@@ -7,7 +7,7 @@ use Rattle.std.proofs.lemmas.List.Elements.{All-contains, All-push, All-weaker, 
 use Rattle.std.proofs.lemmas.List.Quantifiers.{all_pairs_push}
 use Rattle.std.proofs.lemmas.List.Sorted.{All-permutation, ranks_by, sorted_far, sum_by-IsPermutation}
 use Rattle.std.proofs.lemmas.List.Sums.{sum_by_more, sum_by_push}
-use Rattle.btr_check_references.specs.Rules.{Made}
+use Rattle.btr_check_rules.specs.References.{Made}
 use Rattle.btr_check_references.specs.Counts.{AreJoined, AreOrdered, CountsAs, IsJoinedWith, IsTestOfRefs, count_if, counted, is_same, made_in, order_of}
 use Rattle.btr_check_references.specs.declared.gather.MadeCount.{MadeCount}
 use Rattle.btr_check_references.proofs.Order.{before, not_behind, order_total}

@@ -5,7 +5,8 @@ use Rattle.std.specs.Cmp.Lexicographic.{lists_ties, pointwise, slice_cmp}
 use Rattle.std.specs.Ordering.{ordering_reverse}
 use Rattle.std.proofs.lemmas.Bool.Decides.{nat_tests}
 use Rattle.std.proofs.lemmas.Cmp.{nat_list_cmp_total, on_total}
-use Rattle.btr_check_references.specs.Rules.{Made, same_ref}
+use Rattle.btr_check_rules.specs.Extents.{same_ref}
+use Rattle.btr_check_rules.specs.References.{Made}
 use Rattle.btr_check_references.specs.Counts.{is_same, order_of, ranks_of}
 
 pub order_total : IsTotalOrder order_of

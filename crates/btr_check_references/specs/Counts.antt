@@ -5,8 +5,9 @@ use Rattle.std.specs.List.{count_by, sum_by}
 use Rattle.std.specs.Ordering.{nat_cmp}
 use Rattle.std.specs.declared.cmp.Ordering.{Ordering}
 use Rattle.std.specs.declared.cmp.Ordering.TheVariants.{Less, Greater}
-use Rattle.btr_space_items.specs.InlineRef.{ref_kind, ref_objectid, ref_offset, ref_parent, ref_root}
-use Rattle.btr_check_references.specs.Rules.{Made, same_ref}
+use Rattle.btr_check_rules.specs.btr_reader.btr_space_items.InlineRef.{ref_kind, ref_objectid, ref_offset, ref_parent, ref_root}
+use Rattle.btr_check_rules.specs.Extents.{same_ref}
+use Rattle.btr_check_rules.specs.References.{Made}
 use Rattle.btr_check_references.specs.declared.made.Made.{Made as MadeRef}
 use Rattle.btr_check_references.specs.declared.gather.MadeCount.{MadeCount}
 

@@ -2,13 +2,10 @@
 use Rattle.std.specs.Prelude.{◌≡◌, ◌≤◌, ◌<◌, ℕ, ◌+◌, ◌-◌, ◌/◌, ◌^◌, min, nat_le, nat_lt, Bool, false, not, ◌&&◌, if◌then◌else◌, List, [], ◌∷◌, map, slice_index_or, Option, Some, None, All, AllPairs}
 use Rattle.std.specs.List.{list_any}
 use Rattle.std.specs.Option.{option_map}
-use Rattle.btr_check_references.specs.declared.span.Span.{Span}
+use Rattle.btr_check_rules.specs.declared.span.Span.{Span}
 use Rattle.btr_check_references.specs.declared.node_state.NodeRange.{NodeRange}
 use Rattle.btr_check_references.specs.declared.node_state.NodeState.{NodeState}
 use Rattle.btr_check_references.specs.declared.node_state.NodeState.TheVariants.{Unmet, Met}
-
-abbrev pub EndsBefore : Span → Span → Type 0
-EndsBefore a b = a.start + a.length ≤ b.start
 
 -- ---- blocks that may hold nodes
 

@@ -1,10 +1,10 @@
 // The references that nodes make, counted.
 ghost use Rattle.std.specs.Prelude.{◌≡◌, ◌≤◌, ◌<◌, ◌+◌, ◌++◌, ◌∷◌, [], ℕ, List, length, take, drop, IfOk, OnOk};
 ghost use Rattle.btr_check_references.specs.Counts.{AreCountsOf, AreJoined, AreOrdered, IsJoinedWith, CountsAs, made_of};
-ghost use Rattle.btr_check_references.specs.Rules.{Made as MadeOnce};
+ghost use Rattle.btr_check_rules.specs.References.{Made as MadeOnce};
 
 use crate::made::Made;
-use btr_reader_walk::Memory;
+use btr_check_rules::btr_reader::btr_reader_walk::Memory;
 use std::alloc::Global;
 
 /// A reference, and how often it is made.

@@ -6,10 +6,8 @@ mod made;
 mod node_map;
 mod node_state;
 mod node_table;
-mod span;
 
 pub use gather::{MadeCount, References};
 pub use made::Made;
 pub use node_state::NodeState;
 pub use node_table::NodeMap;
-pub use span::Span;

@@ -2,7 +2,7 @@
 ghost use Rattle.std.specs.Prelude.{◌≡◌};
 ghost use Rattle.btr_check_references.specs.Counts.{is_same, made_of, order_of, ranks_of};
 
-use btr_space_items::InlineRef;
+use btr_check_rules::btr_reader::btr_space_items::InlineRef;
 use std::cmp::Ordering;
 
 /// A reference that is made, to an extent of so many bytes at an address.

@@ -2,13 +2,14 @@
 ghost use Rattle.std.specs.Prelude.{◌≡◌, ◌≤◌, ◌<◌, ◌+◌, ◌-◌, ◌^◌, ◌==◌, ◌&&◌, ℕ, leb, true, false, if◌then◌else◌, [], All, AllPairs, length, replicate, slice_index_or, Some, None, is_some, IfOk, IfSome};
 ghost use Rattle.std.specs.List.Sorted.{IsPartitionPoint};
 ghost use Rattle.std.specs.Option.{MatchOption};
+ghost use Rattle.btr_check_rules.specs.Places.{EndsBefore};
 ghost use Rattle.btr_check_references.specs.NodeMaps.{state_at};
-ghost use Rattle.btr_check_references.specs.NodeRanges.{AreRangesOf, EndsBefore, IsOwned, IsRangeBefore, block_count, first_block, first_state, is_unowned, slot_in};
+ghost use Rattle.btr_check_references.specs.NodeRanges.{AreRangesOf, IsOwned, IsRangeBefore, block_count, first_block, first_state, is_unowned, slot_in};
 
 use crate::node_state::{NodeRange, NodeState};
 use crate::node_table::NodeMap;
-use crate::span::Span;
-use btr_reader_walk::Memory;
+use btr_check_rules::Span;
+use btr_check_rules::btr_reader::btr_reader_walk::Memory;
 use std::alloc::Global;
 
 /// How many blocks have addresses of 64 bits.
