@@ -1,21 +1,9 @@
 -- The range that holds a block, found by halves, and the states of blocks.
-use Rattle.std.proofs.Common.{◌≡◌, ◌≤◌, ◌<◌, nat_le, nat_lt, ℕ, zero, suc, ◌+◌, ◌-◌, ◌/◌, ◌^◌, ◌==◌, Bool, true, false, true≢false, ◌&&◌, ◌||◌, cond, List, [], ◌∷◌, ◌++◌, length, map, set, take, get_or, replicate, Option, Some, None, is_some, if◌then◌else◌, leb, ⊎_elim, refl, sym, ap, subst, ◌∙◌, arith, All, AllPairs, Contains, length-append}
-use Rattle.std.specs.List.{list_any}
-use Rattle.std.specs.List.Sorted.{IsNonDecreasingBy, IsPartitionPoint, IsPartitionedBy}
+use Rattle.btr_check_references.proofs.Imports.{◌≡◌, ◌≤◌, ◌<◌, nat_le, nat_lt, ℕ, zero, suc, ◌+◌, ◌-◌, ◌^◌, ◌==◌, Bool, true, false, true≢false, ◌&&◌, ◌||◌, List, [], ◌∷◌, ◌++◌, length, map, set, get_or, replicate, Option, Some, None, is_some, if◌then◌else◌, leb, ⊎_elim, refl, sym, ap, subst, ◌∙◌, arith, All, AllPairs, Contains, list_any, IsNonDecreasingBy, IsPartitionPoint, IsPartitionedBy, cases_lt, eqb-false, eqb-true, nat_tests, get_or-map, get_or-set_other, get_or_default, length-map, map-append, All-contains, All-head, All-push, All-tail, all_pairs_push, IsPartitionedBy-leb, NodeRange, NodeState, Unmet, AreNodeRanges, AreRangesOf, IsOwned, IsRangeBefore, block_count, first_block, first_state, holds_block, is_unowned, range_blocks, slot_in, span_blocks, state_in}
 use Rattle.std.specs.Option.{option_map}
-use Rattle.std.proofs.lemmas.Bool.{cases_lt, eqb-false, eqb-true}
-use Rattle.std.proofs.lemmas.Bool.Decides.{nat_tests}
-use Rattle.std.proofs.lemmas.List.{get_or-map, get_or-set_other, get_or_default, length-map, map-append}
 use Rattle.std.proofs.lemmas.Grind.{get_or-set_at}
-use Rattle.std.proofs.lemmas.List.Elements.{All-contains, All-head, All-push, All-tail, All-weaker}
-use Rattle.std.proofs.lemmas.List.Quantifiers.{all_pairs_push}
-use Rattle.std.proofs.lemmas.List.Sorted.{IsPartitionedBy-leb}
-use Rattle.btr_check_references.specs.declared.node_state.NodeRange.{NodeRange}
-use Rattle.btr_check_references.specs.declared.node_state.NodeState.{NodeState}
-use Rattle.btr_check_references.specs.declared.node_state.NodeState.TheVariants.{Unmet, Met}
 use Rattle.btr_check_rules.specs.declared.span.Span.{Span}
 use Rattle.btr_check_rules.specs.Places.{EndsBefore}
-use Rattle.btr_check_references.specs.NodeRanges.{AreNodeRanges, AreRangesOf, IsOwned, IsRangeBefore, block_count, first_block, first_state, has_block, holds_block, is_unowned, range_blocks, slot_in, span_blocks, state_in}
 
 rises : (rs : List NodeRange) → AllPairs IsRangeBefore rs → IsNonDecreasingBy (λ (r : NodeRange). r.first) rs
 rises rs apart i j d ordered within =
@@ -109,11 +97,11 @@ slot_held rs b r apart among held =
     others : (k : ℕ) (e : NodeRange) → k < length rs → ¬ (k ≡ among.0) → holds_block b (get_or rs k e) ≡ false
     others k e here other = ⊎_elim
         (λ (before : k < among.0).
-            let apart_from : (get_or rs k e).first + (get_or rs k e).count ≤ r.first = subst (λ (s : NodeRange). IsRangeBefore (get_or rs k e) s) (get_or_default rs among.0 e r among.1 ∙ among.2) (apart k among.0 e before among.1) in
-            past (get_or rs k e) apart_from)
+        let apart_from : (get_or rs k e).first + (get_or rs k e).count ≤ r.first = subst (λ (s : NodeRange). IsRangeBefore (get_or rs k e) s) (get_or_default rs among.0 e r among.1 ∙ among.2) (apart k among.0 e before among.1) in
+        past (get_or rs k e) apart_from)
         (λ (behind : among.0 ≤ k).
-            let later : r.first + r.count ≤ (get_or rs k e).first = subst (λ (s : NodeRange). IsRangeBefore s (get_or rs k e)) (get_or_default rs among.0 e r among.1 ∙ among.2) (apart among.0 k e (omega (arith, behind, other)) here) in
-            early (get_or rs k e) later)
+        let later : r.first + r.count ≤ (get_or rs k e).first = subst (λ (s : NodeRange). IsRangeBefore s (get_or rs k e)) (get_or_default rs among.0 e r among.1 ∙ among.2) (apart among.0 k e (omega (arith, behind, other)) here) in
+        early (get_or rs k e) later)
         (cases_lt k among.0)
       where
         past : (s : NodeRange) → s.first + s.count ≤ r.first → holds_block b s ≡ false
@@ -133,19 +121,19 @@ slots_apart rs b c k slots one two =
     let at_s : get_or rs there.0 r ≡ s = get_or_default rs there.0 r s there.1 ∙ there.2 in
     ⊎_elim
     (λ (before : among.0 < there.0).
-        let apart : r.slot + r.count ≤ s.slot = subst (λ (x : NodeRange). x.slot + x.count ≤ s.slot) at_r (subst (λ (x : NodeRange). (get_or rs among.0 r).slot + (get_or rs among.0 r).count ≤ x.slot) at_s (slots among.0 there.0 r before there.1)) in
-        absurd (omega (arith, at, stands, low.1, apart)))
+    let apart : r.slot + r.count ≤ s.slot = subst (λ (x : NodeRange). x.slot + x.count ≤ s.slot) at_r (subst (λ (x : NodeRange). (get_or rs among.0 r).slot + (get_or rs among.0 r).count ≤ x.slot) at_s (slots among.0 there.0 r before there.1)) in
+    absurd (omega (arith, at, stands, low.1, apart)))
     (λ (behind : there.0 ≤ among.0). ⊎_elim
-        (λ (after : there.0 < among.0).
-            let apart : s.slot + s.count ≤ r.slot = subst (λ (x : NodeRange). x.slot + x.count ≤ r.slot) at_s (subst (λ (x : NodeRange). (get_or rs there.0 r).slot + (get_or rs there.0 r).count ≤ x.slot) at_r (slots there.0 among.0 r after among.1)) in
-            absurd (omega (arith, at, stands, high.1, apart)))
-        (λ (not_after : among.0 ≤ there.0).
-            let same : there.0 ≡ among.0 = omega (arith, behind, not_after) in
-            let one_range : s ≡ r = sym at_s ∙ ap (λ (n : ℕ). get_or rs n r) same ∙ at_r in
-            let slot : s.slot ≡ r.slot = ap (λ (x : NodeRange). x.slot) one_range in
-            let first : s.first ≡ r.first = ap (λ (x : NodeRange). x.first) one_range in
-            omega (arith, at, stands, slot, first, low.0, high.0))
-        (cases_lt there.0 among.0))
+    (λ (after : there.0 < among.0).
+    let apart : s.slot + s.count ≤ r.slot = subst (λ (x : NodeRange). x.slot + x.count ≤ r.slot) at_s (subst (λ (x : NodeRange). (get_or rs there.0 r).slot + (get_or rs there.0 r).count ≤ x.slot) at_r (slots there.0 among.0 r after among.1)) in
+    absurd (omega (arith, at, stands, high.1, apart)))
+    (λ (not_after : among.0 ≤ there.0).
+    let same : there.0 ≡ among.0 = omega (arith, behind, not_after) in
+    let one_range : s ≡ r = sym at_s ∙ ap (λ (n : ℕ). get_or rs n r) same ∙ at_r in
+    let slot : s.slot ≡ r.slot = ap (λ (x : NodeRange). x.slot) one_range in
+    let first : s.first ≡ r.first = ap (λ (x : NodeRange). x.first) one_range in
+    omega (arith, at, stands, slot, first, low.0, high.0))
+    (cases_lt there.0 among.0))
     (cases_lt among.0 there.0)
 
 -- ---- a state that is noted
@@ -203,7 +191,6 @@ all_owned rs states owned b s is = by (slot_in rs b) refl is
         let low = holds_low b r held in
         let own = All-contains (IsRangeOwned states) rs r owned among (b - r.first) low.1 in
         subst (λ (x : NodeState). is_unowned x ≡ false) (same_state (get_or states k Unmet) s state) (subst (λ (n : ℕ). is_unowned (get_or states n Unmet) ≡ false) (sym stands) own)
-
 
 pub one_unowned : (rs : List NodeRange) (states : List NodeState) (r : NodeRange) (i : ℕ) → AreNodeRanges rs (length states) → Contains rs r → i < r.count
     → is_unowned (get_or states (r.slot + i) Unmet) ≡ true → (r.first + i < 2 ^ 52) × ¬ IsOwned (state_in rs states (r.first + i))

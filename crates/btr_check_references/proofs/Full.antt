@@ -1,15 +1,7 @@
 -- Addresses of full nodes, found by halves.
-use Rattle.std.proofs.Common.{◌≡◌, ◌≤◌, ◌<◌, ℕ, ◌+◌, ◌==◌, Bool, true, false, if◌then◌else◌, ◌&&◌, ◌||◌, List, [], ◌∷◌, ◌++◌, filter, length, map, get_or, Result, Ok, Err, is_ok, IsPermutation, ⊎_elim, refl, sym, ap, ◌∙◌, arith, All, append-nil}
-use Rattle.std.specs.List.{list_any}
+use Rattle.btr_check_references.proofs.Imports.{◌≡◌, ◌≤◌, ◌<◌, ℕ, ◌==◌, Bool, true, false, if◌then◌else◌, ◌&&◌, ◌||◌, List, [], ◌∷◌, ◌++◌, filter, length, map, get_or, Result, Ok, Err, is_ok, IsPermutation, ⊎_elim, refl, sym, ap, ◌∙◌, arith, append-nil, list_any, cases_lt, eq-eqb, nat_tests, get_or_default, map-append, filter-append, list_any-IsPermutation, Extent, is_full, AreFullNodes, full_starts}
 use Rattle.std.specs.Result.{MatchResult}
-use Rattle.std.proofs.lemmas.Bool.{cases_lt, eq-eqb}
-use Rattle.std.proofs.lemmas.Bool.Decides.{nat_tests}
-use Rattle.std.proofs.lemmas.List.{get_or_default, map-append}
-use Rattle.std.proofs.lemmas.List.Elements.{filter-append}
 use Rattle.std.proofs.lemmas.List.Folds.{list_any_at, list_any_none}
-use Rattle.std.proofs.lemmas.List.Sorted.{list_any-IsPermutation}
-use Rattle.btr_check_rules.specs.Extents.{Extent, is_full}
-use Rattle.btr_check_references.specs.FullNodes.{AreFullNodes, full_starts}
 
 pub with_full : (extents : List Extent) (e : Extent) → is_full e ≡ true → full_starts (extents ++ e ∷ []) ≡ full_starts extents ++ e.start ∷ []
 with_full extents e full =

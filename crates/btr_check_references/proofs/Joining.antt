@@ -1,15 +1,6 @@
 -- Entries that are sorted, and joined where neighbours are the same.
-use Rattle.std.proofs.Common.{append-nil, ◌≡◌, ◌≢◌, ◌<◌, ◌≤◌, ◌⊎◌, inl, inr, ⊎_elim, ℕ, ◌+◌, ◌-◌, zero, suc, Bool, true, false, cond, Less, Greater, is_lt, IsPermutation, IsSortedBy, List, [], ◌∷◌, ◌++◌, length, map, take, drop, get_or, refl, sym, ap, subst, ◌∙◌, arith, true≢false, All, AllPairs, length-append, if◌then◌else◌}
-use Rattle.std.proofs.lemmas.Bool.{cases_lt}
-use Rattle.std.specs.List.{count_by, sum_by}
-use Rattle.std.proofs.lemmas.List.{get_or-map, map-append, get_or_append_left, get_or_default, get_or-drop, drop-drop, drop_all, length-map, take_all}
-use Rattle.std.proofs.lemmas.List.Elements.{All-contains, All-push, All-weaker, Contains-push, Contains-append_left}
-use Rattle.std.proofs.lemmas.List.Quantifiers.{all_pairs_push}
-use Rattle.std.proofs.lemmas.List.Sorted.{All-permutation, ranks_by, sorted_far, sum_by-IsPermutation}
+use Rattle.btr_check_references.proofs.Imports.{append-nil, ◌≡◌, ◌≢◌, ◌<◌, ◌≤◌, ◌⊎◌, inl, inr, ⊎_elim, ℕ, ◌+◌, ◌-◌, Bool, true, false, Less, Greater, is_lt, IsPermutation, IsSortedBy, List, [], ◌∷◌, ◌++◌, length, map, take, drop, get_or, refl, sym, ap, subst, ◌∙◌, arith, true≢false, All, AllPairs, length-append, if◌then◌else◌, cases_lt, get_or-map, map-append, get_or_append_left, get_or_default, get_or-drop, drop-drop, drop_all, length-map, take_all, All-contains, All-push, All-weaker, Contains-push, all_pairs_push, All-permutation, ranks_by, sorted_far, sum_by-IsPermutation, Made, AreOrdered, CountsAs, IsJoinedWith, IsTestOfRefs, count_if, counted, is_same, made_in, order_of, MadeCount}
 use Rattle.std.proofs.lemmas.List.Sums.{sum_by_more, sum_by_push}
-use Rattle.btr_check_rules.specs.References.{Made}
-use Rattle.btr_check_references.specs.Counts.{AreJoined, AreOrdered, CountsAs, IsJoinedWith, IsTestOfRefs, count_if, counted, is_same, made_in, order_of}
-use Rattle.btr_check_references.specs.declared.gather.MadeCount.{MadeCount}
 use Rattle.btr_check_references.proofs.Order.{before, not_behind, order_total}
 
 abbrev IsBefore : Made → Made → Type 0

@@ -1,13 +1,9 @@
 -- The order of references.
-use Rattle.std.proofs.Common.{◌≡◌, ◌≢◌, ℕ, ◌==◌, nat_eq, nat_cmp, Bool, true, false, ◌&&◌, Ordering, Less, Equal, Greater, is_eq, is_lt, refl, sym, ap, ◌∙◌, arith, true≢false}
+use Rattle.btr_check_references.proofs.Imports.{◌≡◌, ◌≢◌, nat_eq, nat_cmp, true, false, Ordering, Less, Equal, Greater, is_eq, is_lt, refl, sym, ap, ◌∙◌, arith, true≢false, nat_tests, Made, is_same, order_of, ranks_of}
 use Rattle.std.specs.Cmp.{IsTotalOrder, unsigned_ties}
-use Rattle.std.specs.Cmp.Lexicographic.{lists_ties, pointwise, slice_cmp}
+use Rattle.std.specs.Cmp.Lexicographic.{lists_ties, pointwise}
 use Rattle.std.specs.Ordering.{ordering_reverse}
-use Rattle.std.proofs.lemmas.Bool.Decides.{nat_tests}
 use Rattle.std.proofs.lemmas.Cmp.{nat_list_cmp_total, on_total}
-use Rattle.btr_check_rules.specs.Extents.{same_ref}
-use Rattle.btr_check_rules.specs.References.{Made}
-use Rattle.btr_check_references.specs.Counts.{is_same, order_of, ranks_of}
 
 pub order_total : IsTotalOrder order_of
 unfolding order_of

@@ -1,5 +1,5 @@
 -- The addresses of nodes whose extents are full.
-use Rattle.std.specs.Prelude.{◌≡◌, ℕ, ◌==◌, Bool, ◌&&◌, List, filter, map}
+use Rattle.std.specs.Prelude.{◌≡◌, ℕ, ◌==◌, ◌&&◌, List, filter, map}
 use Rattle.std.specs.List.{list_any}
 use Rattle.btr_check_rules.specs.Extents.{Extent, is_full}
 

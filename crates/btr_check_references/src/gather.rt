@@ -15,14 +15,14 @@ pub struct MadeCount {
     pub count: u64,
 }
 
-/// How many references more are gathered at least before those that are the same are joined.
+/// How many references more are gathered at least, before those that are the same are joined.
 const GATHERED: usize = 1 << 16;
 
-/// References as they are met. Those that are the same are joined whenever there is no room, so there is one entry for each
-/// different one, an eighth more, and some that are constant.
+/// References as they are met. Those that are the same are joined from time to time, so that there is one entry for each
+/// different one, an eighth more, and at most 65536 besides.
 #[derive(Drop)]
 pub struct References {
-    entries: Vec<MadeCount>,
+    pub entries: Vec<MadeCount>,
     /// At how many entries they are joined next.
     limit: usize,
 }
@@ -115,7 +115,8 @@ fn join_next(entries: &mut [MadeCount], kept: usize, entry: MadeCount) -> Result
     }
 }
 
-/// The sum of two counts. No memory holds so many references that it has more than 64 bits.
+/// The sum of two counts. One of more than 64 bits is told as a lack of memory; references are counted one by one, so there is
+/// none in practice.
 fn both(a: u64, b: u64) -> Result<u64, Memory>
     ensures { IfOk result (λ sum. sum ≡ a + b) }
 {

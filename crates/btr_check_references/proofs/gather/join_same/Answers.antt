@@ -1,6 +1,5 @@
-use Rattle.std.proofs.Common.{◌≡◌, ◌<◌, refl, arith, get_or, length, rules}
-use Rattle.std.proofs.lemmas.List.{get_or_default}
-use Rattle.btr_check_references.proofs.Joining.{joined_all, joined_more}
+use Rattle.btr_check_references.proofs.Imports.{◌<◌, arith, length, rules, get_or_default}
+use Rattle.btr_check_references.proofs.Joining.{joined_more}
 use Rattle.btr_check_references.proofs.gather.join_same.Goals as goal
 
 pub loop-i-preserved : goal.loop-i-preserved

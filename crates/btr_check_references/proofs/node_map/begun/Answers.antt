@@ -1,6 +1,4 @@
-use Rattle.std.proofs.Common.{leb, rules}
-use Rattle.std.proofs.lemmas.List.Sorted.{IsPartitionPoint-from_clause}
-use Rattle.btr_check_references.specs.declared.node_state.NodeRange.{NodeRange}
+use Rattle.btr_check_references.proofs.Imports.{leb, rules, IsPartitionPoint-from_clause, NodeRange}
 use Rattle.btr_check_references.proofs.Blocks.{begun_first}
 use Rattle.btr_check_references.proofs.node_map.begun.Goals as goal
 

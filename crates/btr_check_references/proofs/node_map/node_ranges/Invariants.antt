@@ -1,5 +1,4 @@
-use Rattle.std.proofs.Common.{take}
-use Rattle.btr_check_references.specs.NodeRanges.{AreRangesOf}
+use Rattle.btr_check_references.proofs.Imports.{take, AreRangesOf}
 use Rattle.btr_check_references.proofs.node_map.node_ranges.Given as goal
 
 abbrev pub invariant-loop-span : goal.invariant-loop-span

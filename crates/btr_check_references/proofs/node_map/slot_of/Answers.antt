@@ -1,5 +1,4 @@
-use Rattle.std.proofs.Common.{◌≡◌, ◌+◌, ◌-◌, sym, ◌∙◌, arith}
-use Rattle.std.proofs.lemmas.Bool.Decides.{nat_tests}
+use Rattle.btr_check_references.proofs.Imports.{◌≡◌, ◌+◌, ◌-◌, sym, arith, nat_tests}
 use Rattle.btr_check_references.proofs.Blocks.{last_begun, none_begun}
 use Rattle.btr_check_references.proofs.node_map.slot_of.Goals as goal
 

@@ -1,6 +1,4 @@
-use Rattle.std.proofs.Common.{◌≡◌, ◌∙◌, ℕ, List, nat_cmp, subst}
-use Rattle.std.specs.List.Sorted.{IsBinarySearchResult}
-use Rattle.std.proofs.lemmas.List.Sorted.{searched}
+use Rattle.btr_check_references.proofs.Imports.{◌∙◌, ℕ, List, nat_cmp, subst, IsBinarySearchResult, searched}
 use Rattle.btr_check_references.proofs.Full.{searched_any}
 use Rattle.btr_check_references.proofs.full_list.FullNodes.has.Goals as goal
 

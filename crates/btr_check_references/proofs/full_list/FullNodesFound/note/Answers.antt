@@ -1,6 +1,4 @@
-use Rattle.std.proofs.Common.{◌≡◌, ◌++◌, ◌∷◌, ◌∙◌, [], ℕ, List, ap, sym, true, false}
-use Rattle.btr_check_rules.specs.Extents.{is_full}
-use Rattle.btr_check_references.specs.FullNodes.{full_starts}
+use Rattle.btr_check_references.proofs.Imports.{◌≡◌, ◌++◌, ◌∷◌, ◌∙◌, [], ℕ, List, ap, sym, true, false, is_full, full_starts}
 use Rattle.btr_check_references.proofs.Full.{with_full, without_full}
 use Rattle.btr_check_references.proofs.full_list.FullNodesFound.note.Goals as goal
 

@@ -1,5 +1,4 @@
-use Rattle.std.proofs.Common.{◌≡◌, ◌∙◌, ℕ, rules}
-use Rattle.std.proofs.lemmas.List.Sorted.{IsNonDecreasingBy-from_sort}
+use Rattle.btr_check_references.proofs.Imports.{ℕ, IsNonDecreasingBy-from_sort}
 use Rattle.btr_check_references.proofs.Full.{sorted_full}
 use Rattle.btr_check_references.proofs.full_list.FullNodesFound.sorted.Goals as goal
 

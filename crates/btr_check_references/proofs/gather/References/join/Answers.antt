@@ -1,7 +1,4 @@
-use Rattle.std.proofs.Common.{◌≡◌, ◌++◌, ◌∙◌, List, ap, sym, subst, take, drop, length, is_lt, rules, arith}
-use Rattle.std.proofs.lemmas.List.Sorted.{answers_always, ranks_by}
-use Rattle.btr_check_references.specs.Counts.{AreJoined, AreOrdered, CountsAs, made_in, order_of}
-use Rattle.btr_check_references.specs.declared.gather.MadeCount.{MadeCount}
+use Rattle.btr_check_references.proofs.Imports.{◌≡◌, ◌∙◌, List, ap, sym, subst, take, is_lt, rules, answers_always, ranks_by, AreJoined, AreOrdered, CountsAs, made_in, order_of, MadeCount}
 use Rattle.btr_check_references.proofs.Joining.{counts_then, lent, moved_counts, ordered_from_sorted}
 use Rattle.btr_check_references.proofs.Order.{order_total}
 use Rattle.btr_check_references.proofs.gather.References.join.Goals as goal

@@ -1,8 +1,4 @@
-use Rattle.std.proofs.Common.{◌≡◌, ◌∙◌, List, length, ap, sym, subst}
-use Rattle.std.proofs.lemmas.List.{length-replicate}
-use Rattle.btr_check_references.specs.declared.node_state.NodeState.{NodeState}
-use Rattle.btr_check_references.specs.declared.node_state.NodeState.TheVariants.{Unmet}
-use Rattle.btr_check_references.specs.NodeRanges.{AreNodeRanges, state_in}
+use Rattle.btr_check_references.proofs.Imports.{◌∙◌, List, length, ap, sym, subst, length-replicate, NodeState, Unmet, AreNodeRanges, state_in}
 use Rattle.btr_check_references.proofs.Blocks.{first_states, ranges_apart}
 use Rattle.btr_check_references.proofs.node_table.NodeMap.new.Goals as goal
 

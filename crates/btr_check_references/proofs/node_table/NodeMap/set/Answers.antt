@@ -1,7 +1,5 @@
-use Rattle.std.proofs.Common.{◌≡◌, ◌<◌, ◌∙◌, List, length, None, Some, ap, sym, arith, rules}
-use Rattle.btr_check_references.specs.declared.node_state.NodeRange.{NodeRange}
-use Rattle.btr_check_references.specs.NodeRanges.{slot_in}
-use Rattle.btr_check_references.proofs.Blocks.{not_noted, noted, slot_inside}
+use Rattle.btr_check_references.proofs.Imports.{◌≡◌, ◌∙◌, List, length, Some, ap, sym, arith, rules, NodeRange, slot_in}
+use Rattle.btr_check_references.proofs.Blocks.{noted, slot_inside}
 use Rattle.btr_check_references.proofs.node_table.NodeMap.set.Goals as goal
 
 pub index_mut-requires : goal.index_mut-requires

@@ -1,9 +1,4 @@
-use Rattle.std.proofs.Common.{◌≡◌, ◌<◌, ◌∙◌, List, length, Some, ap, sym, arith, rules}
-use Rattle.std.proofs.lemmas.List.{get_or_default}
-use Rattle.btr_check_references.specs.declared.node_state.NodeRange.{NodeRange}
-use Rattle.btr_check_references.specs.declared.node_state.NodeState.{NodeState}
-use Rattle.btr_check_references.specs.declared.node_state.NodeState.TheVariants.{Unmet}
-use Rattle.btr_check_references.specs.NodeRanges.{slot_in}
+use Rattle.btr_check_references.proofs.Imports.{◌≡◌, ◌∙◌, List, length, Some, ap, sym, arith, rules, get_or_default, NodeRange, NodeState, Unmet, slot_in}
 use Rattle.btr_check_references.proofs.Blocks.{slot_inside, state_by}
 use Rattle.btr_check_references.proofs.node_table.NodeMap.state.Goals as goal
 

@@ -1,9 +1,4 @@
-use Rattle.std.proofs.Common.{◌≡◌, ◌≤◌, ◌+◌, Contains, List, ap, sym, subst, get_or, length, true, arith, rules}
-use Rattle.std.proofs.lemmas.List.Elements.{Contains-get_or}
-use Rattle.btr_check_references.specs.declared.node_state.NodeRange.{NodeRange}
-use Rattle.btr_check_references.specs.declared.node_state.NodeState.{NodeState}
-use Rattle.btr_check_references.specs.declared.node_state.NodeState.TheVariants.{Unmet}
-use Rattle.btr_check_references.specs.NodeRanges.{is_unowned}
+use Rattle.btr_check_references.proofs.Imports.{◌≡◌, ◌+◌, Contains, List, ap, subst, get_or, length, true, arith, Contains-get_or, NodeRange, NodeState, Unmet, is_unowned}
 use Rattle.btr_check_references.proofs.Blocks.{all_owned, one_unowned}
 use Rattle.btr_check_references.proofs.node_table.NodeMap.unowned.Goals as goal
 

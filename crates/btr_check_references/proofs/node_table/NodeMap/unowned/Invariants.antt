@@ -1,5 +1,4 @@
-use Rattle.std.proofs.Common.{◌≡◌, ◌<◌, ◌+◌, ℕ, false, get_or}
-use Rattle.btr_check_references.specs.declared.node_state.NodeRange.{NodeRange}
+use Rattle.btr_check_references.proofs.Imports.{◌<◌, ℕ, get_or, NodeRange}
 use Rattle.btr_check_references.proofs.Blocks.{IsRangeOwned}
 use Rattle.btr_check_references.proofs.node_table.NodeMap.unowned.Given as goal
 
