@@ -1,0 +1,5 @@
+pub mod Blocks
+pub mod Full
+pub mod Imports
+pub mod Joining
+pub mod Order

@@ -1,0 +1,6 @@
+pub use Rattle.btr_check_rules.specs as btr_check_rules
+pub use Rattle.btr_check_rules.specs.btr_reader as btr_reader
+pub mod Counts
+pub mod FullNodes
+pub mod NodeMaps
+pub mod NodeRanges
