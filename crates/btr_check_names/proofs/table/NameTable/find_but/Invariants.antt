@@ -1,0 +1,6 @@
+use Rattle.std.proofs.Common.{◌≢◌, take, All}
+use Rattle.btr_check_names.specs.Table.{IsNamedAt}
+use Rattle.btr_check_names.proofs.table.NameTable.find_but.Given as goal
+
+abbrev pub invariant-loop-k : goal.invariant-loop-k
+invariant-loop-k l = All (λ k. k.number ≢ l.but → ¬ IsNamedAt l.self.entries l.dir l.name k.number) (take l.k-index l.k-items)

@@ -1,0 +1,10 @@
+//! The names of a Btrfs file tree, and whether its directory indexes, its dir items and the references of its inodes tell the
+//! same.
+#![tactic(auto)]
+
+mod hashes;
+mod name_list;
+mod table;
+
+pub use name_list::NameList;
+pub use table::{NameTable, names_inode};
