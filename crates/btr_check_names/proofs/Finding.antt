@@ -12,7 +12,8 @@ use Rattle.castagnoli.specs.Castagnoli.{extref_hash}
 use Rattle.btr_check_names.proofs.Hashing.{hash_there, numbers_within}
 use Rattle.btr_check_names.proofs.Permuting.{Contains_filter, any_of}
 use Rattle.btr_check_names.specs.Hashes.{has_hash, hash_at, hashes_from}
-use Rattle.btr_check_names.specs.Rules.{DifferInName, IndexEntry, PairsAt, dir_of}
+use Rattle.btr_check_rules.specs.Names.{DifferInName, IndexEntry, dir_of}
+use Rattle.btr_check_rules.specs.Recount.{PairsAt}
 use Rattle.btr_check_names.specs.Table.{HasName, IsNamedAt, NoneNamedBut}
 use Rattle.btr_check_names.specs.declared.hashes.HashAt.{HashAt}
 

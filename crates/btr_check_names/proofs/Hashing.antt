@@ -13,7 +13,7 @@ use Rattle.std.specs.List.Sorted.{IsNonDecreasingBy, IsPermutation}
 use Rattle.std.specs.Ordering.{is_eq, nat_cmp, ordering_index}
 use Rattle.btr_check_names.proofs.Permuting.{Contains-here, Contains-later, any_of}
 use Rattle.btr_check_names.specs.Hashes.{AscendByHash, hash_at, hashes_from}
-use Rattle.btr_check_names.specs.Rules.{IndexEntry}
+use Rattle.btr_check_rules.specs.Names.{IndexEntry}
 use Rattle.btr_check_names.specs.declared.hashes.HashAt.{HashAt}
 
 pub same_cmp : (a b : ℕ) → nat_eq a b ≡ is_eq (nat_cmp a b)

@@ -4,9 +4,9 @@ use Rattle.std.proofs.Math.Seq.{drop-append_seam}
 use Rattle.std.proofs.lemmas.List.{drop-append-le, length-append, length-drop, map-append, take-append-le, take_all}
 use Rattle.std.proofs.lemmas.List.Elements.{All-cons, All-nil, All-head, All-tail, All-append, All-weaker}
 use Rattle.std.specs.List.{All, slice_range}
-use Rattle.btr_keys.specs.declared.key.Key.{Key}
+use Rattle.btr_check_rules.specs.btr_reader.btr_keys.declared.key.Key.{Key}
 use Rattle.btr_check_names.specs.Lists.{IsWithin, entry_in, name_in}
-use Rattle.btr_check_names.specs.Rules.{IndexEntry}
+use Rattle.btr_check_rules.specs.Names.{IndexEntry}
 use Rattle.btr_check_names.specs.declared.name_list.NameAt.{NameAt}
 
 -- a part of some letters is the same with more behind them

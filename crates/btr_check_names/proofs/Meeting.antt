@@ -9,14 +9,14 @@ use Rattle.std.proofs.lemmas.Option.{get_or_from_slice_get, slice_get-get_or, sl
 use Rattle.std.specs.Bool.{Decides}
 use Rattle.std.specs.List.{Contains, count_by, slice_get}
 use Rattle.std.specs.List.Sorted.{IsPermutation}
-use Rattle.btr_keys.specs.declared.key.Key.{Key}
-use Rattle.btr_keys.specs.vol_block.btrfs_format.declared.key.TheConstants.{INODE_ITEM}
-use Rattle.btr_keys.specs.vol_block.btrfs_format.declared.object.TheConstants.{FIRST_FREE_OBJECTID}
+use Rattle.btr_check_rules.specs.btr_reader.btr_keys.declared.key.Key.{Key}
+use Rattle.btr_check_rules.specs.btr_reader.btr_reader_walk.btr_keys.btrfs_format.declared.key.TheConstants.{INODE_ITEM}
+use Rattle.btr_check_rules.specs.btr_reader.btr_reader_walk.btr_keys.btrfs_format.declared.object.TheConstants.{FIRST_FREE_OBJECTID}
 use Rattle.btr_check_names.proofs.Marking.{absent, chosen_all, marked_one, met_before, met_one, no_more, not_same, short_of}
 use Rattle.btr_check_names.proofs.Noting.{filter_true, given_once, named_once, not_given, other_entry, other_name}
-use Rattle.btr_check_names.proofs.Permuting.{Contains-here, any_of}
+use Rattle.btr_check_names.proofs.Permuting.{Contains-here, any_of, get_or_any}
 use Rattle.btr_check_names.specs.Marks.{IsTooMany, chosen}
-use Rattle.btr_check_names.specs.Rules.{BackName, IndexEntry, NamedEntry, back_name, entries_in, names_inode_item, names_of, own_name}
+use Rattle.btr_check_rules.specs.Names.{BackName, IndexEntry, NamedEntry, back_name, entries_in, names_inode_item, names_of, own_name}
 use Rattle.btr_check_names.specs.Table.{AreNames, IsNamedAt, NamesMet, back_names, given, hashed_of, named, own_names, told_of}
 
 -- ---- values with the same fields
@@ -154,3 +154,14 @@ module _ (t : NamesMet) (long : length t.told ≡ length t.entries) (met : List 
       let same = chosen_all names_inode_item t.told t.entries long (λ i d e within passes. all i d e within passes) in
       subst (λ (l : List IndexEntry). IsPermutation (own_name ∷ map back_name l) met) same
       (subst (λ (b : Bool). IsPermutation (own_names b ++ back_names (chosen t.told t.entries)) met) own before)
+
+-- the step over an entry that was met, or names no inode
+pub name_over : (t : NamesMet) → length t.told ≡ length t.entries → (i : ℕ) (b : Bool) → i < length t.entries → get_or t.told i b ≡ true
+    → (e : IndexEntry) (d : Bool) → names_inode_item (get_or t.entries i e) ≡ true → get_or t.told i d ≡ true
+name_over t long i b within marked e d passes = get_or_any t.told i b d (omega arith) ∙ marked
+
+pub no_inode : (t : NamesMet) (i : ℕ) (location : Key) → i < length t.entries → ((e : IndexEntry) → slice_get t.entries i ≡ Some e → location ≡ e.entry.location) → ((location.kind == INODE_ITEM) && (location.offset == 0)) ≡ false
+    → (e : IndexEntry) (d : Bool) → names_inode_item (get_or t.entries i e) ≡ true → get_or t.told i d ≡ true
+no_inode t i location within location_is none e d passes =
+    let here = location_is (get_or t.entries i e) (slice_get-get_or t.entries i e within) in
+    absurd (true≢false (sym (subst (λ (l : Key). ((l.kind == INODE_ITEM) && (l.offset == 0)) ≡ true) (sym here) passes) ∙ none))

@@ -10,9 +10,9 @@ use Rattle.std.proofs.lemmas.Option.{get_or_from_slice_get, slice_get_within}
 use Rattle.std.specs.List.{All, AllPairs, Contains, slice_get}
 use Rattle.std.specs.List.Sorted.{IsPermutation}
 use Rattle.btr_check_names.proofs.Marking.{absent, chosen_all, marked_one, met_before, met_one, not_same, short_of}
-use Rattle.btr_check_names.proofs.Permuting.{Contains_unfiltered, any_of}
+use Rattle.btr_check_names.proofs.Permuting.{Contains_unfiltered, any_of, get_or_any}
 use Rattle.btr_check_names.specs.Marks.{IsTooMany, chosen}
-use Rattle.btr_check_names.specs.Rules.{BackName, DifferInName, IndexEntry, NamedEntry, back_name, names_inode_item, own_name}
+use Rattle.btr_check_rules.specs.Names.{BackName, DifferInName, IndexEntry, NamedEntry, back_name, names_inode_item, own_name}
 use Rattle.btr_check_names.specs.Table.{AreNames, HasName, IsNamedAt, NoneNamedBut, back_names, given, named}
 
 -- ---- elements of lists of values
@@ -22,12 +22,7 @@ Contains_map {A} f xs y has =
     let count = length-map xs f in
     let within : has.0 < length xs = omega (arith, count, has.1) in
     let d : A = any_of xs has.0 within in
-    (get_or xs has.0 d, (has.0, within, at_any xs has.0 d (get_or xs has.0 d) within), sym (get_or-map f xs has.0 d y within) ∙ has.2)
-  where
-    at_any : (xs : List A) (i : ℕ) (d e : A) → i < length xs → get_or xs i e ≡ get_or xs i d
-    at_any [] i d e within = absurd (omega arith)
-    at_any (x ∷ xs) zero d e within = refl
-    at_any (x ∷ xs) (suc i) d e within = at_any xs i d e (omega arith)
+    (get_or xs has.0 d, (has.0, within, get_or_any xs has.0 d (get_or xs has.0 d) within), sym (get_or-map f xs has.0 d y within) ∙ has.2)
 
 Contains_cases : {A : Type 0} (y : A) (ys : List A) (x : A) → Contains (y ∷ ys) x → (y ≡ x) ⊎ Contains ys x
 Contains_cases y ys x (zero, within, is) = inl is

@@ -15,6 +15,12 @@ pub any_of : {A : Type 0} (xs : List A) (i : ℕ) → i < length xs → A
 any_of [] i within = absurd (omega arith)
 any_of (x ∷ xs) i within = x
 
+-- the default of a read does not matter
+pub get_or_any : {A : Type 0} (xs : List A) (i : ℕ) (d e : A) → i < length xs → get_or xs i e ≡ get_or xs i d
+get_or_any [] i d e within = absurd (omega arith)
+get_or_any (x ∷ xs) zero d e within = refl
+get_or_any (x ∷ xs) (suc i) d e within = get_or_any xs i d e (omega arith)
+
 -- ---- what passes a test
 
 module _ {A : Type 0} (p : A → Bool) where

@@ -3,7 +3,7 @@ use Rattle.std.specs.Prelude.{◌≡◌, ℕ, ◌+◌, ◌==◌, Bool, List, [],
 use Rattle.std.specs.List.Sorted.{IsSortedByKey}
 use Rattle.std.specs.Ordering.{nat_cmp}
 use Rattle.castagnoli.specs.Castagnoli.{extref_hash}
-use Rattle.btr_check_names.specs.Rules.{IndexEntry}
+use Rattle.btr_check_rules.specs.Names.{IndexEntry}
 use Rattle.btr_check_names.specs.declared.hashes.HashAt.{HashAt}
 
 abbrev pub has_hash : ℕ → HashAt → Bool

@@ -1,7 +1,5 @@
-pub use Rattle.btr_keys.specs as btr_keys
-pub use Rattle.castagnoli.specs as castagnoli
+pub use Rattle.btr_check_rules.specs as btr_check_rules
 pub mod Hashes
 pub mod Lists
 pub mod Marks
-pub mod Rules
 pub mod Table

@@ -1,7 +1,7 @@
 -- Entries of directory indexes, whose letters stand in one list.
 use Rattle.std.specs.Prelude.{◌≤◌, ℕ, ◌+◌, List, slice_range}
-use Rattle.btr_keys.specs.DirEntry.{DirEntryValue}
-use Rattle.btr_check_names.specs.Rules.{IndexEntry, NamedEntry}
+use Rattle.btr_check_rules.specs.btr_reader.btr_keys.DirEntry.{DirEntryValue}
+use Rattle.btr_check_rules.specs.Names.{IndexEntry, NamedEntry}
 use Rattle.btr_check_names.specs.declared.name_list.NameAt.{NameAt}
 
 -- the letters of a name

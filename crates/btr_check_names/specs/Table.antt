@@ -4,7 +4,7 @@ use Rattle.std.specs.Prelude.{◌≡◌, ◌≢◌, ◌≤◌, ◌<◌, ℕ, ◌
 use Rattle.std.specs.List.Sorted.{IsPermutation}
 use Rattle.btr_check_names.specs.Hashes.{hashes_from}
 use Rattle.btr_check_names.specs.Marks.{chosen}
-use Rattle.btr_check_names.specs.Rules.{BackName, DifferInName, IndexEntry, NamedEntry, back_name, names_inode_item, own_name}
+use Rattle.btr_check_rules.specs.Names.{BackName, DifferInName, IndexEntry, NamedEntry, back_name, names_inode_item, own_name}
 use Rattle.btr_check_names.specs.declared.hashes.HashAt.{HashAt}
 
 -- The entries of the directory indexes; of each, whether an entry of a dir item was met that tells the same, and whether a

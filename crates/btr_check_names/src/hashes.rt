@@ -6,7 +6,7 @@ ghost use Rattle.btr_check_names.specs.Hashes.{AscendByHash, has_hash, hashes_fr
 
 use crate::name_list::NameList;
 use castagnoli::extref_hash;
-use outside::Memory;
+use btr_check_rules::btr_reader::btr_reader_walk::Memory;
 use std::alloc::Global;
 use std::marker::Model;
 

@@ -1,11 +1,11 @@
 // The entries of directory indexes, in memory.
 ghost use Rattle.std.specs.Prelude.{◌≡◌, ◌<◌, ◌++◌, ◌∷◌, [], length, slice_get, OnOk, Some};
-ghost use Rattle.btr_keys.specs.DirEntry.{dir_entry_value};
+ghost use Rattle.btr_check_rules.specs.btr_reader.btr_keys.DirEntry.{dir_entry_value};
 ghost use Rattle.btr_check_names.specs.Lists.{entry_by};
-ghost use Rattle.btr_check_names.specs.Rules.{IndexEntry};
+ghost use Rattle.btr_check_rules.specs.Names.{IndexEntry};
 
-use btr_keys::{DirEntry, Key};
-use outside::Memory;
+use btr_check_rules::btr_reader::btr_reader_walk::btr_keys::{DirEntry, Key};
+use btr_check_rules::btr_reader::btr_reader_walk::Memory;
 use std::alloc::Global;
 use std::marker::Model;
 
@@ -30,7 +30,7 @@ pub struct NameList {
 impl Model for NameList {
     ghost use Rattle.std.specs.Prelude.{List, map, length, All};
     ghost use Rattle.btr_check_names.specs.Lists.{IsWithin, entry_in};
-    ghost use Rattle.btr_check_names.specs.Rules.{IndexEntry};
+    ghost use Rattle.btr_check_rules.specs.Names.{IndexEntry};
 
     ghost Value = { List IndexEntry };
 

@@ -3,19 +3,20 @@ ghost use Rattle.std.specs.Prelude.{◌≡◌, ◌≢◌, ◌<◌, ◌&&◌, ◌
 ghost use Rattle.std.specs.Bool.{Decides};
 ghost use Rattle.std.specs.List.Sorted.{IsPermutation};
 ghost use Rattle.std.specs.Option.{MatchOption};
-ghost use Rattle.btr_keys.specs.DirEntry.{dir_entry_value};
+ghost use Rattle.btr_check_rules.specs.btr_reader.btr_keys.DirEntry.{dir_entry_value};
 ghost use Rattle.btr_check_names.specs.Lists.{entry_by};
 ghost use Rattle.btr_check_names.specs.Marks.{Notes};
-ghost use Rattle.btr_check_names.specs.Rules.{BackName, DifferInName, IndexEntry, NamedEntry, PairsAt, dir_of, entries_in, names_inode_item, names_of, own_name};
+ghost use Rattle.btr_check_rules.specs.Recount.{PairsAt};
+ghost use Rattle.btr_check_rules.specs.Names.{BackName, DifferInName, IndexEntry, NamedEntry, dir_of, entries_in, names_inode_item, names_of, own_name};
 ghost use Rattle.btr_check_names.specs.Table.{AreNames, HasName, IsNamedAt, NamesMet, NoneNamedBut, given, hashed_of, named, told_of, unmet};
 
 use crate::hashes::HashIndex;
 use crate::name_list::NameList;
-use btr_keys::btrfs_format::key::INODE_ITEM;
-use btr_keys::btrfs_format::object::FIRST_FREE_OBJECTID;
-use btr_keys::{DirEntry, Key};
+use btr_check_rules::btr_reader::btr_reader_walk::btr_keys::btrfs_format::key::INODE_ITEM;
+use btr_check_rules::btr_reader::btr_reader_walk::btr_keys::btrfs_format::object::FIRST_FREE_OBJECTID;
+use btr_check_rules::btr_reader::btr_reader_walk::btr_keys::{DirEntry, Key};
 use castagnoli::extref_hash;
-use outside::Memory;
+use btr_check_rules::btr_reader::btr_reader_walk::Memory;
 use std::alloc::Global;
 use std::marker::Model;
 

@@ -4,7 +4,7 @@ use Rattle.std.proofs.lemmas.List.Elements.{All-more}
 use Rattle.std.specs.List.Sorted.{IsPermutation}
 use Rattle.btr_check_names.proofs.Finding.{found, none_found, number_within, other}
 use Rattle.btr_check_names.specs.Hashes.{has_hash, hashes_from}
-use Rattle.btr_check_names.specs.Rules.{IndexEntry}
+use Rattle.btr_check_rules.specs.Names.{IndexEntry}
 use Rattle.btr_check_names.specs.Table.{IsNamedAt, NamesMet, NoneNamedBut}
 use Rattle.btr_check_names.specs.declared.hashes.HashAt.{HashAt}
 use Rattle.btr_check_names.proofs.table.NameTable.find_but.Goals as goal

@@ -1,7 +1,7 @@
 use Rattle.std.proofs.Common.{rules, ◌≡◌, ℕ, List, Some, get_or, arith, below_more, subst, ap, sym, ◌∙◌, length}
 use Rattle.std.specs.List.{slice_get}
 use Rattle.btr_check_names.proofs.Finding.{all_once, stands_once, stands_twice}
-use Rattle.btr_check_names.specs.Rules.{IndexEntry}
+use Rattle.btr_check_rules.specs.Names.{IndexEntry}
 use Rattle.btr_check_names.specs.Table.{NamesMet, NoneNamedBut}
 use Rattle.btr_check_names.proofs.table.NameTable.repeated.Goals as goal
 

@@ -1,5 +1,5 @@
 use Rattle.std.proofs.Common.{◌<◌, ℕ, slice_index_or}
-use Rattle.btr_check_names.specs.Rules.{IndexEntry}
+use Rattle.btr_check_rules.specs.Names.{IndexEntry}
 use Rattle.btr_check_names.specs.Table.{NoneNamedBut}
 use Rattle.btr_check_names.proofs.table.NameTable.repeated.Given as goal
 
