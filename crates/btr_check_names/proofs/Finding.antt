@@ -1,21 +1,9 @@
 -- Entries that are found by the hashes of their names.
-use Rattle.std.proofs.Common.{◌≡◌, ◌≢◌, ℕ, ◌+◌, ◌<◌, ◌≤◌, ◌⊎◌, inl, inr, ⊎_elim, Bool, true, false, List, [], ◌∷◌, length, get_or, filter, refl, sym, ap, ◌∙◌, subst, arith, Option, Some, None, eq-eqb}
-use Rattle.std.proofs.lemmas.Bool.{cases_lt, true≢false}
-use Rattle.std.proofs.lemmas.List.Elements.{All-contains, All-filter, All-get_or, All-weaker}
-use Rattle.std.proofs.lemmas.List.Sorted.{All-permutation, Contains-permutation}
-use Rattle.std.proofs.lemmas.Option.{get_or_from_slice_get, slice_get-get_or, slice_get_within}
-use Rattle.std.specs.Bool.{Decides}
-use Rattle.std.specs.List.{All, AllPairs, Contains, slice_get}
-use Rattle.std.specs.List.Sorted.{IsPermutation}
+use Rattle.btr_check_names.proofs.Imports.{◌≡◌, ◌≢◌, ℕ, ◌+◌, ◌<◌, ◌≤◌, ◌⊎◌, inl, inr, ⊎_elim, Bool, true, false, List, [], ◌∷◌, length, get_or, filter, refl, sym, ap, ◌∙◌, subst, arith, Option, Some, None, eq-eqb, cases_lt, true≢false, All-contains, All-filter, All-get_or, All-weaker, All-permutation, Contains-permutation, get_or_from_slice_get, slice_get-get_or, slice_get_within, Decides, All, AllPairs, Contains, slice_get, IsPermutation, extref_hash, has_hash, hash_at, hashes_from, DifferInName, IndexEntry, dir_of, HasName, IsNamedAt, NoneNamedBut, HashAt}
 use Rattle.std.specs.Option.{MatchOption, is_some}
-use Rattle.castagnoli.specs.Castagnoli.{extref_hash}
+use Rattle.btr_check_rules.specs.Recount.{PairsAt}
 use Rattle.btr_check_names.proofs.Hashing.{hash_there, numbers_within}
 use Rattle.btr_check_names.proofs.Permuting.{Contains_filter, any_of}
-use Rattle.btr_check_names.specs.Hashes.{has_hash, hash_at, hashes_from}
-use Rattle.btr_check_rules.specs.Names.{DifferInName, IndexEntry, dir_of}
-use Rattle.btr_check_rules.specs.Recount.{PairsAt}
-use Rattle.btr_check_names.specs.Table.{HasName, IsNamedAt, NoneNamedBut}
-use Rattle.btr_check_names.specs.declared.hashes.HashAt.{HashAt}
 
 -- ---- one entry
 
@@ -34,7 +22,7 @@ module _ (entries : List IndexEntry) (keys : List HashAt) (keyed : IsPermutation
   pub number_within : (hash : ℕ) (items : List HashAt) (n : ℕ) (d : HashAt) → items ≡ filter (has_hash hash) keys → n < length items → (get_or items n d).number < length entries
   number_within hash items n d are within =
       let all : All (λ (k : HashAt). k.number < length entries) (hashes_from 0 entries) =
-          All-weaker (λ (k : HashAt). k.number < 0 + length entries) (λ (k : HashAt). k.number < length entries) (λ k less. omega arith) (hashes_from 0 entries) (numbers_within 0 entries) in
+      All-weaker (λ (k : HashAt). k.number < 0 + length entries) (λ (k : HashAt). k.number < length entries) (λ k less. omega arith) (hashes_from 0 entries) (numbers_within 0 entries) in
       All-get_or (λ (k : HashAt). k.number < length entries) items n d within
       (subst (All (λ (k : HashAt). k.number < length entries)) (sym are) (All-filter (has_hash hash) (λ (k : HashAt). k.number < length entries) keys (All-permutation (λ (k : HashAt). k.number < length entries) (hashes_from 0 entries) keys keyed all)))
 

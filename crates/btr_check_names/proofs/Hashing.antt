@@ -1,20 +1,7 @@
 -- The hashes of the names of entries.
-use Rattle.std.proofs.Common.{◌≡◌, ℕ, zero, suc, ◌+◌, ◌<◌, Bool, List, [], ◌∷◌, ◌++◌, length, get_or, take, nat_eq, refl, sym, ap, ◌∙◌, subst, arith, Some}
-use Rattle.castagnoli.specs.Castagnoli.{extref_hash}
-use Rattle.std.proofs.lemmas.List.{length-take-le, take_more}
-use Rattle.std.proofs.lemmas.Option.{slice_get-get_or}
-use Rattle.std.specs.List.{slice_get}
-use Rattle.std.proofs.lemmas.Bool.Decides.{nat_tests}
+use Rattle.btr_check_names.proofs.Imports.{◌≡◌, ℕ, zero, suc, ◌+◌, ◌<◌, Bool, List, [], ◌∷◌, ◌++◌, length, get_or, take, nat_eq, refl, sym, ap, ◌∙◌, subst, arith, Some, extref_hash, length-take-le, take_more, slice_get-get_or, slice_get, All, Contains, nat_tests, All-contains, All-cons, All-nil, All-weaker, searchable_from_sorted, All-permutation, Contains-permutation, IsNonDecreasingBy, IsPermutation, is_eq, nat_cmp, ordering_index, AscendByHash, hash_at, hashes_from, IndexEntry, HashAt}
 use Rattle.std.proofs.lemmas.Cmp.{nat_cmp_total}
-use Rattle.std.proofs.lemmas.List.Elements.{All-contains, All-cons, All-nil, All-weaker}
-use Rattle.std.proofs.lemmas.List.Sorted.{searchable_from_sorted, All-permutation, Contains-permutation}
-use Rattle.std.specs.List.{All, Contains}
-use Rattle.std.specs.List.Sorted.{IsNonDecreasingBy, IsPermutation}
-use Rattle.std.specs.Ordering.{is_eq, nat_cmp, ordering_index}
 use Rattle.btr_check_names.proofs.Permuting.{Contains-here, Contains-later, any_of}
-use Rattle.btr_check_names.specs.Hashes.{AscendByHash, hash_at, hashes_from}
-use Rattle.btr_check_rules.specs.Names.{IndexEntry}
-use Rattle.btr_check_names.specs.declared.hashes.HashAt.{HashAt}
 
 pub same_cmp : (a b : ℕ) → nat_eq a b ≡ is_eq (nat_cmp a b)
 same_cmp a b = grind (arith, nat_tests)

@@ -1,7 +1,9 @@
 pub mod Finding
 pub mod Hashing
+pub mod Imports
 pub mod Listing
 pub mod Marking
 pub mod Meeting
 pub mod Noting
 pub mod Permuting
+pub mod Ways

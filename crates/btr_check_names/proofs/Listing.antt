@@ -1,12 +1,6 @@
 -- Names among the letters of all.
-use Rattle.std.proofs.Common.{◌≡◌, ◌≤◌, ℕ, ◌+◌, ◌-◌, ◌<◌, List, [], ◌∷◌, ◌++◌, length, take, drop, map, refl, sym, ap, ◌∙◌, arith}
+use Rattle.btr_check_names.proofs.Imports.{◌≡◌, ◌≤◌, ℕ, ◌+◌, ◌-◌, ◌<◌, List, [], ◌∷◌, ◌++◌, length, take, drop, map, refl, sym, ap, ◌∙◌, arith, drop-append-le, length-append, length-drop, map-append, take-append-le, take_all, All-cons, All-nil, All-head, All-tail, All-append, All-weaker, All, slice_range, Key, IsWithin, entry_in, name_in, IndexEntry}
 use Rattle.std.proofs.Math.Seq.{drop-append_seam}
-use Rattle.std.proofs.lemmas.List.{drop-append-le, length-append, length-drop, map-append, take-append-le, take_all}
-use Rattle.std.proofs.lemmas.List.Elements.{All-cons, All-nil, All-head, All-tail, All-append, All-weaker}
-use Rattle.std.specs.List.{All, slice_range}
-use Rattle.btr_check_rules.specs.btr_reader.btr_keys.declared.key.Key.{Key}
-use Rattle.btr_check_names.specs.Lists.{IsWithin, entry_in, name_in}
-use Rattle.btr_check_rules.specs.Names.{IndexEntry}
 use Rattle.btr_check_names.specs.declared.name_list.NameAt.{NameAt}
 
 -- a part of some letters is the same with more behind them
@@ -61,5 +55,5 @@ pub names_within : (letters name all_letters : List ℕ) (names all_names : List
 names_within letters name all_letters names all_names n all letters_are start_is count_is names_are =
     let long = ap length letters_are ∙ length-append letters name in
     rw names_are (All-append (IsWithin (length all_letters)) names (n ∷ [])
-      (All-weaker (IsWithin (length letters)) (IsWithin (length all_letters)) (λ m within. omega arith) names all)
-      (All-cons (IsWithin (length all_letters)) n [] (omega arith) (All-nil (IsWithin (length all_letters)))))
+    (All-weaker (IsWithin (length letters)) (IsWithin (length all_letters)) (λ m within. omega arith) names all)
+    (All-cons (IsWithin (length all_letters)) n [] (omega arith) (All-nil (IsWithin (length all_letters)))))

@@ -1,16 +1,6 @@
 -- Elements that are marked, each once.
-use Rattle.std.proofs.Common.{◌≡◌, ◌≢◌, ◌≤◌, ℕ, zero, suc, ◌+◌, ◌<◌, Bool, true, false, cond, List, [], ◌∷◌, ◌++◌, length, get_or, filter, map, refl, sym, ap, ◌∙◌, subst, arith, append_assoc, if◌then◌else◌}
-use Rattle.std.proofs.Math.ListN.{set, replicate}
-use Rattle.std.proofs.lemmas.Bool.{cases_Bool, true≢false}
-use Rattle.std.proofs.lemmas.List.{get_or-map, get_or_append_left, length-append, length-map, map-append}
-use Rattle.std.proofs.lemmas.List.Elements.{Contains-append_right, Contains-append_left, filter-append}
-use Rattle.std.proofs.lemmas.List.Kept.{AllPairs-filter}
-use Rattle.std.proofs.lemmas.List.Sorted.{IsPermutation-refl, IsPermutation-sym, IsPermutation-cons, IsPermutation-trans, IsPermutation-to_front, IsPermutation-append_left, IsPermutation-append_right, IsPermutation-map, Contains-permutation, sum_by-IsPermutation, length_permutation}
-use Rattle.std.proofs.lemmas.List.Sums.{length-filter, sum_by-cons}
-use Rattle.std.specs.List.{AllPairs, Contains, count_by, sum_by}
-use Rattle.std.specs.List.Sorted.{IsPermutation}
+use Rattle.btr_check_names.proofs.Imports.{◌≡◌, ◌≢◌, ◌≤◌, ℕ, zero, suc, ◌+◌, ◌<◌, Bool, true, false, cond, List, [], ◌∷◌, ◌++◌, length, get_or, filter, map, refl, sym, ap, ◌∙◌, subst, arith, append_assoc, if◌then◌else◌, set, replicate, cases_Bool, true≢false, get_or-map, get_or_append_left, length-append, length-map, map-append, Contains-append_right, Contains-append_left, filter-append, AllPairs-filter, IsPermutation-refl, IsPermutation-sym, IsPermutation-cons, IsPermutation-trans, IsPermutation-to_front, IsPermutation-append_left, IsPermutation-append_right, IsPermutation-map, Contains-permutation, sum_by-IsPermutation, length_permutation, length-filter, sum_by-cons, AllPairs, Contains, count_by, sum_by, IsPermutation, IsTooMany, chosen}
 use Rattle.btr_check_names.proofs.Permuting.{AllPairs_permutation, Contains-here, Contains-later, Contains_filter, Contains_unfiltered, filter_permutation}
-use Rattle.btr_check_names.specs.Marks.{IsTooMany, chosen}
 
 -- ---- what can't be met
 
@@ -117,9 +107,9 @@ module _ {A B : Type 0} (q : A → Bool) (f : A → B) (marks : List Bool) (xs :
       let parts : filter q (chosen marks xs ++ x ∷ []) ≡ filter q (chosen marks xs) ++ x ∷ [] = filter-append q (chosen marks xs) (x ∷ []) ∙ ap (λ (b : Bool). filter q (chosen marks xs) ++ cond b (x ∷ []) []) passes in
       let values : map f (filter q (chosen marks xs ++ x ∷ [])) ≡ map f (filter q (chosen marks xs)) ++ f x ∷ [] = ap (map f) parts ∙ map-append f (filter q (chosen marks xs)) (x ∷ []) in
       let mapped : IsPermutation (map f (filter q (chosen (set marks i true) xs))) (map f (filter q (chosen marks xs)) ++ f x ∷ []) =
-          subst (IsPermutation (map f (filter q (chosen (set marks i true) xs)))) values (IsPermutation-map f _ _ more) in
+      subst (IsPermutation (map f (filter q (chosen (set marks i true) xs)))) values (IsPermutation-map f _ _ more) in
       let behind : IsPermutation (front ++ map f (filter q (chosen (set marks i true) xs))) ((front ++ map f (filter q (chosen marks xs))) ++ f x ∷ []) =
-          subst (IsPermutation (front ++ map f (filter q (chosen (set marks i true) xs)))) (sym (append_assoc front (map f (filter q (chosen marks xs))) (f x ∷ []))) (IsPermutation-append_right front _ _ mapped) in
+      subst (IsPermutation (front ++ map f (filter q (chosen (set marks i true) xs)))) (sym (append_assoc front (map f (filter q (chosen marks xs))) (f x ∷ []))) (IsPermutation-append_right front _ _ mapped) in
       IsPermutation-trans _ _ _ behind (IsPermutation-append_left (f x ∷ []) _ _ before)
 
   pub met_one : (front met : List B) (i : ℕ) (d : A) (e : Bool) → i < length xs → get_or marks i e ≡ true → q (get_or xs i d) ≡ true
@@ -146,7 +136,7 @@ module _ {A B : Type 0} (q : A → Bool) (f : A → B) (p : B → Bool) where
       by : (count_by p (map f (filter q xs)) ≡ sum_by weight xs) → (b : Bool) → q x ≡ b → count_by p (map f (cond (q x) (x ∷ filter q xs) (filter q xs))) ≡ sum_by weight (x ∷ xs)
       by later true is =
           let left : count_by p (map f (cond (q x) (x ∷ filter q xs) (filter q xs))) ≡ cond (p (f x)) 1 0 + count_by p (map f (filter q xs)) =
-              ap (λ (b : Bool). count_by p (map f (cond b (x ∷ filter q xs) (filter q xs)))) is ∙ sum_by-cons (λ y. cond (p y) 1 0) (f x) (map f (filter q xs)) in
+          ap (λ (b : Bool). count_by p (map f (cond b (x ∷ filter q xs) (filter q xs)))) is ∙ sum_by-cons (λ y. cond (p y) 1 0) (f x) (map f (filter q xs)) in
           let one : weight x ≡ cond (p (f x)) 1 0 = ap (λ (b : Bool). cond b (cond (p (f x)) 1 0) 0) is in
           omega (arith, left, sum_by-cons weight x xs, one, later)
       by later false is =

@@ -1,23 +1,10 @@
 -- What was met of a table, and what was not.
-use Rattle.std.proofs.Common.{◌≡◌, ◌≢◌, ℕ, ◌+◌, ◌<◌, ◌≤◌, Bool, true, false, cond, List, [], ◌∷◌, ◌++◌, length, map, get_or, filter, refl, sym, ap, ◌∙◌, subst, arith, Some, eq-eqb, if◌then◌else◌, ◌==◌, ◌&&◌}
-use Rattle.std.proofs.Math.ListN.{set}
-use Rattle.std.proofs.lemmas.Bool.{true≢false}
-use Rattle.std.proofs.lemmas.List.Elements.{Contains-append_left}
-use Rattle.std.proofs.lemmas.List.Sorted.{Contains-permutation, IsPermutation-append_left, IsPermutation-cons, IsPermutation-sym, IsPermutation-to_front, IsPermutation-trans}
-use Rattle.std.proofs.lemmas.List.Sums.{sum_by-append, sum_by-cons}
-use Rattle.std.proofs.lemmas.Option.{get_or_from_slice_get, slice_get-get_or, slice_get_within}
-use Rattle.std.specs.Bool.{Decides}
-use Rattle.std.specs.List.{Contains, count_by, slice_get}
-use Rattle.std.specs.List.Sorted.{IsPermutation}
-use Rattle.btr_check_rules.specs.btr_reader.btr_keys.declared.key.Key.{Key}
+use Rattle.btr_check_names.proofs.Imports.{◌≡◌, ◌≢◌, ℕ, ◌+◌, ◌<◌, ◌≤◌, Bool, true, false, cond, List, [], ◌∷◌, ◌++◌, length, map, get_or, filter, refl, sym, ap, ◌∙◌, subst, arith, Some, eq-eqb, if◌then◌else◌, ◌==◌, ◌&&◌, set, true≢false, Contains-append_left, Contains-permutation, IsPermutation-append_left, IsPermutation-cons, IsPermutation-sym, IsPermutation-to_front, IsPermutation-trans, sum_by-append, sum_by-cons, get_or_from_slice_get, slice_get-get_or, slice_get_within, Decides, Contains, count_by, slice_get, IsPermutation, Key, IsTooMany, chosen, BackName, IndexEntry, NamedEntry, back_name, entries_in, names_inode_item, names_of, own_name, AreNames, IsNamedAt, NamesMet, back_names, given, hashed_of, named, own_names, told_of}
 use Rattle.btr_check_rules.specs.btr_reader.btr_reader_walk.btr_keys.btrfs_format.declared.key.TheConstants.{INODE_ITEM}
 use Rattle.btr_check_rules.specs.btr_reader.btr_reader_walk.btr_keys.btrfs_format.declared.object.TheConstants.{FIRST_FREE_OBJECTID}
 use Rattle.btr_check_names.proofs.Marking.{absent, chosen_all, marked_one, met_before, met_one, no_more, not_same, short_of}
 use Rattle.btr_check_names.proofs.Noting.{filter_true, given_once, named_once, not_given, other_entry, other_name}
 use Rattle.btr_check_names.proofs.Permuting.{Contains-here, any_of, get_or_any}
-use Rattle.btr_check_names.specs.Marks.{IsTooMany, chosen}
-use Rattle.btr_check_rules.specs.Names.{BackName, IndexEntry, NamedEntry, back_name, entries_in, names_inode_item, names_of, own_name}
-use Rattle.btr_check_names.specs.Table.{AreNames, IsNamedAt, NamesMet, back_names, given, hashed_of, named, own_names, told_of}
 
 -- ---- values with the same fields
 
@@ -36,7 +23,6 @@ same_name a b inode dir index name =
     make i d k n = record { inode = i; dir = d; index = k; name = n }
 
 -- ---- dir items
-
 
 -- an entry is that of a dir item, where both tell the same
 module _ (t : NamesMet) (x : NamedEntry) (i : ℕ) (at : IsNamedAt t.entries x.dir x.name i) (r : Bool)

@@ -1,19 +1,7 @@
 -- Which entries and names may be noted.
-use Rattle.std.proofs.Common.{◌≡◌, ◌≢◌, ℕ, zero, suc, ◌+◌, ◌<◌, ◌≤◌, ◌⊎◌, inl, inr, ⊎_elim, Bool, true, false, cond, List, [], ◌∷◌, ◌++◌, length, map, get_or, filter, refl, sym, ap, ◌∙◌, subst, arith, Some, eq-eqb}
-use Rattle.std.proofs.Math.ListN.{set}
-use Rattle.std.proofs.lemmas.Bool.{cases_eq, cases_lt}
-use Rattle.std.proofs.lemmas.List.{get_or-map, length-map}
-use Rattle.std.proofs.lemmas.List.Elements.{All-contains, All-filter, All-map, All-weaker, filter_passes}
-use Rattle.std.proofs.lemmas.List.Kept.{AllPairs-cons, AllPairs-filter}
-use Rattle.std.proofs.lemmas.List.Sorted.{IsPermutation-refl}
-use Rattle.std.proofs.lemmas.Option.{get_or_from_slice_get, slice_get_within}
-use Rattle.std.specs.List.{All, AllPairs, Contains, slice_get}
-use Rattle.std.specs.List.Sorted.{IsPermutation}
+use Rattle.btr_check_names.proofs.Imports.{◌≡◌, ◌≢◌, ℕ, zero, suc, ◌+◌, ◌<◌, ◌≤◌, ◌⊎◌, inl, inr, ⊎_elim, Bool, true, false, cond, List, [], ◌∷◌, ◌++◌, length, map, get_or, filter, refl, sym, ap, ◌∙◌, subst, arith, Some, eq-eqb, set, cases_eq, cases_lt, get_or-map, length-map, All-contains, All-filter, All-map, All-weaker, filter_passes, AllPairs-cons, AllPairs-filter, IsPermutation-refl, get_or_from_slice_get, slice_get_within, All, AllPairs, Contains, slice_get, IsPermutation, IsTooMany, chosen, BackName, DifferInName, IndexEntry, NamedEntry, back_name, names_inode_item, own_name, AreNames, HasName, IsNamedAt, NoneNamedBut, back_names, given, named}
 use Rattle.btr_check_names.proofs.Marking.{absent, chosen_all, marked_one, met_before, met_one, not_same, short_of}
 use Rattle.btr_check_names.proofs.Permuting.{Contains_unfiltered, any_of, get_or_any}
-use Rattle.btr_check_names.specs.Marks.{IsTooMany, chosen}
-use Rattle.btr_check_rules.specs.Names.{BackName, DifferInName, IndexEntry, NamedEntry, back_name, names_inode_item, own_name}
-use Rattle.btr_check_names.specs.Table.{AreNames, HasName, IsNamedAt, NoneNamedBut, back_names, given, named}
 
 -- ---- elements of lists of values
 
@@ -53,9 +41,9 @@ module _ (entries : List IndexEntry) (once : AllPairs DifferInName entries) wher
       let names : e.entry.name ≡ f.entry.name = at.2.1 ∙ sym same.1 in
       ⊎_elim (λ is. sym has.2 ∙ (ap (λ (k : ℕ). get_or entries k f) (sym is) ∙ here))
       (λ apart. ⊎_elim
-        (λ less. absurd (pairs_differ i has.0 f e f less has.1 here has.2 (dirs, names)))
-        (λ not_less. absurd (pairs_differ has.0 i f f e (below i has.0 apart not_less) within has.2 here (sym dirs, sym names)))
-        (cases_lt i has.0))
+      (λ less. absurd (pairs_differ i has.0 f e f less has.1 here has.2 (dirs, names)))
+      (λ not_less. absurd (pairs_differ has.0 i f f e (below i has.0 apart not_less) within has.2 here (sym dirs, sym names)))
+      (cases_lt i has.0))
       (cases_eq i has.0)
     where
       below : (i j : ℕ) → (i ≡ j → ⊥) → j ≤ i → j < i
@@ -84,7 +72,7 @@ pub given_once : (entries : List IndexEntry) → AreNames entries → AllPairs �
 given_once entries are =
     AllPairs-cons ◌≢◌ own_name (back_names entries)
     (All-map (λ (n : BackName). own_name ≢ n) back_name (filter names_inode_item entries)
-      (All-weaker (λ (e : IndexEntry). 1 ≤ e.index) (λ (e : IndexEntry). own_name ≢ back_name e) not_own (filter names_inode_item entries) (All-filter names_inode_item (λ (e : IndexEntry). 1 ≤ e.index) entries are.indexed)))
+    (All-weaker (λ (e : IndexEntry). 1 ≤ e.index) (λ (e : IndexEntry). own_name ≢ back_name e) not_own (filter names_inode_item entries) (All-filter names_inode_item (λ (e : IndexEntry). 1 ≤ e.index) entries are.indexed)))
     (pairs_map DifferInName ◌≢◌ back_name (λ a b differ is. differ (ap (λ (n : BackName). n.dir) is, ap (λ (n : BackName). n.name) is)) (filter names_inode_item entries) (AllPairs-filter DifferInName names_inode_item entries are.once))
   where
     not_own : (e : IndexEntry) → 1 ≤ e.index → own_name ≢ back_name e

@@ -1,14 +1,6 @@
 -- Lists in another order.
-use Rattle.std.proofs.Common.{◌≡◌, ◌≢◌, eqb, eq-eqb, ne_eqb, ℕ, zero, suc, ◌<◌, ◌⊎◌, inl, inr, ⊎_elim, Bool, true, false, cond, List, [], ◌∷◌, ◌++◌, length, get_or, filter, refl, sym, ap, ◌∙◌, subst, arith, if◌then◌else◌}
-use Rattle.std.proofs.Math.ListN.{set}
-use Rattle.std.proofs.lemmas.Bool.Decides.{nat_tests}
-use Rattle.std.proofs.lemmas.List.Elements.{All-contains, All-contains_itself, All-filter, All-from_recursion}
-use Rattle.std.specs.List.{AllByRecursion}
-use Rattle.std.proofs.lemmas.Bool.{cases_Bool, cases_eq, cases_lt}
+use Rattle.btr_check_names.proofs.Imports.{◌≡◌, ◌≢◌, eqb, eq-eqb, ne_eqb, ℕ, zero, suc, ◌<◌, ◌⊎◌, inl, inr, ⊎_elim, Bool, true, false, cond, List, [], ◌∷◌, ◌++◌, length, get_or, filter, refl, sym, ap, ◌∙◌, subst, arith, if◌then◌else◌, set, nat_tests, All-contains, All-contains_itself, All-filter, All-from_recursion, AllByRecursion, AllPairs, Contains, swap, cases_Bool, cases_eq, cases_lt, IsPermutation-refl, IsPermutation-sym, IsPermutation-cons, IsPermutation-trans, IsPermutation-to_front, IsPermutation-keeps, IsPermutation-middle, length_permutation, IsPermutation}
 use Rattle.std.proofs.lemmas.List.Edits.{Swapped, length-swap, swap_is, swapped_from_swap}
-use Rattle.std.proofs.lemmas.List.Sorted.{IsPermutation-refl, IsPermutation-sym, IsPermutation-cons, IsPermutation-trans, IsPermutation-to_front, IsPermutation-keeps, IsPermutation-middle, length_permutation}
-use Rattle.std.specs.List.{AllPairs, Contains, swap}
-use Rattle.std.specs.List.Sorted.{IsPermutation}
 
 -- an element of a list that is not empty
 pub any_of : {A : Type 0} (xs : List A) (i : ℕ) → i < length xs → A
@@ -77,7 +69,6 @@ module _ {A : Type 0} (R : A → A → Type 0) (turned : (a b : A) → R a b →
   any_two : (xs : List A) → AllPairs R xs → (i j : ℕ) (d : A) → i ≢ j → i < length xs → j < length xs → R (get_or xs i d) (get_or xs j d)
   any_two xs pairs i j d other within_i within_j =
       ⊎_elim (λ less. pairs i j d less within_j) (λ not_less. let more : j < i = omega arith in turned _ _ (pairs j i d more within_i)) (cases_lt i j)
-
 
   -- where an element stood before two were exchanged
   source : ℕ → ℕ → ℕ → ℕ

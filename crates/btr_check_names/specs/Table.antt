@@ -1,6 +1,5 @@
 -- The names of a file tree, and which of them were met again.
 use Rattle.std.specs.Prelude.{◌≡◌, ◌≢◌, ◌≤◌, ◌<◌, ℕ, ◌++◌, Bool, false, List, [], ◌∷◌, length, map, filter, replicate, slice_get, Some, All, AllPairs, if◌then◌else◌}
-
 use Rattle.std.specs.List.Sorted.{IsPermutation}
 use Rattle.btr_check_names.specs.Hashes.{hashes_from}
 use Rattle.btr_check_names.specs.Marks.{chosen}

@@ -5,8 +5,8 @@ ghost use Rattle.std.specs.Ordering.{is_lt, is_le, nat_cmp};
 ghost use Rattle.btr_check_names.specs.Hashes.{AscendByHash, has_hash, hashes_from};
 
 use crate::name_list::NameList;
-use castagnoli::extref_hash;
 use btr_check_rules::btr_reader::btr_reader_walk::Memory;
+use castagnoli::extref_hash;
 use std::alloc::Global;
 use std::marker::Model;
 

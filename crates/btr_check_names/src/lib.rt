@@ -4,7 +4,9 @@
 
 mod hashes;
 mod name_list;
+mod rings;
 mod table;
 
 pub use name_list::NameList;
+pub use rings::ring;
 pub use table::{NameTable, names_inode};

@@ -4,8 +4,8 @@ ghost use Rattle.btr_check_rules.specs.btr_reader.btr_keys.DirEntry.{dir_entry_v
 ghost use Rattle.btr_check_names.specs.Lists.{entry_by};
 ghost use Rattle.btr_check_rules.specs.Names.{IndexEntry};
 
-use btr_check_rules::btr_reader::btr_reader_walk::btr_keys::{DirEntry, Key};
 use btr_check_rules::btr_reader::btr_reader_walk::Memory;
+use btr_check_rules::btr_reader::btr_reader_walk::btr_keys::{DirEntry, Key};
 use std::alloc::Global;
 use std::marker::Model;
 

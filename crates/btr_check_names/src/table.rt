@@ -12,11 +12,11 @@ ghost use Rattle.btr_check_names.specs.Table.{AreNames, HasName, IsNamedAt, Name
 
 use crate::hashes::HashIndex;
 use crate::name_list::NameList;
+use btr_check_rules::btr_reader::btr_reader_walk::Memory;
 use btr_check_rules::btr_reader::btr_reader_walk::btr_keys::btrfs_format::key::INODE_ITEM;
 use btr_check_rules::btr_reader::btr_reader_walk::btr_keys::btrfs_format::object::FIRST_FREE_OBJECTID;
 use btr_check_rules::btr_reader::btr_reader_walk::btr_keys::{DirEntry, Key};
 use castagnoli::extref_hash;
-use btr_check_rules::btr_reader::btr_reader_walk::Memory;
 use std::alloc::Global;
 use std::marker::Model;
 

@@ -1,7 +1,5 @@
-use Rattle.std.specs.Ordering.{nat_cmp}
-use Rattle.fs_paths.proofs.Middle.{in_order, middle_is}
+use Rattle.btr_check_names.proofs.Imports.{nat_cmp, in_order, middle_is, has_hash}
 use Rattle.btr_check_names.proofs.Hashing.{same_cmp}
-use Rattle.btr_check_names.specs.Hashes.{has_hash}
 use Rattle.btr_check_names.proofs.hashes.bounds_of.Goals as goal
 
 pub returns-clause-ordered : goal.returns-clause-ordered

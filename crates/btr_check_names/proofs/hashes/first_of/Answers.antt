@@ -1,7 +1,4 @@
-use Rattle.std.proofs.Common.{rules}
-use Rattle.std.proofs.lemmas.List.Sorted.{IsPartitionPoint-from_clause}
-use Rattle.std.specs.Ordering.{is_lt, nat_cmp}
-use Rattle.fs_paths.proofs.Middle.{parted_lt}
+use Rattle.btr_check_names.proofs.Imports.{rules, IsPartitionPoint-from_clause, is_lt, nat_cmp, parted_lt}
 use Rattle.btr_check_names.proofs.Hashing.{rises}
 use Rattle.btr_check_names.proofs.hashes.first_of.Goals as goal
 

@@ -1,4 +1,4 @@
-use Rattle.std.proofs.Common.{rules, arith}
+use Rattle.btr_check_names.proofs.Imports.{rules, arith}
 use Rattle.btr_check_names.proofs.Hashing.{hash_next}
 use Rattle.btr_check_names.proofs.hashes.hashes_of.Goals as goal
 

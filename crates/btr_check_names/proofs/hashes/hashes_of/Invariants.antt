@@ -1,5 +1,4 @@
-use Rattle.std.proofs.Common.{◌≡◌, take}
-use Rattle.btr_check_names.specs.Hashes.{hashes_from}
+use Rattle.btr_check_names.proofs.Imports.{◌≡◌, take, hashes_from}
 use Rattle.btr_check_names.proofs.hashes.hashes_of.Given as goal
 
 abbrev pub invariant-loop-i : goal.invariant-loop-i

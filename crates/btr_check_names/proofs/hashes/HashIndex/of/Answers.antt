@@ -1,5 +1,4 @@
-use Rattle.std.proofs.Common.{rules}
-use Rattle.std.proofs.lemmas.List.Sorted.{answers_always}
+use Rattle.btr_check_names.proofs.Imports.{rules, answers_always}
 use Rattle.btr_check_names.proofs.hashes.HashIndex.of.Goals as goal
 
 pub invariant_of-result : goal.invariant_of-result

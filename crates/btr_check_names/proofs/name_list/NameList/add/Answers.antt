@@ -1,8 +1,5 @@
-use Rattle.std.proofs.Common.{rules, List, [], ◌∷◌, ◌++◌, ap, ◌∙◌}
-use Rattle.btr_check_rules.specs.btr_reader.btr_keys.DirEntry.{dir_entry_value}
+use Rattle.btr_check_names.proofs.Imports.{rules, List, [], ◌∷◌, ◌++◌, ap, ◌∙◌, dir_entry_value, entry_by, IndexEntry}
 use Rattle.btr_check_names.proofs.Listing.{entry_added}
-use Rattle.btr_check_names.specs.Lists.{entry_by}
-use Rattle.btr_check_rules.specs.Names.{IndexEntry}
 use Rattle.btr_check_names.proofs.name_list.NameList.add.Goals as goal
 
 pub returns : goal.returns

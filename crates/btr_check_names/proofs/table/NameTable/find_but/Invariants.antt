@@ -1,5 +1,5 @@
-use Rattle.std.proofs.Common.{◌≢◌, take, All}
-use Rattle.btr_check_names.specs.Table.{IsNamedAt}
+use Rattle.btr_check_names.proofs.Imports.{◌≢◌, take, IsNamedAt}
+use Rattle.std.proofs.Common.{All}
 use Rattle.btr_check_names.proofs.table.NameTable.find_but.Given as goal
 
 abbrev pub invariant-loop-k : goal.invariant-loop-k

@@ -1,11 +1,6 @@
-use Rattle.std.proofs.Common.{◌≡◌, ◌≤◌, ℕ, ap, length, arith, List}
-use Rattle.std.specs.List.Sorted.{IsPermutation}
-use Rattle.btr_check_rules.specs.btr_reader.btr_keys.DirEntry.{dir_entry_value}
+use Rattle.btr_check_names.proofs.Imports.{◌≡◌, ◌≤◌, ℕ, ap, length, arith, List, IsPermutation, dir_entry_value, entry_by, NamedEntry, NamesMet, named}
 use Rattle.btr_check_names.proofs.Marking.{absent}
 use Rattle.btr_check_names.proofs.Noting.{no_entry}
-use Rattle.btr_check_names.specs.Lists.{entry_by}
-use Rattle.btr_check_rules.specs.Names.{NamedEntry}
-use Rattle.btr_check_names.specs.Table.{NamesMet, named}
 use Rattle.btr_check_names.proofs.table.NameTable.note_hashed.Goals as goal
 
 pub returns-in-Some-clause-noted : goal.returns-in-Some-clause-noted

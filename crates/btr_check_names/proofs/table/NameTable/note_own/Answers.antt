@@ -1,8 +1,5 @@
-use Rattle.std.proofs.Common.{sym, subst, ap, ◌∙◌}
-use Rattle.std.specs.List.Sorted.{IsPermutation}
+use Rattle.btr_check_names.proofs.Imports.{sym, subst, ap, ◌∙◌, IsPermutation, chosen, NamesMet, back_names, told_of}
 use Rattle.btr_check_names.proofs.Meeting.{own_again, own_first}
-use Rattle.btr_check_names.specs.Marks.{chosen}
-use Rattle.btr_check_names.specs.Table.{NamesMet, back_names, told_of}
 use Rattle.btr_check_names.proofs.table.NameTable.note_own.Goals as goal
 
 pub returns-then-self-clause-noted : goal.returns-then-self-clause-noted

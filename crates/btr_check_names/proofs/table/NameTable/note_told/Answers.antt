@@ -1,10 +1,6 @@
-use Rattle.std.proofs.Common.{◌≡◌, ◌≤◌, ℕ, ap, sym, ◌∙◌, length, arith, List}
-use Rattle.std.proofs.lemmas.Bool.{true≢false}
-use Rattle.std.specs.List.Sorted.{IsPermutation}
+use Rattle.btr_check_names.proofs.Imports.{◌≡◌, ◌≤◌, ℕ, ap, sym, ◌∙◌, length, arith, List, true≢false, IsPermutation, BackName, NamesMet, given}
 use Rattle.btr_check_names.proofs.Marking.{absent}
 use Rattle.btr_check_names.proofs.Noting.{no_name, not_given}
-use Rattle.btr_check_rules.specs.Names.{BackName}
-use Rattle.btr_check_names.specs.Table.{NamesMet, given}
 use Rattle.btr_check_names.proofs.table.NameTable.note_told.Goals as goal
 
 pub returns-in-Some-clause-noted : goal.returns-in-Some-clause-noted

@@ -1,8 +1,5 @@
-use Rattle.std.proofs.Common.{rules, ◌≡◌, ℕ, List, Some, get_or, arith, below_more, subst, ap, sym, ◌∙◌, length}
-use Rattle.std.specs.List.{slice_get}
+use Rattle.btr_check_names.proofs.Imports.{rules, ◌≡◌, ℕ, List, Some, get_or, arith, below_more, subst, ap, sym, ◌∙◌, length, slice_get, IndexEntry, NamesMet, NoneNamedBut}
 use Rattle.btr_check_names.proofs.Finding.{all_once, stands_once, stands_twice}
-use Rattle.btr_check_rules.specs.Names.{IndexEntry}
-use Rattle.btr_check_names.specs.Table.{NamesMet, NoneNamedBut}
 use Rattle.btr_check_names.proofs.table.NameTable.repeated.Goals as goal
 
 pub returns-then-is_some : goal.returns-then-is_some

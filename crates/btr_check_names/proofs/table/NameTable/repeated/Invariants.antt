@@ -1,6 +1,4 @@
-use Rattle.std.proofs.Common.{◌<◌, ℕ, slice_index_or}
-use Rattle.btr_check_rules.specs.Names.{IndexEntry}
-use Rattle.btr_check_names.specs.Table.{NoneNamedBut}
+use Rattle.btr_check_names.proofs.Imports.{◌<◌, ℕ, slice_index_or, IndexEntry, NoneNamedBut}
 use Rattle.btr_check_names.proofs.table.NameTable.repeated.Given as goal
 
 abbrev pub invariant-loop-i : goal.invariant-loop-i

@@ -1,8 +1,5 @@
-use Rattle.std.proofs.Common.{◌≡◌, Bool, Some, ap, sym, subst, ◌∙◌, length, true, get_or, arith, List}
-use Rattle.std.specs.List.{slice_get}
+use Rattle.btr_check_names.proofs.Imports.{◌≡◌, Bool, Some, ap, sym, subst, ◌∙◌, length, true, get_or, arith, List, slice_get, IndexEntry, NamesMet}
 use Rattle.btr_check_names.proofs.Meeting.{item_missing, items_met}
-use Rattle.btr_check_rules.specs.Names.{IndexEntry}
-use Rattle.btr_check_names.specs.Table.{NamesMet}
 use Rattle.btr_check_names.proofs.table.NameTable.without_item.Goals as goal
 
 pub returns-then-not-index : goal.returns-then-not-index

@@ -1,5 +1,4 @@
-use Rattle.std.proofs.Common.{◌≡◌, ◌<◌, ℕ, Bool, true, slice_index_or}
-use Rattle.btr_check_rules.specs.Names.{IndexEntry, names_inode_item}
+use Rattle.btr_check_names.proofs.Imports.{◌≡◌, ◌<◌, ℕ, Bool, true, slice_index_or, IndexEntry, names_inode_item}
 use Rattle.btr_check_names.proofs.table.NameTable.without_ref.Given as goal
 
 abbrev pub invariant-loop-i : goal.invariant-loop-i
