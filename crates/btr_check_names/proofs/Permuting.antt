@@ -1,5 +1,6 @@
 -- Lists in another order.
-use Rattle.btr_check_names.proofs.Imports.{◌≡◌, ◌≢◌, eqb, eq-eqb, ne_eqb, ℕ, zero, suc, ◌<◌, ◌⊎◌, inl, inr, ⊎_elim, Bool, true, false, cond, List, [], ◌∷◌, ◌++◌, length, get_or, filter, refl, sym, ap, ◌∙◌, subst, arith, if◌then◌else◌, set, nat_tests, All-contains, All-contains_itself, All-filter, All-from_recursion, AllByRecursion, AllPairs, Contains, swap, cases_Bool, cases_eq, cases_lt, IsPermutation-refl, IsPermutation-sym, IsPermutation-cons, IsPermutation-trans, IsPermutation-to_front, IsPermutation-keeps, IsPermutation-middle, length_permutation, IsPermutation}
+use Rattle.btr_check_names.proofs.Imports.{◌≡◌, ◌≢◌, eqb, eq-eqb, ℕ, zero, suc, ◌<◌, ◌⊎◌, inl, inr, ⊎_elim, Bool, true, false, cond, List, [], ◌∷◌, ◌++◌, length, get_or, filter, refl, sym, ap, ◌∙◌, subst, arith, if◌then◌else◌, set, nat_tests, All-contains, All-contains_itself, All-filter, All-from_recursion, AllByRecursion, AllPairs, Contains, swap, cases_Bool, cases_eq, cases_lt, IsPermutation-refl, IsPermutation-sym, IsPermutation-cons, IsPermutation-trans, IsPermutation-to_front, IsPermutation-keeps, IsPermutation-middle, length_permutation, IsPermutation}
+use Rattle.std.proofs.Common.{ne_eqb}
 use Rattle.std.proofs.lemmas.List.Edits.{Swapped, length-swap, swap_is, swapped_from_swap}
 
 -- an element of a list that is not empty

@@ -1,7 +1,5 @@
-use Rattle.std.proofs.Common.{◌≡◌, ◌≢◌, ◌<◌, ◌+◌, ℕ, List, ◌++◌, length, take, drop, below_more, slice_index, subst, sym, ap, ◌∙◌, arith}
-use Rattle.std.proofs.lemmas.List.{length-replicate}
+use Rattle.btr_check_names.proofs.Imports.{◌≡◌, ◌≢◌, ◌<◌, ◌+◌, ℕ, List, ◌++◌, length, take, drop, below_more, slice_index, subst, sym, ap, ◌∙◌, arith, length-replicate, AreEnded}
 use Rattle.btr_check_names.proofs.Ways.{given_back, none_ended}
-use Rattle.btr_check_names.specs.Rings.{AreEnded}
 use Rattle.btr_check_names.proofs.rings.ring.Goals as goal
 
 pub loop-start-init : goal.loop-start-init
@@ -21,6 +19,6 @@ loop-start-preserved c =
       long = ap length same ∙ omega (arith, c.walk.auto.met, count, c.loop-start.invariant.long);
       ended = subst (λ (l : List ℕ). AreEnded c.args.above.now l (c.loop-start.start + 1)) (sym same) own.0;
       all = below_more (λ k. slice_index (take c.loop-start.met.len (c.walk.new.met ++ drop (length c.walk.new.met) c.loop-start.met.items)) k ≢ 0) c.loop-start.start
-        (λ k less. subst (λ (l : List ℕ). slice_index l k ≢ 0) (sym same) (own.2 k (subst (λ (l : List ℕ). slice_index l k ≢ 0) (sym value) (c.loop-start.invariant.all k less))))
-        (subst (λ (l : List ℕ). slice_index l c.loop-start.start ≢ 0) (sym same) own.1);
+          (λ k less. subst (λ (l : List ℕ). slice_index l k ≢ 0) (sym same) (own.2 k (subst (λ (l : List ℕ). slice_index l k ≢ 0) (sym value) (c.loop-start.invariant.all k less))))
+          (subst (λ (l : List ℕ). slice_index l c.loop-start.start ≢ 0) (sym same) own.1);
     }

@@ -1,5 +1,4 @@
-use Rattle.std.proofs.Common.{◌≡◌, ◌≢◌, ◌<◌, ℕ, length, slice_index}
-use Rattle.btr_check_names.specs.Rings.{AreEnded}
+use Rattle.btr_check_names.proofs.Imports.{◌≡◌, ◌≢◌, ◌<◌, ℕ, length, slice_index, AreEnded}
 use Rattle.btr_check_names.proofs.rings.ring.Given as goal
 
 abbrev pub invariant-loop-start : goal.invariant-loop-start

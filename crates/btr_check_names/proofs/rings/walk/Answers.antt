@@ -1,6 +1,5 @@
-use Rattle.std.proofs.Common.{◌≡◌, ◌≢◌, ℕ, length, slice_index_or, None, Some, subst, arith, refl, List}
+use Rattle.btr_check_names.proofs.Imports.{◌≡◌, ◌≢◌, ℕ, length, slice_index_or, None, Some, subst, arith, refl, List, AreOnWay, IsBegun, IsPlace}
 use Rattle.btr_check_names.proofs.Ways.{all_end, begun_here, begun_more, is_ring, kept_more, on_more, place_above, top_begun, top_ends}
-use Rattle.btr_check_names.specs.Rings.{AreOnWay, IsBegun, IsPlace}
 use Rattle.btr_check_names.proofs.rings.walk.Goals as goal
 
 pub returns-then-met-i : goal.returns-then-met-i
@@ -10,8 +9,7 @@ returns-then-met-i c =
 
 pub returns-then-met-i-ne0 : goal.returns-then-met-i-ne0
 returns-then-met-i-ne0 c =
-    let within = subst (IsPlace (length c.args.above.now)) c.in-Some.is c.loop-at.invariant.place in
-    (
+    let within = subst (IsPlace (length c.args.above.now)) c.in-Some.is c.loop-at.invariant.place in (
       all_end c.args.above.now c.loop-at.met c.args.start c.in-Some.i (omega arith) within c.if-met-i-ne0.true c.if-met-i.false (subst (AreOnWay c.args.above.now c.loop-at.met c.args.start) c.in-Some.is c.loop-at.invariant.on),
       begun_here c.args.above.now c.loop-at.met c.args.start c.in-Some.i (omega arith) within c.if-met-i-ne0.true (subst (IsBegun c.loop-at.met c.args.start) c.in-Some.is c.loop-at.invariant.begun),
       c.loop-at.invariant.kept,

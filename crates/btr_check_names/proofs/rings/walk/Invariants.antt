@@ -1,5 +1,5 @@
-use Rattle.std.proofs.Common.{◌≡◌, ◌≢◌, ℕ, ◌==◌, length, count_by, slice_index}
-use Rattle.btr_check_names.specs.Rings.{AreOnWay, IsBegun, IsPlace}
+use Rattle.btr_check_names.proofs.Imports.{◌≡◌, ◌≢◌, ℕ, ◌==◌, length, slice_index, AreOnWay, IsBegun, IsPlace}
+use Rattle.std.proofs.Common.{count_by}
 use Rattle.btr_check_names.proofs.rings.walk.Given as goal
 
 abbrev pub invariant-loop-at : goal.invariant-loop-at
