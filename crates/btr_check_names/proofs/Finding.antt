@@ -1,7 +1,6 @@
 -- Entries that are found by the hashes of their names.
-use Rattle.btr_check_names.proofs.Imports.{◌≡◌, ◌≢◌, ℕ, ◌+◌, ◌<◌, ◌≤◌, ◌⊎◌, inl, inr, ⊎_elim, Bool, true, false, List, [], ◌∷◌, length, get_or, filter, refl, sym, ap, ◌∙◌, subst, arith, Option, Some, None, eq-eqb, cases_lt, true≢false, All-contains, All-filter, All-get_or, All-weaker, All-permutation, Contains-permutation, get_or_from_slice_get, slice_get-get_or, slice_get_within, Decides, All, AllPairs, Contains, slice_get, IsPermutation, extref_hash, has_hash, hash_at, hashes_from, DifferInName, IndexEntry, dir_of, HasName, IsNamedAt, NoneNamedBut, HashAt}
-use Rattle.std.specs.Option.{MatchOption, is_some}
-use Rattle.btr_check_rules.specs.Recount.{PairsAt}
+use Rattle.btr_check_names.proofs.Imports.{◌≡◌, ◌≢◌, ℕ, ◌+◌, ◌<◌, ◌≤◌, ◌⊎◌, inl, inr, ⊎_elim, Bool, true, false, List, [], ◌∷◌, length, get_or, filter, refl, sym, ap, ◌∙◌, subst, arith, Option, Some, None, eq-eqb, cases_lt, true≢false, All-contains, All-filter, All-get_or, All-weaker, All-permutation, Contains-permutation, get_or_from_slice_get, slice_get-get_or, slice_get_within, Decides, AllPairs, Contains, slice_get, IsPermutation, extref_hash, has_hash, hash_at, hashes_from, DifferInName, IndexEntry, dir_of, HasName, IsNamedAt, NoneNamedBut, HashAt, MatchOption, is_some, PairsAt}
+use Rattle.std.specs.List.{All}
 use Rattle.btr_check_names.proofs.Hashing.{hash_there, numbers_within}
 use Rattle.btr_check_names.proofs.Permuting.{Contains_filter, any_of}
 

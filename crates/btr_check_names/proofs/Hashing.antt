@@ -1,5 +1,6 @@
 -- The hashes of the names of entries.
-use Rattle.btr_check_names.proofs.Imports.{◌≡◌, ℕ, zero, suc, ◌+◌, ◌<◌, Bool, List, [], ◌∷◌, ◌++◌, length, get_or, take, nat_eq, refl, sym, ap, ◌∙◌, subst, arith, Some, extref_hash, length-take-le, take_more, slice_get-get_or, slice_get, All, Contains, nat_tests, All-contains, All-cons, All-nil, All-weaker, searchable_from_sorted, All-permutation, Contains-permutation, IsNonDecreasingBy, IsPermutation, is_eq, nat_cmp, ordering_index, AscendByHash, hash_at, hashes_from, IndexEntry, HashAt}
+use Rattle.btr_check_names.proofs.Imports.{◌≡◌, ℕ, zero, suc, ◌+◌, ◌<◌, Bool, List, [], ◌∷◌, ◌++◌, length, get_or, take, nat_eq, refl, sym, ap, ◌∙◌, subst, arith, Some, extref_hash, length-take-le, take_more, slice_get-get_or, slice_get, Contains, nat_tests, All-contains, All-cons, All-nil, All-weaker, searchable_from_sorted, All-permutation, Contains-permutation, IsNonDecreasingBy, IsPermutation, is_eq, nat_cmp, ordering_index, AscendByHash, hash_at, hashes_from, IndexEntry, HashAt}
+use Rattle.std.specs.List.{All}
 use Rattle.std.proofs.lemmas.Cmp.{nat_cmp_total}
 use Rattle.btr_check_names.proofs.Permuting.{Contains-here, Contains-later, any_of}
 

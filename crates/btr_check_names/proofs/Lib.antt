@@ -5,5 +5,7 @@ pub mod Listing
 pub mod Marking
 pub mod Meeting
 pub mod Noting
+pub mod Numbering
 pub mod Permuting
+pub mod Standing
 pub mod Ways

@@ -1,5 +1,6 @@
 -- Names among the letters of all.
-use Rattle.btr_check_names.proofs.Imports.{◌≡◌, ◌≤◌, ℕ, ◌+◌, ◌-◌, ◌<◌, List, [], ◌∷◌, ◌++◌, length, take, drop, map, refl, sym, ap, ◌∙◌, arith, drop-append-le, length-append, length-drop, map-append, take-append-le, take_all, All-cons, All-nil, All-head, All-tail, All-append, All-weaker, All, slice_range, Key, IsWithin, entry_in, name_in, IndexEntry}
+use Rattle.btr_check_names.proofs.Imports.{◌≡◌, ◌≤◌, ℕ, ◌+◌, ◌-◌, ◌<◌, List, [], ◌∷◌, ◌++◌, length, take, drop, map, refl, sym, ap, ◌∙◌, arith, drop-append-le, length-append, length-drop, map-append, take-append-le, take_all, All-cons, All-nil, All-head, All-tail, All-append, All-weaker, slice_range, Key, IsWithin, entry_in, name_in, IndexEntry}
+use Rattle.std.specs.List.{All}
 use Rattle.std.proofs.Math.Seq.{drop-append_seam}
 use Rattle.btr_check_names.specs.declared.name_list.NameAt.{NameAt}
 

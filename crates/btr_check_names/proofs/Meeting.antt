@@ -1,6 +1,5 @@
 -- What was met of a table, and what was not.
-use Rattle.btr_check_names.proofs.Imports.{◌≡◌, ◌≢◌, ℕ, ◌+◌, ◌<◌, ◌≤◌, Bool, true, false, cond, List, [], ◌∷◌, ◌++◌, length, map, get_or, filter, refl, sym, ap, ◌∙◌, subst, arith, Some, eq-eqb, if◌then◌else◌, ◌==◌, ◌&&◌, set, true≢false, Contains-append_left, Contains-permutation, IsPermutation-append_left, IsPermutation-cons, IsPermutation-sym, IsPermutation-to_front, IsPermutation-trans, sum_by-append, sum_by-cons, get_or_from_slice_get, slice_get-get_or, slice_get_within, Decides, Contains, count_by, slice_get, IsPermutation, Key, IsTooMany, chosen, BackName, IndexEntry, NamedEntry, back_name, entries_in, names_inode_item, names_of, own_name, AreNames, IsNamedAt, NamesMet, back_names, given, hashed_of, named, own_names, told_of}
-use Rattle.btr_check_rules.specs.btr_reader.btr_reader_walk.btr_keys.btrfs_format.declared.key.TheConstants.{INODE_ITEM}
+use Rattle.btr_check_names.proofs.Imports.{◌≡◌, ◌≢◌, ℕ, ◌+◌, ◌<◌, ◌≤◌, Bool, true, false, cond, List, [], ◌∷◌, ◌++◌, length, map, get_or, filter, refl, sym, ap, ◌∙◌, subst, arith, Some, eq-eqb, if◌then◌else◌, ◌==◌, ◌&&◌, set, true≢false, Contains-append_left, Contains-permutation, IsPermutation-append_left, IsPermutation-cons, IsPermutation-sym, IsPermutation-to_front, IsPermutation-trans, sum_by-append, sum_by-cons, get_or_from_slice_get, slice_get-get_or, slice_get_within, Decides, Contains, count_by, slice_get, IsPermutation, Key, IsTooMany, chosen, BackName, IndexEntry, NamedEntry, back_name, entries_in, names_inode_item, names_of, own_name, AreNames, IsNamedAt, NamesMet, back_names, given, hashed_of, named, own_names, told_of, INODE_ITEM}
 use Rattle.btr_check_rules.specs.btr_reader.btr_reader_walk.btr_keys.btrfs_format.declared.object.TheConstants.{FIRST_FREE_OBJECTID}
 use Rattle.btr_check_names.proofs.Marking.{absent, chosen_all, marked_one, met_before, met_one, no_more, not_same, short_of}
 use Rattle.btr_check_names.proofs.Noting.{filter_true, given_once, named_once, not_given, other_entry, other_name}

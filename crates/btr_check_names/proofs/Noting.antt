@@ -1,5 +1,6 @@
 -- Which entries and names may be noted.
-use Rattle.btr_check_names.proofs.Imports.{◌≡◌, ◌≢◌, ℕ, zero, suc, ◌+◌, ◌<◌, ◌≤◌, ◌⊎◌, inl, inr, ⊎_elim, Bool, true, false, cond, List, [], ◌∷◌, ◌++◌, length, map, get_or, filter, refl, sym, ap, ◌∙◌, subst, arith, Some, eq-eqb, set, cases_eq, cases_lt, get_or-map, length-map, All-contains, All-filter, All-map, All-weaker, filter_passes, AllPairs-cons, AllPairs-filter, IsPermutation-refl, get_or_from_slice_get, slice_get_within, All, AllPairs, Contains, slice_get, IsPermutation, IsTooMany, chosen, BackName, DifferInName, IndexEntry, NamedEntry, back_name, names_inode_item, own_name, AreNames, HasName, IsNamedAt, NoneNamedBut, back_names, given, named}
+use Rattle.btr_check_names.proofs.Imports.{◌≡◌, ◌≢◌, ℕ, zero, suc, ◌+◌, ◌<◌, ◌≤◌, ◌⊎◌, inl, inr, ⊎_elim, Bool, true, false, cond, List, [], ◌∷◌, ◌++◌, length, map, get_or, filter, refl, sym, ap, ◌∙◌, subst, arith, Some, eq-eqb, set, cases_eq, cases_lt, get_or-map, length-map, All-contains, All-filter, All-map, All-weaker, filter_passes, AllPairs-cons, AllPairs-filter, IsPermutation-refl, get_or_from_slice_get, slice_get_within, AllPairs, Contains, slice_get, IsPermutation, IsTooMany, chosen, BackName, DifferInName, IndexEntry, NamedEntry, back_name, names_inode_item, own_name, AreNames, HasName, IsNamedAt, NoneNamedBut, back_names, given, named}
+use Rattle.std.specs.List.{All}
 use Rattle.btr_check_names.proofs.Marking.{absent, chosen_all, marked_one, met_before, met_one, not_same, short_of}
 use Rattle.btr_check_names.proofs.Permuting.{Contains_unfiltered, any_of, get_or_any}
 

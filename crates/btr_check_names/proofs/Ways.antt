@@ -1,6 +1,5 @@
 -- Ways up from directories.
-use Rattle.btr_check_names.proofs.Imports.{◌≡◌, ◌≢◌, ◌≤◌, ◌<◌, ◌⊎◌, inl, inr, ⊎_elim, ℕ, ◌+◌, ◌==◌, Bool, cond, List, [], ◌∷◌, ◌++◌, length, take, drop, get_or, Option, Some, None, refl, sym, ap, ◌∙◌, subst, arith, IfSome, replicate, set, cases_eq, ne_eqb, append-nil, drop_all, take_all, get_or-replicate, get_or-set_other, get_or-set_same, sum_by-set, slice_get-get_or, count_by, slice_get, AreEnded, AreOnWay, Ends, IsBegun, IsPlace, Leads, top, under, one, more}
-use Rattle.std.proofs.Common.{All}
+use Rattle.btr_check_names.proofs.Imports.{◌≡◌, ◌≢◌, ◌≤◌, ◌<◌, ◌⊎◌, inl, inr, ⊎_elim, ℕ, ◌+◌, ◌==◌, Bool, cond, List, [], ◌∷◌, ◌++◌, length, take, drop, get_or, Option, Some, None, refl, sym, ap, ◌∙◌, subst, arith, IfSome, All, replicate, set, cases_eq, ne_eqb, append-nil, drop_all, take_all, get_or-replicate, get_or-set_other, get_or-set_same, sum_by-set, slice_get-get_or, count_by, slice_get, AreEnded, AreOnWay, Ends, IsBegun, IsPlace, Leads, top, under, one, more}
 use Rattle.std.proofs.lemmas.Bool.{eq-eqb}
 
 same_some : {A : Type 0} (x y : A) → Some x ≡ Some y → x ≡ y

@@ -1,5 +1,4 @@
-use Rattle.btr_check_names.proofs.Imports.{◌≡◌, ◌≢◌, ℕ, filter, List, ap, sym, subst, arith, slice_index_or, take, rules, get_or, true, take_all, All-more, IsPermutation, has_hash, hashes_from, IndexEntry, IsNamedAt, NamesMet, NoneNamedBut, HashAt}
-use Rattle.std.proofs.Common.{All}
+use Rattle.btr_check_names.proofs.Imports.{◌≡◌, ◌≢◌, ℕ, filter, List, ap, sym, subst, arith, slice_index_or, take, rules, get_or, true, All, take_all, All-more, IsPermutation, has_hash, hashes_from, IndexEntry, IsNamedAt, NamesMet, NoneNamedBut, HashAt}
 use Rattle.btr_check_names.proofs.Finding.{found, none_found, number_within, other}
 use Rattle.btr_check_names.proofs.table.NameTable.find_but.Goals as goal
 use Rattle.btr_check_names.proofs.table.NameTable.find_but.Goals.{else-i-but-via-then-i-but+else-has_name, else-i-but-via-else-i-but}

@@ -1,5 +1,4 @@
-use Rattle.btr_check_names.proofs.Imports.{◌≢◌, take, IsNamedAt}
-use Rattle.std.proofs.Common.{All}
+use Rattle.btr_check_names.proofs.Imports.{◌≢◌, take, All, IsNamedAt}
 use Rattle.btr_check_names.proofs.table.NameTable.find_but.Given as goal
 
 abbrev pub invariant-loop-k : goal.invariant-loop-k
