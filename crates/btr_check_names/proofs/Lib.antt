@@ -1,0 +1,11 @@
+pub mod Finding
+pub mod Hashing
+pub mod Imports
+pub mod Listing
+pub mod Marking
+pub mod Meeting
+pub mod Noting
+pub mod Numbering
+pub mod Permuting
+pub mod Standing
+pub mod Ways
