@@ -3,7 +3,7 @@ use Rattle.std.specs.Prelude.{◌≡◌, ℕ, List, Contains}
 use Rattle.btr_check_rules.specs.btr_reader.refusals.declared.refusal.BtrRefusal.{BtrRefusal}
 use Rattle.btr_check_rules.specs.btr_reader.refusals.declared.answer.BtrAnswer.{BtrAnswer}
 use Rattle.btr_check_rules.specs.btr_reader.refusals.declared.answer.BtrAnswer.TheVariants as walks
-use Rattle.btr_check_rules.specs.Sound.{SoundPart, Trees, Files, References, Placement, Checksums, BlockGroups, Chunks, Reserved, Totals, part_number}
+use Rattle.btr_check_rules.specs.Sound.{SoundPart, Trees, Files, References, Placement, Checksums, BlockGroups, Chunks, Reserved, Totals, FreeSpace, part_number}
 use Rattle.btr_check_rules.specs.Trees.{refused_at}
 use Rattle.btr_check_walk.specs.declared.parts.SoundPart.{SoundPart as Part}
 use Rattle.btr_check_walk.specs.declared.parts.SoundPart.TheVariants as parts
@@ -21,6 +21,7 @@ part_value parts.BlockGroups = BlockGroups
 part_value parts.Chunks = Chunks
 part_value parts.Reserved = Reserved
 part_value parts.Totals = Totals
+part_value parts.FreeSpace = FreeSpace
 
 -- where a call on the nodes of a tree ended so
 abbrev pub tree_answer : BtrAnswer → Answer

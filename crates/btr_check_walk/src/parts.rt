@@ -18,10 +18,11 @@ pub enum SoundPart {
     Chunks,
     Reserved,
     Totals,
+    FreeSpace,
 }
 
 impl SoundPart {
-    /// The number by which an answer tells a part: 1 to 9.
+    /// The number by which an answer tells a part: 1 to 10.
     pub fn number(self) -> u8
         ensures { result ≡ part_number (part_value self) }
     {
@@ -35,6 +36,7 @@ impl SoundPart {
             SoundPart::Chunks => 7,
             SoundPart::Reserved => 8,
             SoundPart::Totals => 9,
+            SoundPart::FreeSpace => 10,
         }
     }
 
