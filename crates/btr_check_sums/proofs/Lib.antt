@@ -1,0 +1,3 @@
+pub mod PlaceRuns
+pub mod Sets
+pub mod SumSteps

@@ -1,0 +1,19 @@
+//! The checksums of data in a Btrfs volume: the blocks that file extents use, by whether they need checksums, items of the
+//! checksum tree, and where addresses lie, many at a time.
+#![tactic(auto)]
+
+mod blocks;
+mod hand;
+mod place_run;
+mod places;
+mod sum_items;
+mod sum_pass;
+mod use_of_data;
+mod uses;
+
+pub use hand::find_place;
+pub use number_runs;
+pub use place_run::PlaceRun;
+pub use sum_items::{is_sum_item, sum_count};
+pub use sum_pass::SumPass;
+pub use use_of_data::{DataOf, LaidOut, UsedBlocks, Uses};
