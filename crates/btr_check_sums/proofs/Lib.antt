@@ -1,3 +1,4 @@
+pub mod Imports
 pub mod PlaceRuns
 pub mod Sets
 pub mod SumSteps
