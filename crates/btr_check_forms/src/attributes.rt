@@ -36,7 +36,6 @@ fn behind(bytes: &[u8]) -> Option<&[u8]>
 }
 
 /// The attribute that a body begins with, but for its data.
-#[tactic(auto, unfolding(btr_keys::specs::Key::key_layout, btr_keys::specs::DirEntry::dir_entry_head))]
 fn front(bytes: &[u8]) -> DirEntry<'_>
     requires head { 30 ≤ length bytes.now }
     requires name { 30 + field 2 bytes.now 27 ≤ length bytes.now }
