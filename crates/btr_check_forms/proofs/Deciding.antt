@@ -1,5 +1,5 @@
 -- Tests over lists and over what bodies read as.
-use Rattle.btr_check_forms.proofs.Imports.{◌≡◌, ◌≢◌, ◌<◌, ◌≤◌, ◌+◌, ℕ, Bool, true, false, List, [], ◌∷◌, length, take, get_or, Option, Some, None, refl, sym, ap, ◌∙◌, subst, arith, All, true≢false, All-get_or, All-more, Decides, slice_get}
+use Rattle.btr_check_forms.proofs.Imports.{◌≡◌, ◌≢◌, ◌<◌, ◌≤◌, ◌+◌, ℕ, Bool, true, false, List, [], ◌∷◌, length, take, Option, Some, None, refl, sym, ap, ◌∙◌, subst, arith, All, true≢false, All-get_or, All-more, Decides, slice_get}
 use Rattle.std.proofs.lemmas.Bool.Decides.{Decides-at, not_from_Decides}
 use Rattle.std.proofs.lemmas.List.{take_all}
 use Rattle.std.proofs.lemmas.Option.{get_or_from_slice_get}

@@ -1,5 +1,5 @@
 -- Steps over the extended attributes of a body.
-use Rattle.btr_check_forms.proofs.Imports.{◌≡◌, ◌<◌, ◌≤◌, ◌+◌, ℕ, zero, suc, Bool, true, false, cond, List, [], ◌∷◌, length, map, drop, Option, Some, None, refl, sym, ap, ◌∙◌, subst, arith, ltb, All, AllPairs, length-drop, ltb-false, true≢false, All-cons, All-head, All-nil, All-tail, Decides, DirEntryValue, dir_entry_front, IsAttribute, attributes_of, behind_attribute, Shrinks, starts_end, starts_step, starts_stop, AreAttributes, AreRecords, IsNew}
+use Rattle.btr_check_forms.proofs.Imports.{◌≡◌, ◌<◌, ◌≤◌, ◌+◌, ℕ, zero, suc, Bool, true, false, cond, List, [], ◌∷◌, length, map, drop, Option, Some, None, refl, sym, ap, ◌∙◌, subst, arith, ltb, All, AllPairs, length-drop, ltb-false, true≢false, All-cons, All-head, All-nil, All-tail, Decides, DirEntryValue, dir_entry_front, IsAttribute, behind_attribute, Shrinks, starts_end, starts_step, starts_stop, AreAttributes, AreRecords, IsNew}
 use Rattle.std.proofs.lemmas.List.Kept.{AllPairs-cons}
 use Rattle.std.specs.Option.{option_map}
 use Rattle.btr_check_rules.specs.btr_reader.btr_keys.Repeated.{at_least_one, records, starts}

@@ -1,4 +1,4 @@
-use Rattle.btr_check_forms.proofs.Imports.{◌≡◌, ◌<◌, List, ℕ, Some, All, length, sym, subst, Decides, none_left, some_left, DirEntryValue, dir_entry_front, IsAttribute, IsNew}
+use Rattle.btr_check_forms.proofs.Imports.{◌≡◌, ◌<◌, List, ℕ, Some, All, length, sym, subst, Decides, none_left, some_left, DirEntryValue, IsAttribute, IsNew}
 use Rattle.btr_check_forms.proofs.Deciding.{always, never}
 use Rattle.btr_check_forms.proofs.Gone.{attribute_shrinks, later_are, never_whole, no_attribute, none_are, not_new, on_to, recs}
 use Rattle.btr_check_forms.proofs.attributes.are_records.Goals as goal

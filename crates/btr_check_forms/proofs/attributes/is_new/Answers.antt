@@ -1,4 +1,4 @@
-use Rattle.btr_check_forms.proofs.Imports.{◌≡◌, List, ℕ, sym, ap, ◌∙◌, subst, arith, Decides, DirEntryValue, dir_entry_front}
+use Rattle.btr_check_forms.proofs.Imports.{◌≡◌, sym, subst, arith, Decides, DirEntryValue}
 use Rattle.btr_check_forms.proofs.Gone.{all_new, attribute_shrinks, begin_new, met_again, still_new}
 use Rattle.btr_check_forms.proofs.attributes.is_new.Goals as goal
 
