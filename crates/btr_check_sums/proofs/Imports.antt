@@ -1,12 +1,11 @@
 -- What the proofs of btr_check_sums import of std, of lower crates and of its specs.
-pub use Rattle.std.proofs.Common.{Bool, List, None, Option, Some, [], add-one, ap, ap₂, arith, drop, drop-cons, false, get_or, if◌then◌else◌, inl, inr, length, length-append, map, not, refl, subst, suc, sym, take, true, zero, ℕ, ⊎_elim, ◌%◌, ◌&&◌, ◌*◌, ◌++◌, ◌+◌, ◌-◌, ◌/◌, ◌<◌, ◌==◌, ◌^◌, ◌||◌, ◌∙◌, ◌∷◌, ◌≡◌, ◌≢◌, ◌≤◌, ◌⊎◌}
+pub use Rattle.std.proofs.Common.{Bool, List, None, Option, Some, [], add-one, ap, ap₂, arith, drop, drop-cons, false, get_or, if◌then◌else◌, inl, inr, length, length-append, map, not, refl, subst, suc, sym, take, true, zero, ℕ, ⊎_elim, ◌%◌, ◌&&◌, ◌*◌, ◌++◌, ◌+◌, ◌-◌, ◌/◌, ◌<◌, ◌==◌, ◌^◌, ◌||◌, ◌∙◌, ◌∷◌, ◌≡◌, ◌≤◌, ◌⊎◌}
 pub use Rattle.std.proofs.lemmas.Bool.Decides.{Decides-and, Decides-eqb, Decides-like, nat_tests, not_from_Decides}
 pub use Rattle.std.proofs.lemmas.List.{append-nil, drop_all, get_or_append_left, get_or_push, length_push, map-append}
-pub use Rattle.std.proofs.lemmas.List.Elements.{All-contains, All-head, All-nil, All-push, All-tail, All-weaker, Contains-append_right, Contains-get_or, Contains-push}
+pub use Rattle.std.proofs.lemmas.List.Elements.{All-contains, All-head, All-push, All-tail, All-weaker, Contains-append_right, Contains-get_or, Contains-push}
 pub use Rattle.std.proofs.lemmas.List.Folds.{Any-from_list_any, list_any-append, list_any-from_Any, list_any_more}
-pub use Rattle.std.specs.List.{flat_map}
 pub use Rattle.std.specs.Option.{MatchOption}
-pub use Rattle.std.specs.Prelude.{All, AllPairs, Any, Contains, IfSome, filter, nat_le}
+pub use Rattle.std.specs.Prelude.{All, AllPairs, Any, Contains, IfSome, nat_le}
 pub use Rattle.btr_check_rules.specs.Sound.{Checksums, part_number}
 pub use Rattle.btr_check_rules.specs.Sums.{HasBlockSum, IsReadBy, IsSumItem, IsSumRight, IsWrittenTo, KeepsCover, KeepsSums, most_sums, read_span, sum_count, sum_end, sum_items, sums_of}
 pub use Rattle.btr_check_rules.specs.btr_reader.btr_keys.declared.key.Key.{Key}

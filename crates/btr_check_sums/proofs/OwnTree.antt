@@ -1,6 +1,7 @@
 -- A walk that takes the nodes of a tree alone meets what a walk does that takes those of other subvolumes too, where the tree is none of
 -- these: then whatever is wrong with it.
-use Rattle.btr_check_sums.proofs.Imports.{◌≡◌, ℕ, zero, suc, List, [], ◌∷◌, ◌++◌, map, Option, None, Some, refl, sym, ap, ap₂, ◌∙◌, append-nil, map-append, flat_map, Key, Item, TreeEvent, TreeItem, in_leaf, items_in_events, leaf_events, may_be_bare, nodes_in, unless_damaged, order_damages, MapRange, Image}
+use Rattle.btr_check_sums.proofs.Imports.{◌≡◌, ℕ, zero, suc, List, [], ◌∷◌, ◌++◌, map, Option, None, Some, refl, sym, ap, ap₂, ◌∙◌, append-nil, map-append, Key, Item, TreeEvent, TreeItem, in_leaf, items_in_events, leaf_events, may_be_bare, nodes_in, unless_damaged, order_damages, MapRange, Image}
+use Rattle.std.specs.List.{flat_map}
 use Rattle.std.proofs.lemmas.List.Concat.{flat_map-append}
 use Rattle.btr_check_rules.specs.Walk.{if_leaf, owners_of, walk_refusals, walked_items, walked_nodes}
 use Rattle.btr_check_rules.specs.btr_reader.btr_node.declared.child.Child.{Child}
