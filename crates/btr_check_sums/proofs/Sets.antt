@@ -1,5 +1,5 @@
 -- Sets of blocks, one part more.
-use Rattle.btr_check_sums.proofs.Imports.{◌≡◌, ◌<◌, ◌+◌, ℕ, Bool, true, false, not, ◌&&◌, ◌||◌, List, [], ◌∷◌, ◌++◌, length, get_or, take, refl, sym, ap, ◌∙◌, list_any-append, list_any_more, is_among, is_in, is_laid_in}
+use Rattle.btr_check_sums.proofs.Imports.{◌≡◌, ◌<◌, ◌+◌, ℕ, Bool, true, false, ◌&&◌, ◌||◌, List, [], ◌∷◌, ◌++◌, length, get_or, take, refl, ap, ◌∙◌, list_any-append, list_any_more, is_in, is_laid_in}
 use Rattle.btr_check_sums.specs.declared.use_of_data.LaidOut.{LaidOut}
 
 pub or_false : (b : Bool) → (b || false) ≡ b

@@ -1,23 +1,10 @@
 -- One more item of the checksum tree.
-use Rattle.btr_check_sums.proofs.Imports.{◌≡◌, ◌≤◌, ◌<◌, ◌+◌, ◌*◌, ◌%◌, ◌^◌, ◌==◌, ◌⊎◌, ℕ, Bool, true, false, ◌&&◌, ◌||◌, List, [], ◌∷◌, ◌++◌, length, map, get_or, inl, inr, refl, sym, ap, subst, ◌∙◌, ⊎_elim, arith, Decides-and, Decides-eqb, Decides-like, nat_tests, get_or_append_left, get_or_push, length_push, map-append, list_any-append, All, AllPairs, Any, Contains, nat_le, is_among}
-use Rattle.std.proofs.lemmas.List.Elements.{All-contains, All-nil, All-push, All-weaker, Contains-push}
+use Rattle.btr_check_sums.proofs.Imports.{◌≡◌, ◌≤◌, ◌<◌, ◌+◌, ◌*◌, ◌%◌, ◌^◌, ◌==◌, ◌⊎◌, ℕ, Bool, true, false, ◌&&◌, ◌||◌, List, [], ◌∷◌, ◌++◌, length, map, get_or, inr, refl, sym, ap, subst, ◌∙◌, ⊎_elim, arith, Decides-and, Decides-eqb, Decides-like, nat_tests, get_or_append_left, get_or_push, length_push, map-append, list_any-append, All, AllPairs, Any, nat_le, is_among, All-contains, All-push, All-weaker, Contains-push, IsSumItem, most_sums, sum_count, sum_end, Checksums, part_number, Key, Item, TreeItem, in_leaf, bare_item, SumKind, Span, has_block, AreSumItemsAt, BreaksSumItems, EndsBefore, fits_count, has_whole_sums, is_covered, is_sum_item, is_sum_key, sum_span, HoldsSums, SumPass}
 use Rattle.std.proofs.lemmas.List.Quantifiers.{Any-push, all_pairs_push}
 use Rattle.std.specs.Bool.{Decides}
 use Rattle.btr_reader_walk.specs.btrfs_format.declared.key.TheConstants.{EXTENT_CSUM}
 use Rattle.btr_reader_walk.specs.btrfs_format.declared.object.TheConstants.{EXTENT_CSUM_OBJECTID}
-use Rattle.btr_check_rules.specs.Sums.{IsSumItem, most_sums, sum_count, sum_end}
-use Rattle.btr_check_rules.specs.Sound.{Checksums, part_number}
-use Rattle.btr_check_rules.specs.btr_reader.btr_keys.declared.key.Key.{Key}
-use Rattle.btr_check_rules.specs.btr_reader.btr_node.Leaf.{Item}
-use Rattle.btr_check_rules.specs.btr_reader.btr_reader_walk.Events.{TreeItem, in_leaf}
-use Rattle.btr_check_rules.specs.btr_reader.btr_reader_walk.Tree.{bare_item}
 use Rattle.btr_check_rules.specs.btr_reader.csum_kinds.Kind.{kind_width}
-use Rattle.btr_check_rules.specs.btr_reader.csum_kinds.declared.kind.SumKind.{SumKind}
-use Rattle.btr_check_rules.specs.declared.span.Span.{Span}
-use Rattle.btr_check_sums.specs.Blocks.{has_block}
-use Rattle.btr_check_sums.specs.SumItems.{AreSumItems, AreSumItemsAt, BreaksSumItems, EndsBefore, fits_count, has_whole_sums, is_covered, is_sum_item, is_sum_key, sum_span}
-use Rattle.btr_check_sums.specs.SumPasses.{HoldsSums}
-use Rattle.btr_check_sums.specs.declared.sum_pass.SumPass.{SumPass}
 
 -- ---- the form of an item
 

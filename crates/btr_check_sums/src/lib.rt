@@ -1,16 +1,20 @@
 //! The checksums of data in a Btrfs volume: the blocks that file extents use, by whether they need checksums, items of the
-//! checksum tree, and where addresses lie, many at a time.
+//! checksum tree, which blocks have checksums, and where addresses lie, many at a time.
 #![tactic(auto)]
 
 mod blocks;
+mod cover;
 mod hand;
 mod place_run;
 mod places;
 mod sum_items;
 mod sum_pass;
+mod sum_visits;
 mod use_of_data;
 mod uses;
 
+pub use btr_check_walk;
+pub use cover::judge_cover;
 pub use hand::find_place;
 pub use number_runs;
 pub use place_run::PlaceRun;
