@@ -113,7 +113,10 @@ const TOLD: Inode = Inode {
 
 #[test]
 fn inode(rt: HostRuntime) {
-    let found = [Inode::read(front(&INODE, 160)), Inode::read(front(&INODE, 159))];
+    let found = [
+        Inode::read(front(&INODE, 160)),
+        Inode::read(front(&INODE, 159)),
+    ];
     assert!(rt; found == [Some(TOLD), None]);
     assert!(rt; TOLD.to_bytes() == INODE);
 }
