@@ -34,23 +34,23 @@ const FORM: NodeForm = NodeForm {
 const OWNER: u64 = 5;
 
 /// All addresses of a disk of 32 blocks.
-const ALL: [MapRange; 1] = [MapRange {
+const ALL: MapRange = MapRange {
     logical: 0,
     length: 131072,
     physical: 0,
     mirror: None,
-}];
+};
 
 /// How far the logical addresses of the slots elsewhere lie behind their offsets.
 const FURTHER: u64 = 1048576;
 
 /// Blocks 16 to 31 of a disk, at logical addresses of a volume.
-const ELSEWHERE: [MapRange; 1] = [MapRange {
+const ELSEWHERE: MapRange = MapRange {
     logical: 1114112,
     length: 65536,
     physical: 65536,
     mirror: None,
-}];
+};
 
 fn key(objectid: u64) -> Key {
     Key {
@@ -111,14 +111,14 @@ fn has_items<S: BlockSource>(
     }
     let mut walker = TreeWalker::new(alloc, tree_of(root))?;
     for i in 0..list.len() {
-        if !walker.advance(src, &ALL)? {
+        if !walker.advance(src, &[ALL])? {
             return Ok(false);
         }
         if walker.key() != list.key(i) || walker.body() != list.body(i) {
             return Ok(false);
         }
     }
-    let more = walker.advance(src, &ALL)?;
+    let more = walker.advance(src, &[ALL])?;
     Ok(!more)
 }
 
@@ -149,11 +149,7 @@ fn list_of(alloc: Global, items: &[(u64, &[u8])]) -> Result<ItemList, Memory> {
 
 /// The root of a tree of the items of a list that is written to so many slots, the nodes that it counted, how many blocks were
 /// written, and whether the items are back.
-fn written_back(
-    alloc: Global,
-    count: u64,
-    list: &ItemList,
-) -> Result<(Root, u64, u64, bool), Fail>
+fn written_back(alloc: Global, count: u64, list: &ItemList) -> Result<(Root, u64, u64, bool), Fail>
     requires few { count ≤ 16 }
 {
     let mut disk = MemDisk::new(alloc, 32)?;
@@ -248,21 +244,23 @@ impl Walk {
 /// The address of a node, and the key that its parent has for it.
 type Visit = Option<(u64, Option<Key>)>;
 
-/// The first four nodes of a walk, by a map of addresses.
+/// The first four nodes of a walk, by a range of addresses.
 fn visits<S: BlockSource>(
     alloc: Global,
     src: &mut S,
     walk: &Walk,
-    ranges: &[MapRange],
+    range: MapRange,
 ) -> Result<[Visit; 4], BtrAnswer>
-    requires inside { LieOn (S.size src.old) ranges.now }
+    requires size { 32 ≤ S.size src.old }
+    requires inside { range.physical + range.length ≤ 131072 }
     ensures size { S.size src.new ≡ S.size src.old }
 {
     let mut walker = walk.walker(alloc)?;
-    let first = next_node(&mut walker, src, ranges)?;
-    let second = next_node(&mut walker, src, ranges)?;
-    let third = next_node(&mut walker, src, ranges)?;
-    let fourth = next_node(&mut walker, src, ranges)?;
+    let ranges = [range];
+    let first = next_node(&mut walker, src, &ranges)?;
+    let second = next_node(&mut walker, src, &ranges)?;
+    let third = next_node(&mut walker, src, &ranges)?;
+    let fourth = next_node(&mut walker, src, &ranges)?;
     Ok([first, second, third, fourth])
 }
 
@@ -271,13 +269,14 @@ fn refusal<S: BlockSource>(
     alloc: Global,
     src: &mut S,
     walk: &Walk,
-    ranges: &[MapRange],
+    range: MapRange,
 ) -> Result<(Option<BtrAnswer>, bool), BtrAnswer>
-    requires inside { LieOn (S.size src.old) ranges.now }
+    requires size { 32 ≤ S.size src.old }
+    requires inside { range.physical + range.length ≤ 131072 }
     ensures size { S.size src.new ≡ S.size src.old }
 {
     let mut walker = walk.walker(alloc)?;
-    let refused = next_node(&mut walker, src, ranges).err();
+    let refused = next_node(&mut walker, src, &[range]).err();
     Ok((refused, walker.take().is_some()))
 }
 
@@ -306,6 +305,27 @@ fn refused(address: u64) -> (Option<BtrAnswer>, bool) {
     (Some(BtrAnswer::Refused(refusal)), false)
 }
 
+/// The nodes of a walk over a tree of its own, why the same root is refused to another tree, and the nodes where trees share them.
+fn walked<D: Disk>(
+    alloc: Global,
+    disk: &mut D,
+    walk: &Walk,
+) -> Result<([Visit; 4], (Option<BtrAnswer>, bool), [Visit; 4]), BtrAnswer>
+    requires size { 32 ≤ D.size disk.old }
+{
+    let other = Walk {
+        owner: 257,
+        ..*walk
+    };
+    let shared = Walk {
+        owners: Owners::Files,
+        ..other
+    };
+    let own = visits(alloc, disk, walk, ALL)?;
+    let refused = refusal(alloc, disk, &other, ALL)?;
+    Ok((own, refused, visits(alloc, disk, &shared, ALL)?))
+}
+
 // A node that is not opened has nothing below it. A node of another tree is refused, but where trees share nodes.
 #[test]
 fn nodes_one_by_one(rt: HostRuntime) -> Result<(), Fail> {
@@ -317,15 +337,9 @@ fn nodes_one_by_one(rt: HostRuntime) -> Result<(), Fail> {
         generation: 1,
         owners: Owners::Own,
     };
-    assert!(rt; visits(rt.alloc(), &mut disk, &walk, &ALL)? == nodes(0));
+    let found = walked(rt.alloc(), &mut disk, &walk)?;
+    assert!(rt; found == (nodes(0), refused(73728), nodes(0)));
     assert!(rt; takes(rt.alloc(), &walk)? == [true, false]);
-    let other = Walk { owner: 257, ..walk };
-    assert!(rt; refusal(rt.alloc(), &mut disk, &other, &ALL)? == refused(73728));
-    let shared = Walk {
-        owners: Owners::Files,
-        ..other
-    };
-    assert!(rt; visits(rt.alloc(), &mut disk, &shared, &ALL)? == nodes(0));
     Ok(())
 }
 
@@ -379,12 +393,12 @@ fn nodes_elsewhere(rt: HostRuntime) -> Result<(), Fail> {
         generation: 7,
         owners: Owners::Own,
     };
-    assert!(rt; visits(rt.alloc(), &mut disk, &walk, &ELSEWHERE)? == nodes(FURTHER));
+    assert!(rt; visits(rt.alloc(), &mut disk, &walk, ELSEWHERE)? == nodes(FURTHER));
     let early = Walk {
         generation: 1,
         ..walk
     };
-    let found = refusal(rt.alloc(), &mut disk, &early, &ELSEWHERE)?;
+    let found = refusal(rt.alloc(), &mut disk, &early, ELSEWHERE)?;
     assert!(rt; found == refused(FURTHER + 73728));
     Ok(())
 }

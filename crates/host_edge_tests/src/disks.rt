@@ -9,80 +9,141 @@ use vol_block::Block;
 
 type HostDisk<'a> = FileDisk<'a, &'a HostRuntime>;
 
-/// Files that a disk is opened over: one with a file system on it, and volumes that the program knows.
+/// Two blocks of sevens, and a part of a third.
+const SEVENS: Entry = Entry::File(&[7; 9000]);
+
+/// Files that a disk is opened over: one with a file system on it, volumes that the program knows, and others.
 const FILES: &[(&str, Entry)] = &[
     ("ext4", Entry::Disk(81920, &[(1080, b"\x53\xef")])),
     ("reiserfs", Entry::Disk(81920, &[(65588, b"ReIsEr2Fs")])),
     ("btrfs", Entry::Disk(81920, &[(65600, b"_BHRfS_M")])),
     ("zeros", Entry::Disk(81920, &[(0, b"\0")])),
+    ("locked", Entry::File(&[7; 8192])),
+    ("short", Entry::File(&[7; 8192])),
 ];
 
-/// Whether a disk is to be overwritten, and why it is not opened; nothing where it is.
-const OPENED: &[(&str, Access, bool, &str)] = &[
+/// What is done to a file.
+#[derive(Clone, Copy)]
+enum Done {
+    /// It is opened for reading.
+    Read,
+    /// It is opened for writing.
+    Written,
+    /// It is opened to be overwritten.
+    Overwritten,
+    /// It is opened for writing while it is open for writing.
+    WrittenTwice,
+    /// A block is read of it once it became shorter.
+    ReadShortened,
+}
+
+/// Why a disk over a file does not do it; nothing where it does.
+const TROUBLES: &[(&str, Done, &str)] = &[
     (
         "gone",
-        Access::Read,
-        false,
+        Done::Read,
         "opening it: No such file or directory (os error 2)",
     ),
     // a folder
     (
         "",
-        Access::Read,
-        false,
+        Done::Read,
         "opening it: it is neither a plain file nor a block device",
     ),
     (
         "ext4",
-        Access::Write,
-        true,
+        Done::Overwritten,
         "opening it: it holds an ext2, ext3 or ext4 file system",
     ),
-    ("ext4", Access::Write, false, ""),
-    ("reiserfs", Access::Write, true, ""),
-    ("btrfs", Access::Write, true, ""),
-    ("zeros", Access::Write, true, ""),
+    ("ext4", Done::Written, ""),
+    ("reiserfs", Done::Overwritten, ""),
+    ("btrfs", Done::Overwritten, ""),
+    ("zeros", Done::Overwritten, ""),
+    (
+        "locked",
+        Done::WrittenTwice,
+        "opening it: another program has locked it",
+    ),
+    (
+        "short",
+        Done::ReadShortened,
+        "reading block 1: unexpected end of file",
+    ),
 ];
 
-/// Why the last failure of a disk came.
-fn trouble_of(rt: &HostRuntime, disk: &HostDisk<'_>) -> io::Result<String> {
-    match disk.trouble() {
-        Some(trouble) => Ok(format!(in rt.alloc(); "{}", trouble)?),
-        None => Ok(String::from_str(rt.alloc(), "no trouble")?),
+/// Why the last failure of a disk came, if its call failed.
+fn trouble_of(
+    rt: &HostRuntime,
+    disk: &HostDisk<'_>,
+    call: Result<(), Fault>,
+) -> io::Result<String> {
+    match (call, disk.trouble()) {
+        (Ok(()), _) => Ok(String::new(rt.alloc())),
+        (Err(_), Some(trouble)) => Ok(format!(in rt.alloc(); "{}", trouble)?),
+        (Err(_), None) => Ok(String::from_str(rt.alloc(), "no trouble")?),
     }
 }
 
-/// Why a disk is not opened; nothing where it is.
-fn opening(
-    rt: &HostRuntime,
-    path: &str,
-    access: Access,
-    is_overwritten: bool,
-) -> io::Result<String> {
+/// Does that with a disk.
+fn call(rt: &HostRuntime, disk: &mut HostDisk<'_>, path: &str, done: Done) -> Result<(), Fault> {
+    match done {
+        Done::Read => disk.open(path, Access::Read),
+        Done::Written => disk.open(path, Access::Write),
+        Done::Overwritten => {
+            disk.expect_blank();
+            disk.open(path, Access::Write)
+        }
+        Done::WrittenTwice => open_beside(rt, disk, path),
+        Done::ReadShortened => read_shortened(rt, disk, path),
+    }
+}
+
+/// Opens a disk while another one is open.
+fn open_beside(rt: &HostRuntime, disk: &mut HostDisk<'_>, path: &str) -> Result<(), Fault> {
+    let line = StatusLine::none();
+    let mut first = FileDisk::new(rt, &line);
+    first.open(path, Access::Write)?;
+    disk.open(path, Access::Write)
+}
+
+/// Reads a block of a file that becomes shorter once it is open.
+fn read_shortened(rt: &HostRuntime, disk: &mut HostDisk<'_>, path: &str) -> Result<(), Fault> {
+    disk.open(path, Access::Read)?;
+    if disk.len() < 2 || fs::write(rt, path, [7; 5000].as_slice()).is_err() {
+        return Ok(());
+    }
+    disk.read(1, &mut Block::zero())
+}
+
+/// Why a disk does not do that; nothing where it does.
+fn trouble(rt: &HostRuntime, path: &str, done: Done) -> io::Result<String> {
     let line = StatusLine::none();
     let mut disk = FileDisk::new(rt, &line);
-    if is_overwritten {
-        disk.expect_blank();
-    }
-    if disk.open(path, access).is_ok() {
-        return Ok(String::new(rt.alloc()));
-    }
-    trouble_of(rt, &disk)
+    let called = call(rt, &mut disk, path, done);
+    trouble_of(rt, &disk, called)
+}
+
+/// Whether that is told of a file of a folder.
+fn is_told(
+    rt: &HostRuntime,
+    folder: &Folder,
+    name: &str,
+    done: Done,
+    text: &str,
+) -> io::Result<bool> {
+    let path = folder.path(rt, name)?;
+    let found = trouble(rt, path.as_str(), done)?;
+    Ok(found.as_str() == text)
 }
 
 #[test]
-fn a_disk_is_opened_or_tells_why_not(rt: HostRuntime) -> io::Result<()> {
-    let folder = Folder::filled(&rt, "opened", FILES)?;
-    for (name, access, is_overwritten, text) in OPENED {
-        let path = folder.path(&rt, *name)?;
-        let found = opening(&rt, path.as_str(), *access, *is_overwritten)?;
-        assert_eq!(rt; found.as_str(), *text, "of {name}");
+fn a_disk_tells_why_it_does_not_do_it(rt: HostRuntime) -> io::Result<()> {
+    let folder = Folder::filled(&rt, "disks", FILES)?;
+    for (name, done, text) in TROUBLES {
+        assert!(rt; is_told(&rt, &folder, *name, *done, *text)?, "of {name}");
     }
     folder.remove(&rt)
 }
-
-/// Two blocks of sevens, and a part of a third.
-const SEVENS: &[u8] = &[7; 9000];
 
 /// Opens a disk, writes nines to block 1, and gives the lengths of the disk before and behind.
 fn write_nines(disk: &mut HostDisk<'_>, path: &str) -> Result<[u64; 2], Fault> {
@@ -107,45 +168,29 @@ fn has(disk: &mut HostDisk<'_>, n: u64, byte: u8) -> Result<bool, Fault> {
     Ok(block.bytes == [byte; 4096])
 }
 
+/// Whether block 1 has nines, and block 0 sevens.
+fn are_kept(disk: &mut HostDisk<'_>) -> Result<[bool; 2], Fault> {
+    let nines = has(disk, 1, 9)?;
+    let sevens = has(disk, 0, 7)?;
+    Ok([nines, sevens])
+}
+
+/// The lengths of a disk before and behind its opening, how many blocks were written, whether nothing failed, and whether both
+/// blocks are kept.
+fn used(rt: &HostRuntime, path: &str) -> Result<([u64; 2], u64, bool, [bool; 2]), Fault> {
+    let line = StatusLine::none();
+    let mut disk = FileDisk::new(rt, &line);
+    let lengths = write_nines(&mut disk, path)?;
+    let kept = are_kept(&mut disk)?;
+    Ok((lengths, disk.written(), disk.trouble().is_none(), kept))
+}
+
 #[test]
 fn a_file_is_a_disk(rt: HostRuntime) -> Result<(), Fail> {
-    let folder = Folder::filled(&rt, "disk", &[("disk", Entry::File(SEVENS))])?;
+    let folder = Folder::filled(&rt, "disk", &[("disk", SEVENS)])?;
     let path = folder.path(&rt, "disk")?;
-    let line = StatusLine::none();
-    let mut disk = FileDisk::new(&rt, &line);
-    assert!(rt; write_nines(&mut disk, path.as_str())? == [0, 2]);
-    assert_eq!(rt; disk.written(), 1);
-    assert!(rt; disk.trouble().is_none());
-    assert!(rt; has(&mut disk, 1, 9)?);
-    assert!(rt; has(&mut disk, 0, 7)?);
+    assert!(rt; used(&rt, path.as_str())? == ([0, 2], 1, true, [true; 2]));
     assert_eq!(rt; fs::read(&rt, path.as_str())?.len(), 9000);
-    let second = opening(&rt, path.as_str(), Access::Write, false)?;
-    assert_eq!(rt;
-        second.as_str(),
-        "opening it: another program has locked it"
-    );
-    Ok(folder.remove(&rt)?)
-}
-
-/// Whether a block of a file is read that became shorter once it was opened.
-fn is_read_shortened(rt: &HostRuntime, disk: &mut HostDisk<'_>, path: &str) -> Result<bool, Fail> {
-    disk.open(path, Access::Read)?;
-    fs::write(rt, path, &SEVENS[..5000])?;
-    if disk.len() < 2 {
-        return Err("a disk is too short".into());
-    }
-    Ok(disk.read(1, &mut Block::zero()).is_ok())
-}
-
-#[test]
-fn a_file_that_became_shorter_is_told(rt: HostRuntime) -> Result<(), Fail> {
-    let folder = Folder::filled(&rt, "short", &[("disk", Entry::File(&SEVENS[..8192]))])?;
-    let path = folder.path(&rt, "disk")?;
-    let line = StatusLine::none();
-    let mut disk = FileDisk::new(&rt, &line);
-    assert!(rt; !is_read_shortened(&rt, &mut disk, path.as_str())?);
-    let found = trouble_of(&rt, &disk)?;
-    assert_eq!(rt; found.as_str(), "reading block 1: unexpected end of file");
     Ok(folder.remove(&rt)?)
 }
 

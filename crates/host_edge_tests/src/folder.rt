@@ -1,6 +1,7 @@
 use host_edge::{DeviceNumber, FileIdentity};
 use std::fs::File;
 use std::os::unix::fs::{FileExt, symlink};
+use std::path::PathBuf;
 use std::{env, fs, io};
 
 /// Bytes, and where they stand in a file.
@@ -31,14 +32,10 @@ pub struct Folder {
 impl Folder {
     /// A new folder, with this word in its name.
     pub fn new(rt: &HostRuntime, word: &str) -> io::Result<Folder> {
-        let number = std::process::id(rt.process());
-        let name = format!(in rt.alloc(); "edge_tests-{}-{}", word, number)?;
-        let path = env::temp_dir(rt)?.join(rt.alloc(), name.as_str())?;
+        let path = new_path(rt, word)?;
         fs::create_dir(rt, path.as_str())?;
-        let path = fs::canonicalize(rt, path.as_str())?;
-        Ok(Folder {
-            path: String::from_str(rt.alloc(), path.as_str())?,
-        })
+        let path = whole(rt, path.as_str())?;
+        Ok(Folder { path })
     }
 
     /// A new folder with these files and folders in it.
@@ -52,10 +49,9 @@ impl Folder {
         Ok(folder)
     }
 
-    /// The path of a file in it, or its own of no name.
+    /// The path of a file in it, or one of its own of no name.
     pub fn path(&self, rt: &HostRuntime, name: &str) -> io::Result<String> {
-        let slash = if name.is_empty() { "" } else { "/" };
-        Ok(format!(in rt.alloc(); "{}{}{}", self.path.as_str(), slash, name)?)
+        Ok(format!(in rt.alloc(); "{}/{}", self.path.as_str(), name)?)
     }
 
     /// These files and folders in it.
@@ -74,9 +70,19 @@ impl Folder {
             Entry::Tells(before, behind) => self.tell(rt, path, before, behind),
             Entry::Disk(length, bytes) => make_disk(rt, path, length, bytes),
             Entry::Folder => fs::create_dir(rt, path),
-            Entry::Symlink(name) => symlink(rt, self.path(rt, name)?.as_str(), path),
-            Entry::HardLink(name) => fs::hard_link(rt, self.path(rt, name)?.as_str(), path),
+            Entry::Symlink(name) => self.symlink(rt, name, path),
+            Entry::HardLink(name) => self.hard_link(rt, name, path),
         }
+    }
+
+    fn symlink(&self, rt: &HostRuntime, name: &str, path: &str) -> io::Result<()> {
+        let original = self.path(rt, name)?;
+        symlink(rt, original.as_str(), path)
+    }
+
+    fn hard_link(&self, rt: &HostRuntime, name: &str, path: &str) -> io::Result<()> {
+        let original = self.path(rt, name)?;
+        fs::hard_link(rt, original.as_str(), path)
     }
 
     /// Writes its own path between these texts into a file.
@@ -107,6 +113,19 @@ impl Folder {
     pub fn remove(&self, rt: &HostRuntime) -> io::Result<()> {
         fs::remove_dir_all(rt, self.path.as_str())
     }
+}
+
+/// The path of a new folder, with this word in its name.
+fn new_path(rt: &HostRuntime, word: &str) -> io::Result<PathBuf> {
+    let number = std::process::id(rt.process());
+    let name = format!(in rt.alloc(); "edge_tests-{}-{}", word, number)?;
+    Ok(env::temp_dir(rt)?.join(rt.alloc(), name.as_str())?)
+}
+
+/// A path without symlinks.
+fn whole(rt: &HostRuntime, path: &str) -> io::Result<String> {
+    let path = fs::canonicalize(rt, path)?;
+    Ok(String::from_str(rt.alloc(), path.as_str())?)
 }
 
 /// A file of so many bytes, zeros but for these.

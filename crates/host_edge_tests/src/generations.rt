@@ -28,31 +28,41 @@ const TOLD: &[(&str, Option<u64>, Option<u16>)] = &[
     ("", None, None),
 ];
 
+/// What is told of a file of a folder.
+fn told(rt: &HostRuntime, folder: &Folder, name: &str) -> io::Result<(Option<u64>, Option<u16>)> {
+    let path = folder.path(rt, name)?;
+    let generation = generation_at(rt, path.as_str())?;
+    Ok((generation, csum_type_at(rt, path.as_str())?))
+}
+
 #[test]
 fn a_btrfs_volume_has_a_generation_and_a_kind_of_checksum(rt: HostRuntime) -> io::Result<()> {
     let folder = Folder::filled(&rt, "generations", FILES)?;
     for (name, generation, kind) in TOLD {
-        let path = folder.path(&rt, *name)?;
-        assert!(rt; generation_at(&rt, path.as_str())? == *generation);
-        assert!(rt; csum_type_at(&rt, path.as_str())? == *kind);
+        assert!(rt; told(&rt, &folder, *name)? == (*generation, *kind));
     }
     assert!(rt; generation_at(&rt, "/no such folder/gone").is_err());
     folder.remove(&rt)
 }
 
-/// What stands in a file once Linux is told by it to drop its caches.
-fn told_in(rt: &HostRuntime, path: &str) -> io::Result<String> {
-    drop_caches(rt, path)?;
-    fs::read_to_string(rt, path)
+/// Whether a one stands in a file of a folder once Linux is told by it to drop its caches.
+fn is_told(rt: &HostRuntime, folder: &Folder) -> io::Result<bool> {
+    let path = folder.path(rt, "drop_caches")?;
+    drop_caches(rt, path.as_str())?;
+    let text = fs::read_to_string(rt, path.as_str())?;
+    Ok(text.as_str() == "1")
+}
+
+/// Whether it can't be told by a file that is not there.
+fn is_refused(rt: &HostRuntime, folder: &Folder) -> io::Result<bool> {
+    let path = folder.path(rt, "gone")?;
+    Ok(drop_caches(rt, path.as_str()).is_err())
 }
 
 #[test]
 fn a_one_is_written_where_linux_is_told_to_drop_its_caches(rt: HostRuntime) -> io::Result<()> {
     let folder = Folder::filled(&rt, "caches", &[("drop_caches", Entry::File(b""))])?;
-    let path = folder.path(&rt, "drop_caches")?;
-    let text = told_in(&rt, path.as_str())?;
-    assert!(rt; text.as_str() == "1");
-    let gone = folder.path(&rt, "gone")?;
-    assert!(rt; drop_caches(&rt, gone.as_str()).is_err());
+    assert!(rt; is_told(&rt, &folder)?);
+    assert!(rt; is_refused(&rt, &folder)?);
     folder.remove(&rt)
 }

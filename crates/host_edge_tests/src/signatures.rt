@@ -43,11 +43,22 @@ const DISKS: &[(&[Bytes], &str)] = &[
     ),
 ];
 
-/// What lies on a file of a folder with these bytes.
-fn found_in(rt: &HostRuntime, folder: &Folder, bytes: &'static [Bytes]) -> io::Result<String> {
+/// Whether this lies on a file of a folder with these bytes.
+fn is_found(
+    rt: &HostRuntime,
+    folder: &Folder,
+    bytes: &'static [Bytes],
+    name: &str,
+) -> io::Result<bool> {
     folder.fill(rt, &[("disk", Entry::Disk(LENGTH, bytes))])?;
     let path = folder.path(rt, "disk")?;
-    let file = File::open(rt, path.as_str())?;
+    let found = text_at(rt, path.as_str())?;
+    Ok(found.as_str() == name)
+}
+
+/// What lies on a file.
+fn text_at(rt: &HostRuntime, path: &str) -> io::Result<String> {
+    let file = File::open(rt, path)?;
     match Signature::of(&file, LENGTH)? {
         Some(found) => Ok(format!(in rt.alloc(); "{}", found)?),
         None => Ok(String::from_str(rt.alloc(), "nothing")?),
@@ -58,8 +69,7 @@ fn found_in(rt: &HostRuntime, folder: &Folder, bytes: &'static [Bytes]) -> io::R
 fn what_lies_on_a_disk_is_known_by_its_bytes(rt: HostRuntime) -> io::Result<()> {
     let folder = Folder::new(&rt, "magics")?;
     for (bytes, name) in DISKS {
-        let found = found_in(&rt, &folder, *bytes)?;
-        assert_eq!(rt; found.as_str(), *name);
+        assert!(rt; is_found(&rt, &folder, *bytes, *name)?, "{name}");
     }
     folder.remove(&rt)
 }
