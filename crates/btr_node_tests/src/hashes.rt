@@ -22,10 +22,15 @@ const SUMS: &[(&[u8], u32)] = &[
     ),
 ];
 
+/// The same, of which proofs are told nothing.
+fn sums() -> &'static [(&'static [u8], u32)] {
+    SUMS
+}
+
 #[test]
 fn checksums(rt: HostRuntime) {
-    for (bytes, sum) in SUMS {
-        assert_eq!(rt; crc32c(*bytes), *sum);
+    for (bytes, sum) in sums() {
+        assert!(rt; crc32c(*bytes) == *sum);
     }
 }
 

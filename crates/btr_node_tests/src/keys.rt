@@ -19,12 +19,22 @@ const INODE: [u8; 160] = [
     0xe3, 0xea, 0xb6, 0x32, 0x2d, 0xd0, 0x08, 0x6b, 0x00, 0x00, 0x00, 0x00, 0xe3, 0xea, 0xb6, 0x32,
 ];
 
+/// Its bytes, of which proofs are told nothing.
+fn inode_item() -> &'static [u8] {
+    &INODE
+}
+
 /// The inode ref of an inode with two names, written by `mkfs.btrfs --rootdir`.
 const INODE_REFS: [u8; 36] = [
     0x02, 0x00, 0x00, 0x00, 0x00, 0x00, 0x00, 0x00, 0x05, 0x00, 0x73, 0x6d, 0x61, 0x6c, 0x6c, 0x04,
     0x00, 0x00, 0x00, 0x00, 0x00, 0x00, 0x00, 0x0b, 0x00, 0x73, 0x65, 0x63, 0x6f, 0x6e, 0x64, 0x5f,
     0x6e, 0x61, 0x6d, 0x65,
 ];
+
+/// Its bytes, likewise.
+fn inode_refs_item() -> &'static [u8] {
+    &INODE_REFS
+}
 
 /// An extref that Linux 6.1 wrote, key (583, 13, 135676301).
 const EXTREF: [u8; 63] = [
@@ -34,6 +44,11 @@ const EXTREF: [u8; 63] = [
     0x78, 0x78, 0x78, 0x78, 0x78, 0x78, 0x78, 0x78, 0x78, 0x78, 0x78, 0x78, 0x78, 0x78, 0x78,
 ];
 
+/// Its bytes, likewise.
+fn extref_item() -> &'static [u8] {
+    &EXTREF
+}
+
 /// The dir item of two names of hash 121453397, written by `mkfs.btrfs --rootdir`.
 const DIR_ITEM: [u8; 78] = [
     0x1b, 0x4c, 0xa7, 0x00, 0x00, 0x00, 0x00, 0x00, 0x01, 0x00, 0x00, 0x00, 0x00, 0x00, 0x00, 0x00,
@@ -42,6 +57,11 @@ const DIR_ITEM: [u8; 78] = [
     0x00, 0x00, 0x00, 0x00, 0x00, 0x00, 0x00, 0x00, 0x00, 0x00, 0x00, 0x00, 0x00, 0x00, 0x00, 0x00,
     0x00, 0x00, 0x09, 0x00, 0x01, 0x66, 0x66, 0x63, 0x61, 0x32, 0x62, 0x65, 0x36, 0x61,
 ];
+
+/// Its bytes, likewise.
+fn dir_item_body() -> &'static [u8] {
+    &DIR_ITEM
+}
 
 /// The target of a symlink that Linux 6.1 wrote.
 const INLINE: [u8; 27] = [
@@ -64,12 +84,16 @@ const KEY: Key = Key {
     offset: 0,
 };
 
+fn first_key() -> Key {
+    Key::at(&DIR_ITEM, 0)
+}
+
 #[test]
 fn key(rt: HostRuntime) {
-    let bytes = front(&DIR_ITEM, 17);
-    let found = [Key::read(bytes), Key::read(front(&DIR_ITEM, 18))];
+    let bytes = front(dir_item_body(), 17);
+    let found = [Key::read(bytes), Key::read(front(dir_item_body(), 18))];
     assert!(rt; found == [Some(KEY), None]);
-    assert!(rt; Key::at(&DIR_ITEM, 0) == KEY);
+    assert!(rt; first_key() == KEY);
     assert!(rt; KEY.to_bytes().as_slice() == bytes);
 }
 
@@ -114,11 +138,11 @@ const TOLD: Inode = Inode {
 #[test]
 fn inode(rt: HostRuntime) {
     let found = [
-        Inode::read(front(&INODE, 160)),
-        Inode::read(front(&INODE, 159)),
+        Inode::read(front(inode_item(), 160)),
+        Inode::read(front(inode_item(), 159)),
     ];
     assert!(rt; found == [Some(TOLD), None]);
-    assert!(rt; TOLD.to_bytes() == INODE);
+    assert!(rt; TOLD.to_bytes().as_slice() == inode_item());
 }
 
 /// A time before 1970.
@@ -128,7 +152,7 @@ const EARLY_BYTES: [u8; 12] = [0xfe, 0xff, 0xff, 0xff, 0xff, 0xff, 0xff, 0xff, 5
 
 #[test]
 fn times(rt: HostRuntime) {
-    let atime = front(behind(&INODE, 112), 12);
+    let atime = front(behind(inode_item(), 112), 12);
     let found = [Stamp::read(atime), Stamp::read(front(&EARLY_BYTES, 12))];
     assert!(rt; found == [Some(ATIME), Some(EARLY)]);
     assert!(rt; EARLY.to_bytes() == EARLY_BYTES);
@@ -168,13 +192,13 @@ const REFS: &[(usize, usize, Option<(u64, &[u8])>)] = &[
 #[test]
 fn inode_refs(rt: HostRuntime) {
     for (count, i, wanted) in REFS {
-        assert!(rt; inode_ref(front(&INODE_REFS, *count), *i) == *wanted);
+        assert!(rt; inode_ref(front(inode_refs_item(), *count), *i) == *wanted);
     }
     let second = InodeRef {
         index: 4,
         name: b"second_name",
     };
-    assert!(rt; is_ref_written(&second, behind(&INODE_REFS, 15)));
+    assert!(rt; is_ref_written(&second, behind(inode_refs_item(), 15)));
 }
 
 /// The parent, the index and the name of reference `i` of the body of an extref, if it is one and has so many.
@@ -204,7 +228,7 @@ const NAME: &[u8] = b"n386-xxxxxxxxxxxxxxxxxxxxxxxxxxxxxxxxxxxxxxxx";
 
 #[test]
 fn extref(rt: HostRuntime) {
-    let body = front(&EXTREF, 63);
+    let body = front(extref_item(), 63);
     assert!(rt; [extref_in(body, 0), extref_in(body, 1)] == [Some((582, 389, NAME)), None]);
     let first = Extref {
         parent: 582,
@@ -257,12 +281,12 @@ fn is_second_at(body: &[u8], i: usize) -> Option<bool> {
 #[test]
 fn dir_item(rt: HostRuntime) {
     let found = [
-        is_second_at(front(&DIR_ITEM, 78), 1),
-        is_second_at(front(&DIR_ITEM, 78), 2),
-        is_second_at(front(&DIR_ITEM, 40), 0),
+        is_second_at(front(dir_item_body(), 78), 1),
+        is_second_at(front(dir_item_body(), 78), 2),
+        is_second_at(front(dir_item_body(), 40), 0),
     ];
     assert!(rt; found == [Some(true), None, None]);
-    assert!(rt; is_entry_written(&SECOND, behind(&DIR_ITEM, 39)));
+    assert!(rt; is_entry_written(&SECOND, behind(dir_item_body(), 39)));
 }
 
 /// The numbers of a file extent that holds bytes, and these bytes.

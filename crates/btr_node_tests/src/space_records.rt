@@ -40,11 +40,21 @@ const ROOT_ITEM: [u8; 439] = [
     0x00, 0x00, 0x00, 0x00, 0x00, 0x00, 0x00,
 ];
 
+/// Its bytes, of which proofs are told nothing.
+fn root_item_body() -> &'static [u8] {
+    &ROOT_ITEM
+}
+
 /// Where the subvolume stands.
 const ROOT_REF: [u8; 21] = [
     0x00, 0x01, 0x00, 0x00, 0x00, 0x00, 0x00, 0x00, 0x09, 0x00, 0x00, 0x00, 0x00, 0x00, 0x00, 0x00,
     0x03, 0x00, 0x73, 0x75, 0x62,
 ];
+
+/// Its bytes, likewise.
+fn root_ref_body() -> &'static [u8] {
+    &ROOT_REF
+}
 
 /// An extent that two files share.
 const EXTENT: [u8; 82] = [
@@ -56,12 +66,22 @@ const EXTENT: [u8; 82] = [
     0x00, 0x00,
 ];
 
+/// Its bytes, likewise.
+fn extent_body() -> &'static [u8] {
+    &EXTENT
+}
+
 /// A node of the chunk tree.
 const METADATA: [u8; 33] = [
     0x01, 0x00, 0x00, 0x00, 0x00, 0x00, 0x00, 0x00, 0x05, 0x00, 0x00, 0x00, 0x00, 0x00, 0x00, 0x00,
     0x02, 0x00, 0x00, 0x00, 0x00, 0x00, 0x00, 0x00, 0xb0, 0x03, 0x00, 0x00, 0x00, 0x00, 0x00, 0x00,
     0x00,
 ];
+
+/// Its bytes, likewise.
+fn metadata_body() -> &'static [u8] {
+    &METADATA
+}
 
 /// The item of an extent of two references by parents, a node and a leaf, as the structures of Linux have them.
 const SHARED: [u8; 46] = [
@@ -76,12 +96,22 @@ const BLOCK_GROUP: [u8; 24] = [
     0x01, 0x00, 0x00, 0x00, 0x00, 0x00, 0x00, 0x00,
 ];
 
+/// Its bytes, likewise.
+fn block_group_body() -> &'static [u8] {
+    &BLOCK_GROUP
+}
+
 /// The device extent of its chunk.
 const DEV_EXTENT: [u8; 48] = [
     0x03, 0x00, 0x00, 0x00, 0x00, 0x00, 0x00, 0x00, 0x00, 0x01, 0x00, 0x00, 0x00, 0x00, 0x00, 0x00,
     0x00, 0x00, 0xd0, 0x00, 0x00, 0x00, 0x00, 0x00, 0x00, 0x00, 0x80, 0x00, 0x00, 0x00, 0x00, 0x00,
     0xce, 0xc9, 0x05, 0x7b, 0x6c, 0x70, 0x45, 0x65, 0x98, 0x93, 0xad, 0xd4, 0xe2, 0x7a, 0x82, 0xd6,
 ];
+
+/// Its bytes, likewise.
+fn dev_extent_body() -> &'static [u8] {
+    &DEV_EXTENT
+}
 
 /// The device.
 const DEVICE: [u8; 98] = [
@@ -94,6 +124,11 @@ const DEVICE: [u8; 98] = [
     0xac, 0x7e,
 ];
 
+/// Its bytes, likewise.
+fn device_body() -> &'static [u8] {
+    &DEVICE
+}
+
 /// A chunk of data.
 const CHUNK: [u8; 80] = [
     0x00, 0x00, 0x80, 0x00, 0x00, 0x00, 0x00, 0x00, 0x02, 0x00, 0x00, 0x00, 0x00, 0x00, 0x00, 0x00,
@@ -102,6 +137,11 @@ const CHUNK: [u8; 80] = [
     0x01, 0x00, 0x00, 0x00, 0x00, 0x00, 0x00, 0x00, 0x00, 0x00, 0xd0, 0x00, 0x00, 0x00, 0x00, 0x00,
     0x09, 0xf4, 0x4f, 0x0b, 0x7c, 0xe4, 0x44, 0xd8, 0xae, 0xcd, 0x44, 0x68, 0x16, 0x33, 0x79, 0x7d,
 ];
+
+/// Its bytes, likewise.
+fn chunk_body() -> &'static [u8] {
+    &CHUNK
+}
 
 /// A chunk of system metadata with two stripes, made by `mkfs.btrfs -m dup`.
 const TWO_STRIPES: [u8; 112] = [
@@ -113,6 +153,11 @@ const TWO_STRIPES: [u8; 112] = [
     0x01, 0x00, 0x00, 0x00, 0x00, 0x00, 0x00, 0x00, 0x00, 0x00, 0xd0, 0x01, 0x00, 0x00, 0x00, 0x00,
     0x69, 0x58, 0x73, 0x32, 0xd4, 0x87, 0x47, 0x2b, 0x98, 0xb1, 0x78, 0x52, 0xd4, 0xa5, 0xa8, 0xba,
 ];
+
+/// Its bytes, likewise.
+fn two_stripes_body() -> &'static [u8] {
+    &TWO_STRIPES
+}
 
 const DEVICE_UUID: [u8; 16] = [
     0x09, 0xf4, 0x4f, 0x0b, 0x7c, 0xe4, 0x44, 0xd8, 0xae, 0xcd, 0x44, 0x68, 0x16, 0x33, 0x79, 0x7d,
@@ -181,13 +226,13 @@ const ROOT: RootItem = RootItem {
 #[test]
 fn root_item(rt: HostRuntime) {
     let found = [
-        RootItem::read(front(&ROOT_ITEM, 439)),
-        RootItem::read(front(&ROOT_ITEM, 438)),
+        RootItem::read(front(root_item_body(), 439)),
+        RootItem::read(front(root_item_body(), 438)),
     ];
     assert!(rt; found == [Some(ROOT), None]);
     let mut written = [0; 439];
     ROOT.write(&mut written);
-    assert!(rt; written == ROOT_ITEM);
+    assert!(rt; written.as_slice() == root_item_body());
 }
 
 /// The directory, the sequence and the name in the body of a root ref, if it is one.
@@ -209,7 +254,7 @@ fn is_root_ref_written(found: &RootRef<'_>, wanted: &[u8]) -> bool {
 
 #[test]
 fn root_ref(rt: HostRuntime) {
-    let body = front(&ROOT_REF, 21);
+    let body = front(root_ref_body(), 21);
     let wanted = Some((256, 9, b"sub".as_slice()));
     assert!(rt; [root_ref_in(body), root_ref_in(front(body, 20))] == [wanted, None]);
     let found = RootRef {
@@ -227,8 +272,8 @@ fn extent_head(rt: HostRuntime) {
         generation: 8,
         flags: 1,
     };
-    assert!(rt; ExtentHead::read(front(&EXTENT, 82)) == Some(head));
-    assert!(rt; head.to_bytes().as_slice() == front(&EXTENT, 24));
+    assert!(rt; ExtentHead::read(front(extent_body(), 82)) == Some(head));
+    assert!(rt; head.to_bytes().as_slice() == front(extent_body(), 24));
 }
 
 /// Reference `i` behind the head of an extent's item, if there are references and so many.
@@ -271,9 +316,13 @@ const REFS: &[(&[u8], usize, usize, Option<InlineRef>)] = &[
     (&SHARED, 45, 0, None),
 ];
 
+fn refs() -> &'static [(&'static [u8], usize, usize, Option<InlineRef>)] {
+    REFS
+}
+
 #[test]
 fn inline_refs(rt: HostRuntime) {
-    for (body, count, i, wanted) in REFS {
+    for (body, count, i, wanted) in refs() {
         assert!(rt; inline_ref(front(*body, *count), *i) == *wanted);
     }
 }
@@ -291,8 +340,8 @@ fn is_written(found: &InlineRef, wanted: &[u8]) -> bool {
 
 #[test]
 fn inline_refs_are_written(rt: HostRuntime) {
-    assert!(rt; is_written(&SECOND, behind(&EXTENT, 53)));
-    assert!(rt; is_written(&NODE, behind(&METADATA, 24)));
+    assert!(rt; is_written(&SECOND, behind(extent_body(), 53)));
+    assert!(rt; is_written(&NODE, behind(metadata_body(), 24)));
 }
 
 /// Whether a body of references has none.
@@ -305,7 +354,7 @@ fn has_none(body: &[u8]) -> bool {
 
 #[test]
 fn no_bytes_are_no_references(rt: HostRuntime) {
-    assert!(rt; has_none(front(&EXTENT, 0)));
+    assert!(rt; has_none(front(extent_body(), 0)));
 }
 
 /// The item of an extent with these references, of generation 9.
@@ -332,11 +381,11 @@ const GROUP: BlockGroup = BlockGroup {
 #[test]
 fn block_group(rt: HostRuntime) {
     let found = [
-        BlockGroup::read(front(&BLOCK_GROUP, 24)),
-        BlockGroup::read(front(&BLOCK_GROUP, 23)),
+        BlockGroup::read(front(block_group_body(), 24)),
+        BlockGroup::read(front(block_group_body(), 23)),
     ];
     assert!(rt; found == [Some(GROUP), None]);
-    assert!(rt; GROUP.to_bytes() == BLOCK_GROUP);
+    assert!(rt; GROUP.to_bytes().as_slice() == block_group_body());
 }
 
 /// What the device tells.
@@ -362,8 +411,8 @@ const DEVICE_TOLD: Device = Device {
 
 #[test]
 fn device(rt: HostRuntime) {
-    assert!(rt; Device::read(front(&DEVICE, 98)) == Some(DEVICE_TOLD));
-    assert!(rt; DEVICE_TOLD.to_bytes() == DEVICE);
+    assert!(rt; Device::read(front(device_body(), 98)) == Some(DEVICE_TOLD));
+    assert!(rt; DEVICE_TOLD.to_bytes().as_slice() == device_body());
 }
 
 /// What the device extent tells.
@@ -380,8 +429,8 @@ const EXTENT_TOLD: DevExtent = DevExtent {
 
 #[test]
 fn device_extent(rt: HostRuntime) {
-    assert!(rt; DevExtent::read(front(&DEV_EXTENT, 48)) == Some(EXTENT_TOLD));
-    assert!(rt; EXTENT_TOLD.to_bytes() == DEV_EXTENT);
+    assert!(rt; DevExtent::read(front(dev_extent_body(), 48)) == Some(EXTENT_TOLD));
+    assert!(rt; EXTENT_TOLD.to_bytes().as_slice() == dev_extent_body());
 }
 
 /// What the chunk of data tells.
@@ -405,15 +454,15 @@ const CHUNK_TOLD: Chunk = Chunk {
 #[test]
 fn chunk(rt: HostRuntime) {
     let found = [
-        Chunk::read(front(&CHUNK, 80)),
-        Chunk::read(front(&CHUNK, 79)),
-        Chunk::read(front(&CHUNK, 48)),
-        Chunk::read(front(&TWO_STRIPES, 80)),
+        Chunk::read(front(chunk_body(), 80)),
+        Chunk::read(front(chunk_body(), 79)),
+        Chunk::read(front(chunk_body(), 48)),
+        Chunk::read(front(two_stripes_body(), 80)),
     ];
     assert!(rt; found == [Some(CHUNK_TOLD), None, None, None]);
     let mut written = [0; 80];
     CHUNK_TOLD.write(&mut written);
-    assert!(rt; written == CHUNK);
+    assert!(rt; written.as_slice() == chunk_body());
 }
 
 /// The number of stripes, the kind and the offset of the first stripe in the body of a chunk, if it is one.
@@ -424,5 +473,5 @@ fn stripes_in(body: &[u8]) -> Option<(u16, u64, u64)> {
 
 #[test]
 fn two_stripes(rt: HostRuntime) {
-    assert!(rt; stripes_in(front(&TWO_STRIPES, 112)) == Some((2, 0x22, 22020096)));
+    assert!(rt; stripes_in(front(two_stripes_body(), 112)) == Some((2, 0x22, 22020096)));
 }
