@@ -4,6 +4,7 @@ use btr_keys::{
     DirEntry, DirItems, DiskRange, ExtentContent, Extref, Extrefs, FileExtent, Inode, InodeRef,
     InodeRefs, Key, Stamp,
 };
+use std::test::Fail;
 
 /// Inode 260 of a volume that Linux 6.1 wrote.
 const INODE: [u8; 160] = [
@@ -314,39 +315,27 @@ fn inline_extent(rt: HostRuntime) {
     assert!(rt; inline_again() == INLINE);
 }
 
-/// The numbers of a preallocated file extent: generation and bytes in memory; compression, encryption and other; and its range.
-fn prealloc_in(body: &[u8]) -> Option<([u64; 2], [u16; 3], DiskRange)> {
-    let extent = FileExtent::read(body)?;
-    let numbers = [extent.generation, extent.ram_bytes];
-    let codes = [
-        extent.compression as u16,
-        extent.encryption as u16,
-        extent.other,
-    ];
-    match extent.content {
-        ExtentContent::Prealloc(range) => Some((numbers, codes, range)),
-        _ => None,
-    }
-}
-
-/// Those bytes, read and written.
-fn prealloc_again() -> [u8; 53] {
-    let mut written = [0; 53];
-    if let Some(extent) = FileExtent::read(&PREALLOC) {
-        extent.write(&mut written);
-    }
-    written
-}
-
 #[test]
-fn preallocated_extent(rt: HostRuntime) {
-    let range = DiskRange {
+fn preallocated_extent(rt: HostRuntime) -> Result<(), Fail> {
+    let extent = FileExtent::read(&PREALLOC).ok_or("an extent")?;
+    assert_eq!(rt; (extent.generation, extent.ram_bytes), (9, 1048576));
+    assert_eq!(rt;
+        (extent.compression, extent.encryption, extent.other),
+        (0, 0, 0)
+    );
+    let wanted = DiskRange {
         disk_bytenr: 15974400,
         disk_num_bytes: 1048576,
         offset: 8192,
         num_bytes: 1040384,
     };
-    assert!(rt; prealloc_in(front(&PREALLOC, 53)) == Some(([9, 1048576], [0; 3], range)));
-    assert!(rt; FileExtent::read(front(&PREALLOC, 52)).is_none());
-    assert!(rt; prealloc_again() == PREALLOC);
+    match extent.content {
+        ExtentContent::Prealloc(range) => assert_eq!(rt; range, wanted),
+        _ => return Err("preallocated".into()),
+    }
+    let mut written = [0; 53];
+    extent.write(&mut written);
+    assert_eq!(rt; written, PREALLOC);
+    assert!(rt; FileExtent::read(&PREALLOC[..52]).is_none());
+    Ok(())
 }
