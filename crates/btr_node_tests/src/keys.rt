@@ -290,29 +290,19 @@ fn dir_item(rt: HostRuntime) {
     assert!(rt; is_entry_written(&SECOND, behind(dir_item_body(), 39)));
 }
 
-/// The numbers of a file extent that holds bytes, and these bytes.
-fn inline_in(body: &[u8]) -> Option<(u64, u64, &[u8])> {
-    let extent = FileExtent::read(body)?;
-    match extent.content {
-        ExtentContent::Inline(bytes) => Some((extent.generation, extent.ram_bytes, bytes)),
-        _ => None,
-    }
-}
-
-/// Those bytes, read and written.
-fn inline_again() -> [u8; 27] {
-    let mut written = [0; 27];
-    if let Some(extent) = FileExtent::read(&INLINE) {
-        extent.write(&mut written);
-    }
-    written
-}
-
 #[test]
-fn inline_extent(rt: HostRuntime) {
-    assert!(rt; inline_in(front(&INLINE, 27)) == Some((7, 6, b"target".as_slice())));
-    assert!(rt; FileExtent::read(front(&INLINE, 20)).is_none());
-    assert!(rt; inline_again() == INLINE);
+fn inline_extent(rt: HostRuntime) -> Result<(), Fail> {
+    let extent = FileExtent::read(&INLINE).ok_or("an extent")?;
+    assert_eq!(rt; (extent.generation, extent.ram_bytes), (7, 6));
+    match extent.content {
+        ExtentContent::Inline(bytes) => assert_eq!(rt; bytes, b"target".as_slice()),
+        _ => return Err("inline".into()),
+    }
+    let mut written = [0; 27];
+    extent.write(&mut written);
+    assert_eq!(rt; written, INLINE);
+    assert!(rt; FileExtent::read(&INLINE[..20]).is_none());
+    Ok(())
 }
 
 #[test]
