@@ -16,19 +16,24 @@ use std::process::Abort;
 use std::test::*;
 use unit_plan::{Counts, Piece, PieceList, Plan, choose, needed};
 
+/// The volume of a disk.
+fn opened(alloc: Global, disk: &mut MemDisk) -> Result<Volume, VolAnswer> {
+    disk.settle();
+    disk.open("", Access::Read)?;
+    Volume::open(alloc, disk)
+}
+
 /// The pieces of a volume, with or without small files that stay in the tree; and the units that its conversion by no other
 /// option takes, all of them and those of the chunk tree.
 fn found(
     alloc: Global,
     disk: &mut MemDisk,
+    volume: &Volume,
     inline: bool,
 ) -> Result<(Pieces, (u64, u64)), VolAnswer> {
-    disk.settle();
-    disk.open("", Access::Read)?;
-    let volume = Volume::open(alloc, disk)?;
     let mut options = Options::plain();
     options.inline = inline;
-    let pieces = Pieces::find(alloc, disk, &volume, &options)?;
+    let pieces = Pieces::find(alloc, disk, volume, &options)?;
     let need = needed(&pieces.counts(), &Options::plain());
     Ok((pieces, (need.total(), need.system)))
 }
@@ -185,10 +190,18 @@ const ONE_BYTE_TOO_LONG: Case = Case {
     units: None,
 };
 
+impl Case {
+    /// What is found of the volume.
+    fn found(&self, alloc: Global) -> Result<(Pieces, (u64, u64)), VolAnswer> {
+        let mut disk = self.sample.disk(alloc)?;
+        let volume = opened(alloc, &mut disk)?;
+        found(alloc, &mut disk, &volume, self.inline)
+    }
+}
+
 /// Sees that what a case says is found of its volume.
 fn is_found(rt: &(impl Abort + AllocGlobal), case: &Case) -> Result<(), VolAnswer> {
-    let mut disk = case.sample.disk(rt.alloc())?;
-    let (pieces, units) = found(rt.alloc(), &mut disk, case.inline)?;
+    let (pieces, units) = case.found(rt.alloc())?;
     assert_eq!(rt; first_other(&pieces, case.pieces), None);
     assert_eq!(rt; pieces.counts(), case.counts);
     assert_eq!(rt; pieces.len() as u64, case.counts.pieces);

@@ -277,9 +277,10 @@ const CASES: [Case; 10] = [
 impl Case {
     /// The volume, whose superblock is this one if it is Btrfs.
     fn disk(&self, alloc: Global, superblock: &Block) -> Result<MemDisk, Broken> {
-        let mut disk = match self.format {
-            Format::Reiser => reiser(alloc, self.blocks)?,
-            Format::Btrfs => btrfs(alloc, self.blocks, superblock)?,
+        let mut disk = if self.format == Format::Btrfs {
+            btrfs(alloc, self.blocks, superblock)?
+        } else {
+            reiser(alloc, self.blocks)?
         };
         self.fill(&mut disk, superblock)?;
         Ok(disk)
