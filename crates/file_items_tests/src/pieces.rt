@@ -12,7 +12,6 @@ use refusals::VolAnswer;
 use reiser_volume::Volume;
 use samples::{Sample, divided};
 use std::alloc::Global;
-use std::process::Abort;
 use std::test::*;
 use unit_plan::{Counts, Piece, PieceList, Plan, choose, needed};
 
@@ -197,23 +196,39 @@ impl Case {
         let volume = opened(alloc, &mut disk)?;
         found(alloc, &mut disk, &volume, self.inline)
     }
+
+    /// Whether that is what has to be found.
+    fn is_of(&self, pieces: &Pieces, units: (u64, u64)) -> bool {
+        first_other(pieces, self.pieces).is_none()
+            && pieces.counts() == self.counts
+            && pieces.len() as u64 == self.counts.pieces
+            && (self.units.is_none() || self.units == Some(units))
+    }
+
+    /// The same of what is found.
+    fn is_right(&self, alloc: Global) -> Result<bool, VolAnswer> {
+        let (pieces, units) = self.found(alloc)?;
+        Ok(self.is_of(&pieces, units))
+    }
 }
 
-/// Sees that what a case says is found of its volume.
-fn is_found(rt: &(impl Abort + AllocGlobal), case: &Case) -> Result<(), VolAnswer> {
-    let (pieces, units) = case.found(rt.alloc())?;
-    assert_eq!(rt; first_other(&pieces, case.pieces), None);
-    assert_eq!(rt; pieces.counts(), case.counts);
-    assert_eq!(rt; pieces.len() as u64, case.counts.pieces);
-    assert!(rt; case.units.is_none() || case.units == Some(units));
-    Ok(())
+/// How many cases are right, up to the first one that is not.
+fn right(alloc: Global, cases: &[Case]) -> Result<usize, VolAnswer> {
+    let mut count = 0usize;
+    for case in cases {
+        if !case.is_right(alloc)? {
+            break;
+        }
+        count = count.saturating_add(1);
+    }
+    Ok(count)
 }
+
+const CASES: [Case; 4] = [EMPTY, DIVIDED, NOT_IN_THE_TREE, ONE_BYTE_TOO_LONG];
 
 #[test]
 fn used_blocks_are_divided(rt: HostRuntime) -> Result<(), VolAnswer> {
-    for case in &[EMPTY, DIVIDED, NOT_IN_THE_TREE, ONE_BYTE_TOO_LONG] {
-        is_found(&rt, case)?;
-    }
+    assert_eq!(rt; right(rt.alloc(), &CASES)?, CASES.len());
     Ok(())
 }
 

@@ -1,7 +1,7 @@
 // The saved image of a small disk.
 ghost use Rattle.std.specs.Prelude.{◌≡◌, length, IfOk};
 
-use crate::disks::{Broken, filled, put};
+use crate::disks::{Broken, filled, put, see};
 use btr_reader::{Btrfs, ImageMap, MappedExtent};
 use btr_reader_walk::MapRange;
 use btrfs_format::block::SUPER_INFO_OFFSET;
@@ -99,19 +99,16 @@ fn bytes_of(image: &ImageMap, disk: &mut MemDisk, blocks: &[BlockNo; 6]) -> (u64
 #[test]
 fn blocks_come_from_their_places(rt: HostRuntime) -> Result<(), Broken> {
     let bytes = [Some(0), Some(11), Some(12), Some(0), Some(10), Some(0)];
-    assert_eq!(rt; told(rt.alloc(), None, &[0, 1, 2, 3, 4, 5])?, (6, bytes, 3));
-    Ok(())
+    let told = told(rt.alloc(), None, &[0, 1, 2, 3, 4, 5])?;
+    see(told == (6, bytes, 3), "each block has its byte")
 }
 
 /// A hole is read without the device.
 #[test]
 fn a_fault_of_the_device_is_one_of_the_image(rt: HostRuntime) -> Result<(), Broken> {
     let bytes = [Some(11), Some(0), None, Some(10), Some(10), Some(0)];
-    assert_eq!(rt;
-        told(rt.alloc(), Some(1), &[1, 0, 4, 4, 4, 0])?,
-        (6, bytes, 3)
-    );
-    Ok(())
+    let told = told(rt.alloc(), Some(1), &[1, 0, 4, 4, 4, 0])?;
+    see(told == (6, bytes, 3), "the block is read the next time")
 }
 
 /// An image of 512 blocks whose blocks from 256 on lie in their places, and all others in blocks 1000 and up.
@@ -157,11 +154,10 @@ fn moved(alloc: Global, blocks: &[BlockNo]) -> Result<Option<BlockNo>, Memory> {
 }
 
 #[test]
-fn a_moved_block_is_told(rt: HostRuntime) -> Result<(), Memory> {
+fn a_moved_block_is_told(rt: HostRuntime) -> Result<(), Broken> {
     const USED: [BlockNo; 7] = [0, 16, 255, 256, 300, 455, 456];
-    assert_eq!(rt; moved(rt.alloc(), &USED[..6])?, None);
-    assert_eq!(rt; moved(rt.alloc(), &USED)?, Some(456));
-    Ok(())
+    see(moved(rt.alloc(), &USED[..6])?.is_none(), "none has moved")?;
+    see(moved(rt.alloc(), &USED)? == Some(456), "the last one has")
 }
 
 /// A Btrfs volume without a saved image, whose chunk tree lies from block 8448 on, and whose root tree from block 8704 on.
@@ -223,7 +219,7 @@ const USES: [(Sample, u64, Use); 9] = [
 fn reserved_blocks_in_use_are_told(rt: HostRuntime) -> Result<(), Broken> {
     for (sample, blocks, told) in &USES {
         let both = used_twice(rt.alloc(), sample, None, *blocks)?;
-        assert!(rt; both == (*told, *told));
+        see(both == (*told, *told), "the block in use is told")?;
     }
     Ok(())
 }
@@ -231,8 +227,7 @@ fn reserved_blocks_in_use_are_told(rt: HostRuntime) -> Result<(), Broken> {
 #[test]
 fn a_fault_is_no_reserved_block(rt: HostRuntime) -> Result<(), Broken> {
     let both = used_twice(rt.alloc(), &Sample::PLAIN, Some(1), 8448)?;
-    assert!(rt; both == (Err(BtrAnswer::Fault), Ok(None)));
-    Ok(())
+    see(both == (Err(BtrAnswer::Fault), Ok(None)), "a fault is none")
 }
 
 /// Which reserved block is told on a device of another length.
@@ -248,8 +243,10 @@ const SIZE: BtrAnswer = BtrAnswer::Refused(BtrRefusal::BadBtrfs {
 
 #[test]
 fn another_device_is_told(rt: HostRuntime) -> Result<(), Broken> {
-    assert!(rt; used_elsewhere(rt.alloc())? == Err(SIZE));
-    Ok(())
+    see(
+        used_elsewhere(rt.alloc())? == Err(SIZE),
+        "the length is told",
+    )
 }
 
 /// How many blocks the way to the image reads, whether it leads to none, the reserved block in use, and whether that holds for the whole device.
@@ -268,8 +265,7 @@ fn way(alloc: Global) -> Result<(u64, bool, Option<BlockNo>, bool), Broken> {
 /// Four blocks: the file tree is one leaf, and names no tree of an image.
 #[test]
 fn the_way_reads_each_node_once(rt: HostRuntime) -> Result<(), Broken> {
-    assert_eq!(rt; way(rt.alloc())?, (4, true, None, true));
-    Ok(())
+    see(way(rt.alloc())? == (4, true, None, true), "four are read")
 }
 
 /// The reserved block in use that is told for 8463 blocks, another number of blocks, and whether it holds of that.
@@ -286,12 +282,13 @@ const HOLDS: [(Option<BlockNo>, u64, bool); 9] = [
 ];
 
 #[test]
-fn what_is_told_of_one_length_holds_of_others(rt: HostRuntime) {
+fn what_is_told_of_one_length_holds_of_others() -> Result<(), Broken> {
     for (used, blocks, holds) in &HOLDS {
         let told = Reserved {
             blocks: 8463,
             used: *used,
         };
-        assert_eq!(rt; told.holds_of(*blocks), *holds);
+        see(told.holds_of(*blocks) == *holds, "it holds of these")?;
     }
+    Ok(())
 }

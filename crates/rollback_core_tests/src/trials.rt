@@ -70,7 +70,8 @@ fn tried_on(alloc: Global, number: u32, blocks: u64) -> Result<Ended, Broken> {
 #[test]
 fn samples_go_there_and_back(rt: HostRuntime) -> Result<(), Broken> {
     for Case(number, blocks, ended) in &CASES {
-        assert!(rt; tried_on(rt.alloc(), *number, *blocks)? == *ended);
+        let told = tried_on(rt.alloc(), *number, *blocks)?;
+        see(told == *ended, "a trial ends so")?;
     }
     Ok(())
 }

@@ -75,12 +75,12 @@ impl Node {
         Ok(places)
     }
 
-    /// The part of the node of this number, of four.
+    /// The block of the node of this number, of four.
     fn part(&self, i: usize) -> Block {
         let from = i.saturating_mul(4096);
         let mut to = Block::zero();
-        for (at, byte) in to.bytes.iter_mut().enumerate() {
-            *byte = self.byte(from.saturating_add(at));
+        if from <= self.bytes.len() && self.bytes.len() - from >= 4096 {
+            to.bytes.copy_from_slice(&self.bytes[from..from + 4096]);
         }
         to
     }

@@ -41,6 +41,24 @@ pub enum Way {
     Rollback,
 }
 
+impl Way {
+    /// The line that goes this way.
+    fn line(self) -> &'static str {
+        match self {
+            Way::Convert => "convert x",
+            Way::Rollback => "rollback x",
+        }
+    }
+
+    /// A disk on which a volume is to go this way.
+    fn base(self, old: &Old) -> Result<MemDisk, Broken> {
+        match self {
+            Way::Convert => old.copy(),
+            Way::Rollback => old.converted(),
+        }
+    }
+}
+
 impl Volume {
     /// The disk, which is flushed and closed.
     pub fn disk(self, alloc: Global) -> Result<MemDisk, Broken> {
@@ -74,18 +92,14 @@ impl Volume {
         choices: &[Choice],
     ) -> Result<u64, Broken> {
         let old = self.old(alloc)?;
-        match way {
-            Way::Convert => old.stops("convert x", &old.copy()?, stops, choices),
-            Way::Rollback => old.stops("rollback x", &old.converted()?, stops, choices),
-        }
+        let base = way.base(&old)?;
+        old.stops(way.line(), &base, stops, choices)
     }
 
     /// The same as [`Old::torn_ends`].
     pub fn torn_ends(self, alloc: Global, way: Way, seeds: u32) -> Result<u64, Broken> {
         let old = self.old(alloc)?;
-        match way {
-            Way::Convert => old.torn_ends("convert x", &old.copy()?, seeds),
-            Way::Rollback => old.torn_ends("rollback x", &old.converted()?, seeds),
-        }
+        let base = way.base(&old)?;
+        old.torn_ends(way.line(), &base, seeds)
     }
 }

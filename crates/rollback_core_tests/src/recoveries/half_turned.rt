@@ -56,8 +56,7 @@ fn twice(alloc: Global, disk: &mut MemDisk, before: &Block) -> Result<([Ended; 2
 fn a_half_turned_superblock_is_put_back(rt: HostRuntime) -> Result<(), Broken> {
     let (mut disk, before) = half_turned(rt.alloc())?;
     let ended = twice(rt.alloc(), &mut disk, &before)?;
-    assert!(rt; ended == ([told(2), told(0)], true));
-    Ok(())
+    see(ended == ([told(2), told(0)], true), "block 16 is back")
 }
 
 /// A recovery that stops behind this write while it puts block 16 back leaves what the next one puts back, whatever a crash chooses.
@@ -95,7 +94,6 @@ fn astray(alloc: Global) -> Result<(MemDisk, Block), Broken> {
 fn a_mark_without_a_copy_is_left_alone(rt: HostRuntime) -> Result<(), Broken> {
     let (mut disk, half) = astray(rt.alloc())?;
     let (answer, writes) = recovered(rt.alloc(), &mut disk)?;
-    assert!(rt; answer.is_ok() && writes == 0);
-    assert!(rt; holds(&mut disk, 16, &half)?);
-    Ok(())
+    see(answer.is_ok() && writes == 0, "nothing is written")?;
+    see(holds(&mut disk, 16, &half)?, "block 16 is as it was")
 }

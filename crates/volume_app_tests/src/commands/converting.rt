@@ -99,6 +99,9 @@ const THERE_AND_BACK: [Step; 3] = [
 /// Where the copy at 64 MiB would end with the volume there is none: the last block stays as it is, on the way there and back.
 #[test]
 fn a_last_block_is_kept(rt: HostRuntime) -> Result<(), Broken> {
-    assert_eq!(rt; follow_and_look(rt.alloc(), &THERE_AND_BACK)?, 3);
-    Ok(())
+    if follow_and_look(rt.alloc(), &THERE_AND_BACK)? == 3 {
+        Ok(())
+    } else {
+        Err(Broken::Changed(16384))
+    }
 }
