@@ -1,6 +1,7 @@
 // Items of the file tree of a volume with what is rare: a symlink in two direct items, a tail behind a hole, two names of one
 // hash, and more names of a file than an inode ref holds. Lengths and checksums are those of an independent program.
-ghost use Rattle.std.specs.Prelude.{◌≡◌, None, IfOk};
+ghost use Rattle.std.specs.Prelude.{◌≡◌, None, IfOk, false};
+ghost use Rattle.file_items.specs.Stream.{FitsStream};
 
 use super::placed;
 use super::samples::{FILE, SYMLINK, root, thing};
@@ -77,15 +78,17 @@ fn crowded(alloc: Global) -> Result<MemDisk, Memory>
     with_leaves(alloc, 2048, &[(0, 54)], &first, &leaf_of(alloc, &second)?)
 }
 
-/// The length and the checksum of the body of the item with this key.
-fn body_of(
-    alloc: Global,
+/// The length and the checksum of the body of the item with this key, among those that are to come.
+fn body_among(
+    items: &mut Items,
     disk: &mut MemDisk,
     volume: &Volume,
     pieces: &Pieces,
     key: Key,
-) -> Result<Option<(usize, u32)>, VolAnswer> {
-    let mut items = Items::tree5(alloc, volume, pieces, &Options::plain(), 0)?;
+) -> Result<Option<(usize, u32)>, VolAnswer>
+    requires live { items.old.spent ≡ false }
+    requires fits { FitsStream items.old volume.now pieces.now.items.items }
+{
     for _ in 0..100_000 {
         if !items.advance(disk, volume, pieces)? {
             break;
@@ -96,6 +99,18 @@ fn body_of(
         }
     }
     Ok(None)
+}
+
+/// The same among all items of the tree.
+fn body_of(
+    alloc: Global,
+    disk: &mut MemDisk,
+    volume: &Volume,
+    pieces: &Pieces,
+    key: Key,
+) -> Result<Option<(usize, u32)>, VolAnswer> {
+    let mut items = Items::tree5(alloc, volume, pieces, &Options::plain(), 0)?;
+    body_among(&mut items, disk, volume, pieces, key)
 }
 
 /// An item: its key, and the length and the checksum of its body.
@@ -119,12 +134,14 @@ const TOLD: [Told; 11] = [
     ((259, 108, 0), 34, 1382160756),
 ];
 
-/// How many items are as they are told, up to the first other one; none where there is no plan.
-fn as_told(alloc: Global, told: &[Told]) -> Result<usize, VolAnswer> {
-    let mut disk = crowded(alloc)?;
-    let Some((volume, pieces, _)) = placed(alloc, &mut disk)? else {
-        return Ok(0);
-    };
+/// How many items are as they are told, up to the first other one.
+fn count_told(
+    alloc: Global,
+    disk: &mut MemDisk,
+    volume: &Volume,
+    pieces: &Pieces,
+    told: &[Told],
+) -> Result<usize, VolAnswer> {
     let mut count = 0usize;
     for ((objectid, kind, offset), length, sum) in told {
         let key = Key {
@@ -132,12 +149,21 @@ fn as_told(alloc: Global, told: &[Told]) -> Result<usize, VolAnswer> {
             kind: *kind,
             offset: *offset,
         };
-        if body_of(alloc, &mut disk, &volume, &pieces, key)? != Some((*length, *sum)) {
+        if body_of(alloc, disk, volume, pieces, key)? != Some((*length, *sum)) {
             break;
         }
         count = count.saturating_add(1);
     }
     Ok(count)
+}
+
+/// The same of the volume with what is rare; none where there is no plan.
+fn as_told(alloc: Global, told: &[Told]) -> Result<usize, VolAnswer> {
+    let mut disk = crowded(alloc)?;
+    match placed(alloc, &mut disk)? {
+        Some((volume, pieces, _)) => count_told(alloc, &mut disk, &volume, &pieces, told),
+        None => Ok(0),
+    }
 }
 
 #[test]

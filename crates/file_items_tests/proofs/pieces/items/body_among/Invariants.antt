@@ -1,5 +1,5 @@
 use Rattle.file_items_tests.proofs.Imports.{◌≡◌, false, FitsStream}
-use Rattle.file_items_tests.proofs.pieces.items.body_of.Given as goal
+use Rattle.file_items_tests.proofs.pieces.items.body_among.Given as goal
 
 abbrev pub invariant-loop : goal.invariant-loop
 invariant-loop l = record {
