@@ -1,10 +1,6 @@
 -- The map of addresses, behind the ranges that do not hold one.
-use Rattle.std.proofs.Common.{◌≡◌, ◌≤◌, ◌<◌, ℕ, ◌+◌, ◌-◌, Bool, true, false, List, [], ◌∷◌, length, get_or, drop, Option, Some, None, if◌then◌else◌, refl, sym, ap, ◌∙◌, arith, add-one, drop-cons}
-use Rattle.std.specs.Prelude.{IfSome}
+use Rattle.btr_check_sums.proofs.Imports.{◌≡◌, ◌≤◌, ◌<◌, ℕ, ◌+◌, ◌-◌, Bool, true, false, List, [], ◌∷◌, length, get_or, drop, Option, Some, None, if◌then◌else◌, refl, sym, ap, ◌∙◌, arith, add-one, drop-cons, IfSome, drop_all, nat_tests, holds, place}
 use Rattle.std.specs.Option.{MatchOption}
-use Rattle.std.proofs.lemmas.List.{drop_all}
-use Rattle.std.proofs.lemmas.Bool.Decides.{nat_tests}
-use Rattle.btr_check_rules.specs.btr_reader.btr_reader_walk.Map.{holds, place}
 use Rattle.btr_check_rules.specs.btr_reader.btr_reader_walk.declared.map.MapRange.{MapRange}
 use Rattle.btr_check_sums.specs.PlaceRuns.{TellsPlaces, hand_place, is_in_run}
 use Rattle.btr_check_sums.specs.declared.place_run.PlaceRun.{PlaceRun}

@@ -1,8 +1,5 @@
 -- Sets of blocks, one part more.
-use Rattle.std.proofs.Common.{◌≡◌, ◌<◌, ◌+◌, ℕ, Bool, true, false, not, ◌&&◌, ◌||◌, List, [], ◌∷◌, ◌++◌, length, get_or, take, refl, sym, ap, ◌∙◌}
-use Rattle.std.proofs.lemmas.List.Folds.{list_any-append, list_any_more}
-use Rattle.number_runs.specs.Runs.{is_among, is_in}
-use Rattle.btr_check_sums.specs.Uses.{is_laid_in}
+use Rattle.btr_check_sums.proofs.Imports.{◌≡◌, ◌<◌, ◌+◌, ℕ, Bool, true, false, not, ◌&&◌, ◌||◌, List, [], ◌∷◌, ◌++◌, length, get_or, take, refl, sym, ap, ◌∙◌, list_any-append, list_any_more, is_among, is_in, is_laid_in}
 use Rattle.btr_check_sums.specs.declared.use_of_data.LaidOut.{LaidOut}
 
 pub or_false : (b : Bool) → (b || false) ≡ b

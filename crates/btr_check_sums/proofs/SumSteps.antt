@@ -1,15 +1,10 @@
 -- One more item of the checksum tree.
-use Rattle.std.proofs.Common.{◌≡◌, ◌≤◌, ◌<◌, ◌+◌, ◌*◌, ◌%◌, ◌^◌, ◌==◌, ◌⊎◌, ℕ, Bool, true, false, ◌&&◌, ◌||◌, List, [], ◌∷◌, ◌++◌, length, map, get_or, inl, inr, refl, sym, ap, subst, ◌∙◌, ⊎_elim, arith}
-use Rattle.std.proofs.lemmas.Bool.Decides.{Decides-and, Decides-eqb, Decides-like, nat_tests}
-use Rattle.std.proofs.lemmas.List.{get_or_append_left, get_or_push, length_push, map-append}
+use Rattle.btr_check_sums.proofs.Imports.{◌≡◌, ◌≤◌, ◌<◌, ◌+◌, ◌*◌, ◌%◌, ◌^◌, ◌==◌, ◌⊎◌, ℕ, Bool, true, false, ◌&&◌, ◌||◌, List, [], ◌∷◌, ◌++◌, length, map, get_or, inl, inr, refl, sym, ap, subst, ◌∙◌, ⊎_elim, arith, Decides-and, Decides-eqb, Decides-like, nat_tests, get_or_append_left, get_or_push, length_push, map-append, list_any-append, All, AllPairs, Any, Contains, nat_le, is_among}
 use Rattle.std.proofs.lemmas.List.Elements.{All-contains, All-nil, All-push, All-weaker, Contains-push}
-use Rattle.std.proofs.lemmas.List.Folds.{list_any-append}
 use Rattle.std.proofs.lemmas.List.Quantifiers.{Any-push, all_pairs_push}
 use Rattle.std.specs.Bool.{Decides}
-use Rattle.std.specs.Prelude.{All, AllPairs, Any, Contains, nat_le}
 use Rattle.btr_reader_walk.specs.btrfs_format.declared.key.TheConstants.{EXTENT_CSUM}
 use Rattle.btr_reader_walk.specs.btrfs_format.declared.object.TheConstants.{EXTENT_CSUM_OBJECTID}
-use Rattle.number_runs.specs.Runs.{is_among}
 use Rattle.btr_check_rules.specs.Sums.{IsSumItem, most_sums, sum_count, sum_end}
 use Rattle.btr_check_rules.specs.Sound.{Checksums, part_number}
 use Rattle.btr_check_rules.specs.btr_reader.btr_keys.declared.key.Key.{Key}

@@ -1,4 +1,4 @@
-use Rattle.std.proofs.Common.{sym, ◌∙◌}
+use Rattle.btr_check_sums.proofs.Imports.{sym, ◌∙◌}
 use Rattle.btr_check_sums.proofs.PlaceRuns.{hand_fresh, hand_kept, hand_tells}
 use Rattle.btr_check_sums.proofs.hand.find_place.Goals as goal
 

@@ -1,4 +1,4 @@
-use Rattle.std.proofs.Common.{arith, sym, ◌∙◌}
+use Rattle.btr_check_sums.proofs.Imports.{arith, sym, ◌∙◌}
 use Rattle.btr_check_sums.proofs.PlaceRuns.{none_holds, run_has, run_tells, skip_one}
 use Rattle.btr_check_sums.proofs.places.run_from.Goals as goal
 

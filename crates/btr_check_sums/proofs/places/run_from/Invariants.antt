@@ -1,5 +1,4 @@
-use Rattle.std.proofs.Common.{◌≡◌, ◌≤◌, ◌<◌, ℕ, drop}
-use Rattle.btr_check_rules.specs.btr_reader.btr_reader_walk.Map.{place}
+use Rattle.btr_check_sums.proofs.Imports.{◌≡◌, ◌≤◌, ◌<◌, ℕ, drop, place}
 use Rattle.btr_check_sums.proofs.places.run_from.Given as goal
 
 abbrev pub invariant-loop-range : goal.invariant-loop-range

@@ -1,6 +1,4 @@
-use Rattle.std.proofs.Common.{◌≡◌, ◌||◌, ℕ, not, take}
-use Rattle.number_runs.specs.Runs.{is_among}
-use Rattle.btr_check_sums.specs.Uses.{is_laid_in}
+use Rattle.btr_check_sums.proofs.Imports.{◌≡◌, ◌||◌, ℕ, not, take, is_among, is_laid_in}
 use Rattle.btr_check_sums.proofs.uses.add_laid.Given as goal
 
 abbrev pub invariant-loop-l : goal.invariant-loop-l
