@@ -18,7 +18,7 @@ module _ (image : Image) (ranges : List MapRange) (sums : SumKind) where
       ⊎_elim
       (λ (told : told_sum sums i k ≡ sum_of sums (block_at image (at / 4096))). inl told)
       (λ (held : (d : DueSum) × Contains due d × (due_sum sums d ≡ told_sum sums i k) × (d.block ≡ at / 4096)).
-          inl (sym held.2 ∙ (All-contains (IsRight image sums) due held.0 right held.1 ∙ ap (λ (b : ℕ). sum_of sums (block_at image b)) held.3)))
+      inl (sym held.2 ∙ (All-contains (IsRight image sums) due held.0 right held.1 ∙ ap (λ (b : ℕ). sum_of sums (block_at image b)) held.3)))
       (met at small is)
 
   pub first_judged : (items : List Item) (i : Item) (count : ℕ) (due after : List DueSum) → All (IsRight image sums) due → after ≡ [] → HoldsFirst image ranges sums items i count due
@@ -59,7 +59,7 @@ module _ (image : Image) (ranges : List MapRange) (sums : SumKind) where
       ⊎_elim
       (λ (told : told_sum sums i k ≡ sum_of sums (block_at image (at / 4096))). inl told)
       (λ (held : (e : DueSum) × Contains due e × (due_sum sums e ≡ told_sum sums i k) × (e.block ≡ at / 4096)).
-          inr (held.0, Contains-append_left due (d ∷ []) held.0 held.1, held.2, held.3))
+      inr (held.0, Contains-append_left due (d ∷ []) held.0 held.1, held.2, held.3))
       (met at small is)
 
   same_place : (at other : ℕ) (a : ℕ) → place ranges a ≡ Some at → place ranges a ≡ Some other → at ≡ other
@@ -131,8 +131,8 @@ module _ (image : Image) (ranges : List MapRange) (sums : SumKind) where
         ⊎_elim
         (λ (before : Contains items j). holds.met j before k low)
         (λ (same : i ≡ j).
-            let counted : k < sum_count sums i = subst (λ (x : Item). k < sum_count sums x) (sym same) low in
-            subst (λ (x : Item). IsMet image ranges sums due x k) same (holds.first k (omega (arith, counted, all))))
+        let counted : k < sum_count sums i = subst (λ (x : Item). k < sum_count sums x) (sym same) low in
+        subst (λ (x : Item). IsMet image ranges sums due x k) same (holds.first k (omega (arith, counted, all))))
         (Contains-push_cases items i j has);
   }
 

@@ -68,18 +68,18 @@ from_before a b h =
       offset = λ same kinds. absurd (omega (arith, low, same));
     })
     (λ (same : (a.objectid ≡ b.objectid) × (is_lt (ordering_then (nat_cmp a.kind b.kind) (nat_cmp a.offset b.offset)) ≡ true)).
-        ⊎_elim
-        (λ (low : a.kind < b.kind). record {
-          object = omega (arith, same.0);
-          kind = λ e. omega (arith, low);
-          offset = λ e kinds. absurd (omega (arith, low, kinds));
-        })
-        (λ (kinds : (a.kind ≡ b.kind) × (is_lt (nat_cmp a.offset b.offset) ≡ true)). record {
-          object = omega (arith, same.0);
-          kind = λ e. omega (arith, kinds.0);
-          offset = λ e k. last_less a.offset b.offset kinds.1;
-        })
-        (first_less a.kind b.kind (nat_cmp a.kind b.kind) (nat_cmp a.offset b.offset) refl same.1))
+    ⊎_elim
+    (λ (low : a.kind < b.kind). record {
+      object = omega (arith, same.0);
+      kind = λ e. omega (arith, low);
+      offset = λ e kinds. absurd (omega (arith, low, kinds));
+    })
+    (λ (kinds : (a.kind ≡ b.kind) × (is_lt (nat_cmp a.offset b.offset) ≡ true)). record {
+      object = omega (arith, same.0);
+      kind = λ e. omega (arith, kinds.0);
+      offset = λ e k. last_less a.offset b.offset kinds.1;
+    })
+    (first_less a.kind b.kind (nat_cmp a.kind b.kind) (nat_cmp a.offset b.offset) refl same.1))
     (first_less a.objectid b.objectid (nat_cmp a.objectid b.objectid) (ordering_then (nat_cmp a.kind b.kind) (nat_cmp a.offset b.offset)) refl h)
 
 none_both : {A : Type 0} (xs ys : List A) → xs ++ ys ≡ [] → (xs ≡ []) × (ys ≡ [])

@@ -193,9 +193,9 @@ module _ (image : Image) (r : Recount) (used : UsedBlocks) (covered : List Run) 
     cover = λ block. keeps_cover a block (λ k d low. (items.low k d low, (items.forms k d low).start)) cover;
     right = λ k d low.
         λ number p counted is at.
-            let i : Item = get_or (sum_items r) k d in
-            let here : place (map_of r) (i.0.offset + 4096 * number) ≡ Some p = subst (λ (x : ℕ). place (map_of r) x ≡ Some p) (sym is) at in
-            right i (Contains-get_or (sum_items r) k d low) number p counted (place_low (map_of r) (i.0.offset + 4096 * number) p ends.ranges here) here;
+        let i : Item = get_or (sum_items r) k d in
+        let here : place (map_of r) (i.0.offset + 4096 * number) ≡ Some p = subst (λ (x : ℕ). place (map_of r) x ≡ Some p) (sym is) at in
+        right i (Contains-get_or (sum_items r) k d low) number p counted (place_low (map_of r) (i.0.offset + 4096 * number) p ends.ranges here) here;
   }
 
   -- ---- where it fails
@@ -209,10 +209,10 @@ module _ (image : Image) (r : Recount) (used : UsedBlocks) (covered : List Run) 
       bare = λ is.
           let of = (are.bare_are n).0 is in
           false_unless (is_among covered n) (λ has.
-              ⊎_elim
-              (λ (bare : (of.1.0.written ≡ true) × (has_no_sums of.1.1 ≡ true)). keeps.unsummed of.1.0 of.1.1 of.1.2 bare.0 bare.1 (has_sum n has))
-              (λ (laid : (of.1.0.written ≡ false) × ¬ IsWrittenTo r of.1.0.start). keeps.unwritten of.1.0 of.1.1 of.1.2 laid.0 laid.1 (has_sum n has))
-              of.1.3);
+          ⊎_elim
+          (λ (bare : (of.1.0.written ≡ true) × (has_no_sums of.1.1 ≡ true)). keeps.unsummed of.1.0 of.1.1 of.1.2 bare.0 bare.1 (has_sum n has))
+          (λ (laid : (of.1.0.written ≡ false) × ¬ IsWrittenTo r of.1.0.start). keeps.unwritten of.1.0 of.1.1 of.1.2 laid.0 laid.1 (has_sum n has))
+          of.1.3);
       inside = λ has. (are.data_are n).1 (covered_low n has, keeps.inside (has_sum n has));
     };
   }

@@ -188,12 +188,11 @@ module _ (xs : List Item) (i : Item) (before : All (λ j. Precedes j.0 i.0) xs) 
     only = λ o same other has.
         subst (λ (p : Owner). p.sums ≡ not (has_no_sums other)) (own o same)
         (ap (λ (x : Inode). not (has_no_sums x)) (only_one other (subst (λ (p : Owner). HasInodeIn more p.number other) (sym (own o same)) has)));
-    last = λ ino other has.
-        (
-          record { number = i.0.objectid; sums = not (has_no_sums inode) },
-          refl,
-          ⊎_elim (λ (old : HasInodeIn xs ino other). number_low ino other old) (λ (new : IsInodeItem ino other). let same = ap (λ (x : Item). x.0.objectid) new.1 in omega (arith, same)) (inode_cases ino other has),
-        );
+    last = λ ino other has. (
+      record { number = i.0.objectid; sums = not (has_no_sums inode) },
+      refl,
+      ⊎_elim (λ (old : HasInodeIn xs ino other). number_low ino other old) (λ (new : IsInodeItem ino other). let same = ap (λ (x : Item). x.0.objectid) new.1 in omega (arith, same)) (inode_cases ino other has),
+    );
   }
     where
       own : (o : Owner) → Some (record { number = i.0.objectid; sums = not (has_no_sums inode) }) ≡ Some o → record { number = i.0.objectid; sums = not (has_no_sums inode) } ≡ o
@@ -206,14 +205,14 @@ module _ (xs : List Item) (i : Item) (before : All (λ j. Precedes j.0 i.0) xs) 
       only_one other has =
           ⊎_elim
           (λ (old : HasInodeIn xs i.0.objectid other).
-              let precedes : Precedes (inode_key i.0.objectid) i.0 = All-contains (λ (x : Item). Precedes x.0 i.0) xs (inode_key i.0.objectid, old.body) before old.there in
-              let kind : INODE_ITEM ≡ i.0.kind = sym (ap (λ (x : Item). x.0.kind) is) in
-              let offset = ap (λ (x : Item). x.0.offset) is in
-              let low = precedes.offset refl kind in
-              absurd (omega (arith, low, offset)))
+          let precedes : Precedes (inode_key i.0.objectid) i.0 = All-contains (λ (x : Item). Precedes x.0 i.0) xs (inode_key i.0.objectid, old.body) before old.there in
+          let kind : INODE_ITEM ≡ i.0.kind = sym (ap (λ (x : Item). x.0.kind) is) in
+          let offset = ap (λ (x : Item). x.0.offset) is in
+          let low = precedes.offset refl kind in
+          absurd (omega (arith, low, offset)))
           (λ (new : IsInodeItem i.0.objectid other).
-              let bodies : body ≡ new.0 = ap (λ (x : Item). x.1) (sym is ∙ new.1) in
-              some_same (sym reads ∙ (ap inode_of bodies ∙ new.2)))
+          let bodies : body ≡ new.0 = ap (λ (x : Item). x.1) (sym is ∙ new.1) in
+          some_same (sym reads ∙ (ap inode_of bodies ∙ new.2)))
           (inode_cases i.0.objectid other has)
 
       some_same : {a b : Inode} → Some a ≡ Some b → a ≡ b
@@ -239,7 +238,7 @@ module _ (xs : List Item) (i : Item) (before : All (λ j. Precedes j.0 i.0) xs) 
     λ is.
         ⊎_elim (λ (old : begun n ≡ true). (grows n).1 (inl old))
         (λ (was : HasUse is_read more (passes n)).
-            ⊎_elim (λ (old : IsUseOf is_read xs was.0). (grows n).1 (inr (was.0, old, was.2))) (λ (new : IsNew is_read was.0). absurd (none was.0 new)) (use_cases is_read was.0 was.1)) is,
+        ⊎_elim (λ (old : IsUseOf is_read xs was.0). (grows n).1 (inr (was.0, old, was.2))) (λ (new : IsNew is_read was.0). absurd (none was.0 new)) (use_cases is_read was.0 was.1)) is,
   )
 
   grows_one : (begun now after : ℕ → Bool) (passes : ℕ → DataOf → Bool) (is_read : Bool) (x : DataOf) → IsUseOf is_read more x → ((y : DataOf) → IsNew is_read y → x ≡ y)
@@ -253,8 +252,8 @@ module _ (xs : List Item) (i : Item) (before : All (λ j. Precedes j.0 i.0) xs) 
         is n
         ∙ ⊎_elim (λ (old : begun n ≡ true). or_right (passes n x) (now n) ((grows n).1 (inl old)))
         (λ (o : HasUse is_read more (passes n)).
-            ⊎_elim (λ (old : IsUseOf is_read xs o.0). or_right (passes n x) (now n) ((grows n).1 (inr (o.0, old, o.2))))
-            (λ (new : IsNew is_read o.0). or_left (passes n x) (now n) (subst (λ (y : DataOf). passes n y ≡ true) (sym (only o.0 new)) o.2)) (use_cases is_read o.0 o.1)) has,
+        ⊎_elim (λ (old : IsUseOf is_read xs o.0). or_right (passes n x) (now n) ((grows n).1 (inr (o.0, old, o.2))))
+        (λ (new : IsNew is_read o.0). or_left (passes n x) (now n) (subst (λ (y : DataOf). passes n y ≡ true) (sym (only o.0 new)) o.2)) (use_cases is_read o.0 o.1)) has,
   )
 
   -- ---- the item
@@ -304,25 +303,18 @@ module _ (xs : List Item) (i : Item) (before : All (λ j. Precedes j.0 i.0) xs) 
   pub extent_item : (begun now after : TreeUses) → i.0.kind ≡ EXTENT_DATA → after.is_read ≡ now.is_read → after.owner ≡ now.owner
       → MeetsData (data_by (file_extent_of i.1) now.is_read (sums_by now.owner i.0.objectid)) now.uses after.uses → HoldsUses begun now xs → HoldsUses begun after more
   extent_item begun now after kind read owner meets held =
-      by (data_by (file_extent_of i.1) begun.is_read hand) refl
-      (subst (λ (b : Bool). MeetsData (data_by (file_extent_of i.1) b hand) now.uses after.uses) held.read_is meets)
+      by (data_by (file_extent_of i.1) begun.is_read (sums_by now.owner i.0.objectid)) refl
+      (subst (λ (b : Bool). MeetsData (data_by (file_extent_of i.1) b (sums_by now.owner i.0.objectid)) now.uses after.uses) held.read_is meets)
     where
-      hand : Option Bool
-      hand = sums_by now.owner i.0.objectid
-
-      hand_is : hand ≡ sums_by now.owner i.0.objectid
-      unfolding hand
-      hand_is = refl
-
       owned : IsOwnerOf after.owner more
       owned = subst (λ (o : Option Owner). IsOwnerOf o more) (sym owner) (owner_kept now.owner (no_inode kind) held.owner)
 
-      new_is : (x : DataOf) → IsNew begun.is_read x → data_by (file_extent_of i.1) begun.is_read hand ≡ Some x
+      new_is : (x : DataOf) → IsNew begun.is_read x → data_by (file_extent_of i.1) begun.is_read (sums_by now.owner i.0.objectid) ≡ Some x
       new_is x new =
-          let same : x.sums ≡ hand = same_sums now.owner held.owner x.sums (sums_back i.0.objectid (no_inode kind i.0.objectid) x.sums new.sums) ∙ sym hand_is in
+          let same : x.sums ≡ (sums_by now.owner i.0.objectid) = same_sums now.owner held.owner x.sums (sums_back i.0.objectid (no_inode kind i.0.objectid) x.sums new.sums) in
           subst (λ (s : Option Bool). data_by (file_extent_of i.1) begun.is_read s ≡ Some x) same new.x_is
 
-      by : (d : Option DataOf) → data_by (file_extent_of i.1) begun.is_read hand ≡ d → MeetsData d now.uses after.uses → HoldsUses begun after more
+      by : (d : Option DataOf) → data_by (file_extent_of i.1) begun.is_read (sums_by now.owner i.0.objectid) ≡ d → MeetsData d now.uses after.uses → HoldsUses begun after more
       by None is same =
           let none : (x : DataOf) → ¬ IsNew begun.is_read x = λ x new. none_some (sym is ∙ new_is x new) in
           record {
@@ -341,13 +333,13 @@ module _ (xs : List Item) (i : Item) (before : All (λ j. Precedes j.0 i.0) xs) 
                 (grows_same (λ n. is_laid_in test begun.uses.laid.items n) (λ n. is_laid_in test now.uses.laid.items n) (λ n x. test x.range.disk_bytenr && is_laid x n) begun.is_read none (held.laid_is test));
           }
       by (Some x) is adds =
-          let sums : x.sums ≡ hand = data_sums (file_extent_of i.1) begun.is_read hand x is in
+          let sums : x.sums ≡ (sums_by now.owner i.0.objectid) = data_sums (file_extent_of i.1) begun.is_read (sums_by now.owner i.0.objectid) x is in
           let was : IsUseOf begun.is_read more x = record {
             item = i;
             there = Contains-push xs i;
             kind = kind;
             x_is = subst (λ (s : Option Bool). data_by (file_extent_of i.1) begun.is_read s ≡ Some x) (sym sums) is;
-            sums = subst (TellsSums more i.0.objectid) (sym (sums ∙ hand_is)) (sums_kept i.0.objectid (no_inode kind i.0.objectid) (sums_by now.owner i.0.objectid) (sums_told now.owner held.owner));
+            sums = subst (TellsSums more i.0.objectid) (sym sums) (sums_kept i.0.objectid (no_inode kind i.0.objectid) (sums_by now.owner i.0.objectid) (sums_told now.owner held.owner));
           } in
           let only : (y : DataOf) → IsNew begun.is_read y → x ≡ y = λ y new. some_is (sym is ∙ new_is y new) in
           record {

@@ -60,13 +60,7 @@ impl ItemVisitor for SumPass {
 
     ghost refuses = { λ begun items part a. BreaksSumItems begun.nodesize begun.kind (map bare_item items) part a };
 
-    fn visit(
-        &mut self,
-        _alloc: Global,
-        key: &Key,
-        body: &[u8],
-        _leaf: u64,
-    ) -> Result<(), Answer> {
+    fn visit(&mut self, _alloc: Global, key: &Key, body: &[u8], _leaf: u64) -> Result<(), Answer> {
         if !self.fits(key, body) {
             return Err(SoundPart::Checksums.fails_at(key.offset));
         }

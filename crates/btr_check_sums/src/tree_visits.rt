@@ -12,8 +12,10 @@ use crate::tree_uses::{Owner, TreeUses};
 use crate::use_of_data::{DataOf, Uses};
 use btr_check_items::has_no_sums;
 use btr_check_rules::btr_reader::btr_reader_contents::is_hole;
-use btr_check_rules::btr_reader::btr_reader_walk::btr_keys::{DiskRange, ExtentContent, FileExtent, Inode};
 use btr_check_rules::btr_reader::btr_reader_walk::Key;
+use btr_check_rules::btr_reader::btr_reader_walk::btr_keys::{
+    DiskRange, ExtentContent, FileExtent, Inode,
+};
 use btr_check_rules::btr_reader::btrfs_format::key::{EXTENT_DATA, INODE_ITEM};
 use btr_check_walk::{Answer, ItemVisitor};
 use number_runs::Memory;
@@ -24,13 +26,25 @@ fn sums_of(owner: &Option<Owner>, number: u64) -> Option<bool>
     ensures { result ≡ sums_by owner.now number }
 {
     match owner {
-        Some(owner) => { if owner.number == number { Some(owner.sums) } else { None } }
+        Some(owner) => {
+            if owner.number == number {
+                Some(owner.sums)
+            } else {
+                None
+            }
+        }
         None => None,
     }
 }
 
 /// What a file extent has on the disk, if it has a place there.
-fn placed(compression: u8, written: bool, range: &DiskRange, is_read: bool, sums: Option<bool>) -> Option<DataOf>
+fn placed(
+    compression: u8,
+    written: bool,
+    range: &DiskRange,
+    is_read: bool,
+    sums: Option<bool>,
+) -> Option<DataOf>
     ensures { result ≡ placed compression written range.now is_read sums }
 {
     if is_hole(range) {
@@ -112,13 +126,7 @@ impl ItemVisitor for TreeUses {
 
     ghost refuses = { λ begun items part a. ⊥ };
 
-    fn visit(
-        &mut self,
-        _alloc: Global,
-        key: &Key,
-        body: &[u8],
-        _leaf: u64,
-    ) -> Result<(), Answer> {
+    fn visit(&mut self, _alloc: Global, key: &Key, body: &[u8], _leaf: u64) -> Result<(), Answer> {
         if key.kind == EXTENT_DATA {
             self.meet_extent(key.objectid, body)?;
             return Ok(());
