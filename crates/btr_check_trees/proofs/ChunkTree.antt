@@ -1,0 +1,152 @@
+-- What a walk over the chunk tree found is what the recount has, and what it refused is a failure.
+use Rattle.std.proofs.Common.{◌≡◌, ◌⊎◌, ◌==◌, ℕ, Bool, true, List, [], ◌∷◌, ◌++◌, map, Option, Some, None, Ok, inl, inr, refl, sym, ap, ap₂, subst, ◌∙◌, length, arith, not, ◌||◌}
+use Rattle.std.specs.List.{All, Contains, list_all}
+use Rattle.std.proofs.lemmas.Bool.{and_parts, eqb-true}
+use Rattle.std.proofs.lemmas.List.Elements.{All-contains}
+use Rattle.btr_check_rules.specs.btr_reader.Chunks.{is_chunk_key}
+use Rattle.btr_check_rules.specs.btr_reader.Opening.{boot_chunks, boot_list, chunk_map, chunk_tree, opening_refusals, super_on, or_later, boot_refusals, trees_refusals, refusals_after}
+use Rattle.btr_check_rules.specs.btr_reader.Parts.{own_map, own_super}
+use Rattle.btr_check_rules.specs.btr_reader.Volume.{IsVolumeOn}
+use Rattle.btr_check_rules.specs.btr_reader.btr_keys.declared.key.Key.{Key}
+use Rattle.btr_check_rules.specs.btr_reader.btr_node.Leaf.{Item}
+use Rattle.btr_check_rules.specs.btr_reader.btr_reader_walk.Events.{TreeItem}
+use Rattle.btr_check_rules.specs.btr_reader.btr_reader_walk.Tree.{bare_item}
+use Rattle.btr_check_rules.specs.btr_reader.btr_reader_walk.declared.map.MapRange.{MapRange}
+use Rattle.btr_check_rules.specs.btr_reader.btr_reader_walk.declared.tree.Tree.{Tree}
+use Rattle.btr_check_rules.specs.btr_reader.btr_space_items.btrfs_format.declared.block.TheConstants.{SUPER_INFO_OFFSET}
+use Rattle.btr_check_rules.specs.btr_reader.btr_space_items.btrfs_format.declared.key.TheConstants.{CHUNK_ITEM, DEV_ITEM}
+use Rattle.btr_check_rules.specs.btr_reader.btr_space_items.btrfs_format.declared.object.TheConstants.{CHUNK_TREE, FIRST_CHUNK_TREE_OBJECTID}
+use Rattle.btr_check_rules.specs.btr_reader.btr_super.declared.superblock.Super.{Super}
+use Rattle.btr_check_rules.specs.btr_reader.declared.chunk.ChunkAt.{ChunkAt}
+use Rattle.btr_check_rules.specs.btr_reader.declared.volume.Btrfs.{Btrfs}
+use Rattle.btr_check_rules.specs.btr_reader.outside.History.{Image}
+use Rattle.btr_check_rules.specs.btr_reader.refusals.declared.refusal.BtrRefusal.{BtrRefusal}
+use Rattle.btr_check_rules.specs.Groups.{AreChunksApart, IsChunkTreeItem, dev_items}
+use Rattle.btr_check_rules.specs.Recount.{TreeOn, all_trees, chunks_on, recount}
+use Rattle.btr_check_rules.specs.Sound.{Chunks, Trees, part_number}
+use Rattle.btr_check_rules.specs.Trees.{IsSoundAt, KeepsSuper, has_own_tree, own_kinds, system_chunks, tree_faults}
+use Rattle.btr_check_rules.specs.Walk.{walk_refusals, walked_items}
+use Rattle.btr_reader.proofs.PartsRead.{of_disk, opened_super}
+use Rattle.btr_reader.proofs.fs_paths.Lists.{at_head}
+use Rattle.btr_check_walk.proofs.Faults.{tree_is_sound, walk_fails}
+use Rattle.btr_check_walk.specs.Answers.{FailsIn, IsPassAnswer}
+use Rattle.btr_check_walk.specs.Walks.{EndsWalk, IsRefused}
+use Rattle.btr_check_fields.specs.Devices.{FindsDevices}
+use Rattle.btr_check_fields.specs.Failing.{FailsOf}
+use Rattle.btr_check_fields.specs.Noted.{offset_of}
+use Rattle.btr_check_fields.specs.declared.devices.DevicesFound.{DevicesFound}
+use Rattle.command_answers.specs.declared.answer.Answer.{Answer}
+use Rattle.btr_check_trees.specs.ChunkTree.{AreSoundChunks, AreSystem, FailsChunks, HoldsChunks, KeepsChunkTree, RefusesChunks, TellsChunks, WalksChunks, bad_super, bad_array, overlap}
+use Rattle.btr_check_trees.specs.declared.chunk_items.ChunkItems.{ChunkItems}
+use Rattle.btr_check_trees.specs.declared.chunk_tree.ChunksFound.{ChunksFound}
+use Rattle.btr_check_trees.proofs.OneMore.{first_among}
+use Rattle.btr_check_fields.proofs.Listing.{all_from_contains}
+
+-- ---- the walk
+
+-- the items that a walk over the chunk tree meets
+abbrev met_of : Image → Super → List MapRange → List TreeItem
+met_of image s m = walked_items image m (chunk_tree s)
+
+-- the chunk tree of the recount
+abbrev own_tree : Image → TreeOn
+own_tree image = (recount image).chunk_tree
+
+-- what is said of the tree by these ranges is said of it by the volume
+by_volume : (image : Image) (volume : Btrfs) (ranges : List MapRange) (tree : Tree) → ranges ≡ volume.ranges.items → tree ≡ chunk_tree volume.sup → (P : List MapRange → Tree → Type 0) → P ranges tree
+    → P volume.ranges.items (chunk_tree volume.sup)
+by_volume image volume ranges tree by of P said = subst (P volume.ranges.items) of (subst (λ (m : List MapRange). P m tree) by said)
+
+pub walked : (image : Image) (volume : Btrfs) (boot : List ChunkAt) (begun v : ChunkItems) → IsVolumeOn image volume → boot_chunks volume.sup ≡ Some boot → begun.sup.now ≡ volume.sup → begun.boot.now ≡ boot
+    → (ranges : List MapRange) (tree : Tree) → ranges ≡ volume.ranges.items → tree ≡ chunk_tree volume.sup
+    → HoldsChunks begun v (walked_items image ranges tree) → walk_refusals image ranges tree ≡ [] → WalksChunks image v
+walked image volume boot begun v on chunks sup first ranges tree by of holds none =
+    let same : volume.sup ≡ own_super image = opened_super image volume.sup volume.ranges.items on.opened in
+    let held = of_disk image volume.sup volume.ranges.items (λ s m. HoldsChunks begun v (met_of image s m)) on.opened (by_volume image volume ranges tree by of (λ m t. HoldsChunks begun v (walked_items image m t)) holds) in
+    let sound = of_disk image volume.sup volume.ranges.items (λ s m. walk_refusals image m (chunk_tree s) ≡ []) on.opened (by_volume image volume ranges tree by of (λ m t. walk_refusals image m t ≡ []) none) in
+    record {
+      sup = holds.sup ∙ (sup ∙ same);
+      boot = holds.boot ∙ (first ∙ (ap boot_list (sym chunks) ∙ ap (λ (s : Super). boot_list (boot_chunks s)) same));
+      tells = held.tells;
+      sound = λ a. tree_is_sound image (own_tree image) a sound;
+    }
+
+-- an item that is refused is one of the tree
+refused_there : (image : Image) (part a : ℕ) → IsRefused RefusesChunks (met_of image (own_super image) (own_map image)) part a → FailsIn image part a
+refused_there image part a (first, later, are, order, refuses) = (
+  Chunks,
+  sym refuses.0,
+  λ keeps.
+      let (i, h, at, no_item) = refuses.1 in
+      no_item (All-contains (λ (j : Item). offset_of j ≡ a → IsChunkTreeItem j) (own_tree image).items i keeps.keys (first_among (met_of image (own_super image) (own_map image)) first later i are h) at),
+)
+
+pub walk_failed : (image : Image) (volume : Btrfs) (answer : Answer) → IsVolumeOn image volume
+    → (ranges : List MapRange) (tree : Tree) → ranges ≡ volume.ranges.items → tree ≡ chunk_tree volume.sup → EndsWalk (walk_refusals image ranges tree) RefusesChunks (walked_items image ranges tree) answer
+    → IsPassAnswer image answer
+walk_failed image volume answer on ranges tree by of ends =
+    walk_fails image (own_tree image) RefusesChunks (met_of image (own_super image) (own_map image)) answer (at_head (own_tree image) ((recount image).root_tree ∷ (recount image).others)) (refused_there image)
+    (of_disk image volume.sup volume.ranges.items (λ s m. EndsWalk (walk_refusals image m (chunk_tree s)) RefusesChunks (met_of image s m) answer) on.opened
+    (by_volume image volume ranges tree by of (λ m t. EndsWalk (walk_refusals image m t) RefusesChunks (walked_items image m t) answer) ends))
+
+-- ---- the whole
+
+-- an item of a chunk or the device stands in its own tree
+own_kind : (i : Item) → IsChunkTreeItem i → has_own_tree CHUNK_TREE i ≡ true
+own_kind i (inl device) = ap (λ (k : ℕ). list_all (λ own. not (k == own.0) || (CHUNK_TREE == own.1)) own_kinds) device
+own_kind i (inr chunk) =
+    ap (λ (k : ℕ). list_all (λ own. not (k == own.0) || (CHUNK_TREE == own.1)) own_kinds) (eqb-true i.0.kind CHUNK_ITEM (and_parts (i.0.objectid == FIRST_CHUNK_TREE_OBJECTID) (i.0.kind == CHUNK_ITEM) chunk).1)
+
+chunks_same : (image : Image) (v : ChunkItems) → WalksChunks image v → v.chunks.items ≡ (recount image).chunks
+chunks_same image v walks = walks.tells.chunks_are ∙ ap (λ (b : List ChunkAt). chunks_on b (own_tree image).items) walks.boot
+
+array_same : (image : Image) (v : ChunkItems) → WalksChunks image v → (P : List ChunkAt → List ChunkAt → Type 0) → P v.boot.now v.system.items
+    → P (boot_list (boot_chunks (recount image).super)) (system_chunks (own_tree image).items)
+array_same image v walks P h =
+    subst (λ (b : List ChunkAt). P b (system_chunks (own_tree image).items)) walks.boot (subst (P v.boot.now) walks.tells.system_are h)
+
+-- of the chunks of a walk what is asked of all together holds
+pub kept : (image : Image) (v : ChunkItems) (f : ChunksFound) → WalksChunks image v → AreSoundChunks v.sup.now v.boot.now v.system.items v.chunks.items → f.chunks.items ≡ v.chunks.items → f.devices ≡ v.devices
+    → KeepsChunkTree image f
+kept image v f walks sound chunks devices = record {
+  chunks = chunks ∙ chunks_same image v walks;
+  devices =
+      subst (λ (d : DevicesFound). FindsDevices (recount image).super (dev_items (recount image)) d) (sym devices)
+      (subst (λ (s : Super). FindsDevices s (dev_items (recount image)) v.devices) walks.sup walks.tells.devices_are);
+  super = subst KeepsSuper walks.sup sound.super;
+  array = array_same image v walks AreSystem sound.array;
+  sound = walks.sound;
+  kinds = all_from_contains (λ (i : Item). has_own_tree CHUNK_TREE i ≡ true) (own_tree image).items (λ i h. own_kind i (All-contains IsChunkTreeItem (own_tree image).items i walks.tells.keys h));
+  apart = λ a.
+      subst (λ (l : List ChunkAt). AreChunksApart (recount image).super l a) (chunks_same image v walks) (subst (λ (s : Super). AreChunksApart s v.chunks.items a) walks.sup (sound.apart a));
+  keys = λ a k d low at. walks.tells.keys k d low;
+}
+
+-- or it is a failure where it does not
+pub failed : (image : Image) (v : ChunkItems) (part a : ℕ) → WalksChunks image v → FailsChunks v.sup.now v.boot.now v.system.items v.chunks.items part a → FailsIn image part a
+failed image v part a walks (bad_super is at fails) = (Trees, sym is, λ keeps. fails (subst KeepsSuper (sym walks.sup) (keeps.super at)))
+failed image v part a walks (bad_array is at fails) = (
+  Trees,
+  sym is,
+  λ keeps. array_same image v walks (λ b s. ¬ AreSystem b s) fails (keeps.array at),
+)
+failed image v part a walks (overlap is fails) = (
+  Chunks,
+  sym is,
+  λ keeps.
+      fails
+      (subst (λ (s : Super). AreChunksApart s v.chunks.items a) (sym walks.sup)
+      (subst (λ (l : List ChunkAt). AreChunksApart (recount image).super l a) (sym (chunks_same image v walks)) keeps.apart)),
+)
+
+-- ---- the array
+
+some_wrong : (image : Image) (s : Super) (read : Option (List ChunkAt)) → read ≡ None → or_later (boot_refusals (length image) read) (trees_refusals image s (boot_list read)) ≡ [] → ⊥
+some_wrong image s None is none = let long = ap length none in omega (arith, long)
+some_wrong image s (Some chunks) is none = cc
+
+-- the array of a volume that was opened is a list of chunks
+pub has_array : (image : Image) (volume : Btrfs) → IsVolumeOn image volume → boot_chunks volume.sup ≡ None → ⊥
+unfolding opening_refusals
+has_array image volume on none =
+    some_wrong image volume.sup (boot_chunks volume.sup) none (ap (refusals_after image) (sym on.opened.super) ∙ on.opened.sound)

@@ -1,0 +1,5 @@
+pub mod ChunkItems
+pub mod ChunkTree
+pub mod OneMore
+pub mod SameChunks
+pub mod Telling
