@@ -1,7 +1,9 @@
 -- What a walk over the chunk tree found is what the recount has, and what it refused is a failure.
-use Rattle.std.proofs.Common.{◌≡◌, ◌⊎◌, ◌==◌, ℕ, Bool, true, List, [], ◌∷◌, ◌++◌, map, Option, Some, None, Ok, inl, inr, refl, sym, ap, ap₂, subst, ◌∙◌, length, arith, not, ◌||◌}
+use Rattle.std.proofs.Common.{◌≡◌, ◌⊎◌, ◌==◌, ℕ, Bool, true, false, List, [], ◌∷◌, ◌++◌, map, Option, Some, None, Ok, inl, inr, refl, sym, ap, ap₂, subst, ◌∙◌, length, arith, not, ◌||◌}
 use Rattle.std.specs.List.{All, Contains, list_all}
+use Rattle.std.specs.Bool.{Decides}
 use Rattle.std.proofs.lemmas.Bool.{and_parts, eqb-true}
+use Rattle.std.proofs.lemmas.Bool.Decides.{not_from_Decides}
 use Rattle.std.proofs.lemmas.List.Elements.{All-contains}
 use Rattle.btr_check_rules.specs.btr_reader.Chunks.{is_chunk_key}
 use Rattle.btr_check_rules.specs.btr_reader.Opening.{boot_chunks, boot_list, chunk_map, chunk_tree, opening_refusals, super_on, or_later, boot_refusals, trees_refusals, refusals_after}
@@ -30,16 +32,19 @@ use Rattle.btr_reader.proofs.PartsRead.{of_disk, opened_super}
 use Rattle.btr_reader.proofs.fs_paths.Lists.{at_head}
 use Rattle.btr_check_walk.proofs.Faults.{tree_is_sound, walk_fails}
 use Rattle.btr_check_walk.specs.Answers.{FailsIn, IsPassAnswer}
+use Rattle.btr_check_walk.specs.Parts.{TellsBy}
 use Rattle.btr_check_walk.specs.Walks.{EndsWalk, IsRefused}
 use Rattle.btr_check_fields.specs.Devices.{FindsDevices}
-use Rattle.btr_check_fields.specs.Failing.{FailsOf}
+use Rattle.btr_check_fields.specs.Failing.{Answers}
 use Rattle.btr_check_fields.specs.Noted.{offset_of}
 use Rattle.btr_check_fields.specs.declared.devices.DevicesFound.{DevicesFound}
 use Rattle.command_answers.specs.declared.answer.Answer.{Answer}
+use Rattle.command_answers.specs.declared.answer.Answer.TheVariants as answers
 use Rattle.btr_check_trees.specs.ChunkTree.{AreSoundChunks, AreSystem, FailsChunks, HoldsChunks, KeepsChunkTree, RefusesChunks, TellsChunks, WalksChunks, bad_super, bad_array, overlap}
 use Rattle.btr_check_trees.specs.declared.chunk_items.ChunkItems.{ChunkItems}
 use Rattle.btr_check_trees.specs.declared.chunk_tree.ChunksFound.{ChunksFound}
 use Rattle.btr_check_trees.proofs.OneMore.{first_among}
+use Rattle.btr_check_trees.proofs.Telling.{tells_from}
 use Rattle.btr_check_fields.proofs.Listing.{all_from_contains}
 
 -- ---- the walk
@@ -150,3 +155,60 @@ pub has_array : (image : Image) (volume : Btrfs) → IsVolumeOn image volume →
 unfolding opening_refusals
 has_array image volume on none =
     some_wrong image volume.sup (boot_chunks volume.sup) none (ap (refusals_after image) (sym on.opened.super) ∙ on.opened.sound)
+
+pub boot_failed : (image : Image) (volume : Btrfs) (sup : Super) (e : Answer) → IsVolumeOn image volume → sup ≡ volume.sup → TellsBy (λ part a. boot_chunks sup ≡ None) ⊥ e → IsPassAnswer image e
+boot_failed image volume sup e on same =
+    tells_from (λ part a. boot_chunks sup ≡ None) (FailsIn image) ⊥ (λ part a none. absurd (has_array image volume on (ap boot_chunks (sym same) ∙ none))) e
+
+-- ---- what was judged
+
+-- what is judged of a volume, by its superblock and the chunks of its array, is judged of the walk
+judged_same : (image : Image) (volume : Btrfs) (v : ChunkItems) (sup : Super) (boot system chunks : List ChunkAt) → IsVolumeOn image volume → WalksChunks image v → sup ≡ volume.sup
+    → boot_chunks volume.sup ≡ Some boot → system ≡ v.system.items → chunks ≡ v.chunks.items → (P : Super → List ChunkAt → List ChunkAt → List ChunkAt → Type 0) → P sup boot system chunks
+    → P v.sup.now v.boot.now v.system.items v.chunks.items
+judged_same image volume v sup boot system chunks on walks super array systems all P said =
+    let same : volume.sup ≡ own_super image = opened_super image volume.sup volume.ranges.items on.opened in
+    let sups : sup ≡ v.sup.now = super ∙ (same ∙ sym walks.sup) in
+    let boots : boot ≡ v.boot.now = ap boot_list (sym array) ∙ (ap (λ (s : Super). boot_list (boot_chunks s)) same ∙ sym walks.boot) in
+    subst (λ (s : Super). P s v.boot.now v.system.items v.chunks.items) sups
+    (subst (λ (b : List ChunkAt). P sup b v.system.items v.chunks.items) boots
+    (subst (λ (l : List ChunkAt). P sup boot l v.chunks.items) systems (subst (λ (l : List ChunkAt). P sup boot system l) all said)))
+
+pub judge_failed : (image : Image) (volume : Btrfs) (v : ChunkItems) (sup : Super) (boot system chunks : List ChunkAt) (e : Answer) → IsVolumeOn image volume → WalksChunks image v → sup ≡ volume.sup
+    → boot_chunks volume.sup ≡ Some boot → system ≡ v.system.items → chunks ≡ v.chunks.items → TellsBy (FailsChunks sup boot system chunks) ⊥ e → IsPassAnswer image e
+judge_failed image volume v sup boot system chunks e on walks super array systems all told =
+    tells_from (FailsChunks v.sup.now v.boot.now v.system.items v.chunks.items) (FailsIn image) ⊥ (λ part a fails. failed image v part a walks fails) e
+    (judged_same image volume v sup boot system chunks on walks super array systems all (λ s b l m. TellsBy (FailsChunks s b l m) ⊥ e) told)
+
+pub judge_kept : (image : Image) (volume : Btrfs) (v : ChunkItems) (f : ChunksFound) (sup : Super) (boot system chunks : List ChunkAt) → IsVolumeOn image volume → WalksChunks image v → sup ≡ volume.sup
+    → boot_chunks volume.sup ≡ Some boot → system ≡ v.system.items → chunks ≡ v.chunks.items → AreSoundChunks sup boot system chunks → f.chunks.items ≡ v.chunks.items → f.devices ≡ v.devices → KeepsChunkTree image f
+judge_kept image volume v f sup boot system chunks on walks super array systems all sound found devices =
+    kept image v f walks (judged_same image volume v sup boot system chunks on walks super array systems all AreSoundChunks sound) found devices
+
+-- ---- the tests, one after the other
+
+pub super_fails : (s : Super) (boot system chunks : List ChunkAt) (hold : Bool) (e : Answer) → Decides hold (KeepsSuper s) → hold ≡ false → e ≡ answers.NotSound 1 SUPER_INFO_OFFSET
+    → TellsBy (FailsChunks s boot system chunks) ⊥ e
+super_fails s boot system chunks hold e decides none is =
+    subst (TellsBy (FailsChunks s boot system chunks) ⊥) (sym is) (bad_super refl refl (not_from_Decides hold decides none))
+
+pub array_fails : (s : Super) (boot system chunks : List ChunkAt) (hold : Bool) (e : Answer) → Decides hold (AreSystem boot system) → hold ≡ false → e ≡ answers.NotSound 1 SUPER_INFO_OFFSET
+    → TellsBy (FailsChunks s boot system chunks) ⊥ e
+array_fails s boot system chunks hold e decides none is =
+    subst (TellsBy (FailsChunks s boot system chunks) ⊥) (sym is) (bad_array refl refl (not_from_Decides hold decides none))
+
+-- what is answered of the chunks
+abbrev JudgesChunks : Super → List ChunkAt → Option ℕ → Type 0
+JudgesChunks s chunks o = Answers ((a : ℕ) → AreChunksApart s chunks a) (λ a. ¬ AreChunksApart s chunks a) o
+
+pub chunks_fail : (s : Super) (boot system chunks : List ChunkAt) (o : Option ℕ) (e : Answer) → JudgesChunks s chunks o → (a : ℕ) × (o ≡ Some a) × (e ≡ answers.NotSound 7 a) → TellsBy (FailsChunks s boot system chunks) ⊥ e
+chunks_fail s boot system chunks o e judged (a, found, is) =
+    subst (TellsBy (FailsChunks s boot system chunks) ⊥) (sym is) (overlap refl (subst (JudgesChunks s chunks) found judged))
+
+pub all_sound : (s : Super) (boot system chunks : List ChunkAt) (first second : Bool) (o : Option ℕ) → Decides first (KeepsSuper s) → first ≡ true → Decides second (AreSystem boot system) → second ≡ true
+    → JudgesChunks s chunks o → o ≡ None → AreSoundChunks s boot system chunks
+all_sound s boot system chunks first second o super is_super array is_array judged none = record {
+  super = super.0 is_super;
+  array = array.0 is_array;
+  apart = subst (JudgesChunks s chunks) none judged;
+}

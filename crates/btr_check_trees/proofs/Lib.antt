@@ -1,5 +1,13 @@
 pub mod ChunkItems
 pub mod ChunkTree
+pub mod DeviceTree
+pub mod Finding
+pub mod Kinds
 pub mod OneMore
+pub mod OwnTree
+pub mod Prefix
+pub mod RootItems
+pub mod RootTree
 pub mod SameChunks
+pub mod Summing
 pub mod Telling

@@ -26,6 +26,7 @@ use Rattle.btr_reader.proofs.fs_paths.Lists.{at_head, from_filter, from_map, in_
 use Rattle.btr_check_fields.proofs.Listing.{decides_some}
 use Rattle.btr_check_walk.proofs.Faults.{tree_is_sound, walk_fails}
 use Rattle.btr_check_walk.specs.Answers.{FailsIn, IsPassAnswer}
+use Rattle.btr_check_walk.specs.Parts.{TellsBy}
 use Rattle.btr_check_walk.specs.Walks.{EndsWalk, IsRefused}
 use Rattle.command_answers.specs.declared.answer.Answer.{Answer}
 use Rattle.btr_check_trees.specs.RootTree.{AreSoundRoots, FailsRoots, HasFilesRoot, HoldsRoots, KeepsRootItems, KeepsRootTree, RefusesRoots, WalksRoots, misnamed, missing}
@@ -34,6 +35,7 @@ use Rattle.btr_check_trees.specs.declared.root_at.RootAt.{RootAt}
 use Rattle.btr_check_trees.specs.declared.root_items.RootItems.{RootItems}
 use Rattle.btr_check_trees.specs.declared.roots_found.RootsFound.{RootsFound}
 use Rattle.btr_check_trees.proofs.Prefix.{all_of_map}
+use Rattle.btr_check_trees.proofs.Telling.{tells_from}
 use Rattle.btr_check_trees.proofs.RootItems.{kept_before}
 
 -- ---- the walk
@@ -173,3 +175,12 @@ failed image v part a walks (misnamed is h not_so) = (
       not_so
       (subst (HasFilesRoot v.found.roots.items) at (has.0, sym (same_tree image v.found.roots.items (referring i) walks.tells.roots_are) ∙ has.1)),
 )
+
+pub judge_failed : (image : Image) (v : RootItems) (numbers : List ℕ) (e : Answer) → WalksRoots image v → numbers ≡ v.referring.items → TellsBy (FailsRoots v.found.roots.items numbers) ⊥ e → IsPassAnswer image e
+judge_failed image v numbers e walks same told =
+    tells_from (FailsRoots v.found.roots.items v.referring.items) (FailsIn image) ⊥ (λ part a fails. failed image v part a walks fails) e
+    (subst (λ (l : List ℕ). TellsBy (FailsRoots v.found.roots.items l) ⊥ e) same told)
+
+pub judge_kept : (image : Image) (v : RootItems) (f : RootsFound) (numbers : List ℕ) → WalksRoots image v → numbers ≡ v.referring.items → AreSoundRoots v.found.roots.items numbers → f.roots.items ≡ v.found.roots.items
+    → KeepsRootTree image f
+judge_kept image v f numbers walks same sound found = kept image v f walks (subst (AreSoundRoots v.found.roots.items) same sound) found

@@ -1,7 +1,6 @@
 // The root tree of a volume.
 ghost use Rattle.std.specs.Prelude.{◌≡◌, ◌≤◌, [], true, All, Contains, IfErr, IfOk, OnOk};
 ghost use Rattle.btr_check_rules.specs.Sound.{Trees, part_number};
-ghost use Rattle.btr_check_rules.specs.Trees.{needed_trees};
 ghost use Rattle.btr_check_rules.specs.btr_reader.Volume.{IsVolumeOn};
 ghost use Rattle.btr_check_rules.specs.btr_reader.btr_reader_walk.Walks.{LieOn};
 ghost use Rattle.btr_check_rules.specs.btr_reader.btr_reader_walk.outside.Fault.{HasCauseOf};
@@ -25,12 +24,12 @@ use std::alloc::Global;
 /// The trees without which Linux mounts no volume.
 const NEEDED: [u64; 5] = [EXTENT_TREE, DEV_TREE, FS_TREE, CSUM_TREE, DATA_RELOC_TREE];
 
-/// Asks that the trees are there without which Linux mounts no volume.
-fn ask_needed(found: &RootsFound) -> Result<(), Answer>
-    ensures ok { OnOk result (All (λ number. has_root found.now.roots.items number ≡ true) needed_trees) }
-    ensures err { IfErr result (TellsBy (λ part address. (part ≡ part_number Trees) × Contains needed_trees address × (¬ (has_root found.now.roots.items address ≡ true))) ⊥) }
+/// Asks that the trees with these numbers are there.
+fn ask_there(found: &RootsFound, numbers: &[u64]) -> Result<(), Answer>
+    ensures ok { OnOk result (All (λ number. has_root found.now.roots.items number ≡ true) numbers.now) }
+    ensures err { IfErr result (TellsBy (λ part address. (part ≡ part_number Trees) × Contains numbers.now address × (¬ (has_root found.now.roots.items address ≡ true))) ⊥) }
 {
-    for number in NEEDED.iter() {
+    for number in numbers {
         SoundPart::Trees.ask(found.has(*number), *number)?;
     }
     Ok(())
@@ -52,7 +51,7 @@ fn judge(found: &RootsFound, numbers: &[u64]) -> Result<(), Answer>
     ensures ok { OnOk result (AreSoundRoots found.now.roots.items numbers.now) }
     ensures err { IfErr result (TellsBy (FailsRoots found.now.roots.items numbers.now) ⊥) }
 {
-    ask_needed(found)?;
+    ask_there(found, &NEEDED)?;
     ask_referring(found, numbers)?;
     Ok(())
 }
