@@ -1,0 +1,13 @@
+pub mod Closing
+pub mod Deciding
+pub mod Fitting
+pub mod Going
+pub mod Imports
+pub mod Judging
+pub mod Listing
+pub mod Parts
+pub mod Stepping
+pub mod Taking
+pub mod Untold
+pub mod Visiting
+pub mod Walking
