@@ -77,6 +77,7 @@ module _ (image : Image) (r : Recount) where
       where
         among : Contains (extents_in size items) e
         among = (from_filter (λ (f : Extent). f.start == a) (extents_in size items) e (subst (λ (xs : List Extent). Contains xs e) (sym only) (at_head e []))).0
+
         by : (o : Option Extent) → extent_of size i ≡ o → ⊥
         by None none = refuse_extent is none keeps
         by (Some f) read = second_of e f start among is read keeps
@@ -120,19 +121,23 @@ module _ (image : Image) (r : Recount) where
       -- it is taken
       pub take_extent : (hand more : List MadeCount) → IsBare image r a hand items → is_ref_to a i ≡ false → Fits image r e → AllPairs StandsBefore e.refs → AreToldOf (now_of e) (made_to e.start made) e.refs
           → Counts (untold (told_by (now_of e)) e.refs (made_to e.start made)) more → IsInHand image r a (Some (now_of e)) more (items ++ i ∷ [])
-      take_extent hand more bare no_ref_ fits order told counts = (e, begins, record {
-        now_is = refl;
-        extents =
-            ap (λ n. extents_at size n (items ++ i ∷ [])) begins
-            ∙ (ap (filter (λ (f : Extent). f.start == a)) (extents_append size items (i ∷ []) ∙ ap (λ (xs : List Extent). extents_in size items ++ xs) (extent_first size i e [] is read))
-            ∙ (filter-append (λ (f : Extent). f.start == a) (extents_in size items) (e ∷ [])
-            ∙ (ap (λ (xs : List Extent). xs ++ filter (λ (f : Extent). f.start == a) (e ∷ [])) bare.extents
-            ∙ ap (λ (b : Bool). cond b (e ∷ []) []) (eq-eqb e.start a begins))));
-        fits = fits;
-        order = order;
-        told = subst (AreToldOf (now_of e) (made_to e.start made)) (sym all) told;
-        counts = subst (λ (ts : List InlineRef). Counts (untold (told_by (now_of e)) ts (made_to e.start made)) more) (sym all) counts;
-      })
+      take_extent hand more bare no_ref_ fits order told counts = (
+        e,
+        begins,
+        record {
+          now_is = refl;
+          extents =
+              ap (λ n. extents_at size n (items ++ i ∷ [])) begins
+              ∙ (ap (filter (λ (f : Extent). f.start == a)) (extents_append size items (i ∷ []) ∙ ap (λ (xs : List Extent). extents_in size items ++ xs) (extent_first size i e [] is read))
+              ∙ (filter-append (λ (f : Extent). f.start == a) (extents_in size items) (e ∷ [])
+              ∙ (ap (λ (xs : List Extent). xs ++ filter (λ (f : Extent). f.start == a) (e ∷ [])) bare.extents
+              ∙ ap (λ (b : Bool). cond b (e ∷ []) []) (eq-eqb e.start a begins))));
+          fits = fits;
+          order = order;
+          told = subst (AreToldOf (now_of e) (made_to e.start made)) (sym all) told;
+          counts = subst (λ (ts : List InlineRef). Counts (untold (told_by (now_of e)) ts (made_to e.start made)) more) (sym all) counts;
+        },
+      )
         where
           all : e.refs ++ refs_in e.start (items ++ i ∷ []) ≡ e.refs
           all =
@@ -199,18 +204,22 @@ module _ (image : Image) (r : Recount) where
           })
 
       pub take_ref : (more : List MadeCount) → IsToldOf (now_of e) left t → Counts (filter (λ m. not (told_by (now_of e) m t)) left) more → IsInHand image r a (Some now) more (items ++ i ∷ [])
-      take_ref more right counts = (e, begins_here, record {
-        now_is = telling.now_is;
-        extents = extents_front size e.start items (i ∷ []) (All-cons (λ j. is_extent_item j ≡ true → j.0.objectid ≢ e.start) i [] (λ extent. absurd (true≢false (sym extent ∙ no_extent is))) (λ k d inside. absurd (omega (arith, inside)))) ∙ telling.extents;
-        fits = telling.fits;
-        order = telling.order;
-        told = subst (AreToldOf (now_of e) (made_to e.start made)) (sym (with_it [])) (record {
-          kinds = All-push (λ ref. refers_to_node ref ≡ is_node e) so_far t telling.told.kinds right.kind;
-          told = told_push (told_by (now_of e)) ref_uses so_far t (made_to e.start made) telling.told.told right.some right.count;
-        });
-        counts = subst (λ (ts : List InlineRef). Counts (untold (told_by (now_of e)) ts (made_to e.start made)) more) (sym (with_it []))
-            (subst (λ (xs : List Made). Counts xs more) (sym (untold_push (told_by (now_of e)) ref_uses so_far t (made_to e.start made))) counts);
-      })
+      take_ref more right counts = (
+        e,
+        begins_here,
+        record {
+          now_is = telling.now_is;
+          extents = extents_front size e.start items (i ∷ []) (All-cons (λ j. is_extent_item j ≡ true → j.0.objectid ≢ e.start) i [] (λ extent. absurd (true≢false (sym extent ∙ no_extent is))) (λ k d inside. absurd (omega (arith, inside)))) ∙ telling.extents;
+          fits = telling.fits;
+          order = telling.order;
+          told = subst (AreToldOf (now_of e) (made_to e.start made)) (sym (with_it [])) (record {
+            kinds = All-push (λ ref. refers_to_node ref ≡ is_node e) so_far t telling.told.kinds right.kind;
+            told = told_push (told_by (now_of e)) ref_uses so_far t (made_to e.start made) telling.told.told right.some right.count;
+          });
+          counts = subst (λ (ts : List InlineRef). Counts (untold (told_by (now_of e)) ts (made_to e.start made)) more) (sym (with_it []))
+              (subst (λ (xs : List Made). Counts xs more) (sym (untold_push (told_by (now_of e)) ref_uses so_far t (made_to e.start made))) counts);
+        },
+      )
 
     -- ---- an item that tells nothing of extents
 
@@ -223,16 +232,21 @@ module _ (image : Image) (r : Recount) where
       where
         one_none : (n : ℕ) → All (λ j. is_extent_item j ≡ true → j.0.objectid ≢ n) (i ∷ [])
         one_none n = All-cons (λ j. is_extent_item j ≡ true → j.0.objectid ≢ n) i [] (λ extent. absurd (true≢false (sym extent ∙ no_extent_))) (λ k d inside. absurd (omega (arith, inside)))
-    pass_by (Some now) hand no_extent_ no_ref_ (e, start, telling) = (e, start, record {
-      now_is = telling.now_is;
-      extents = extents_front size e.start items (i ∷ []) (one_none e.start) ∙ telling.extents;
-      fits = telling.fits;
-      order = telling.order;
-      told = subst (AreToldOf (now_of e) (made_to e.start made)) (sym same) telling.told;
-      counts = subst (λ (ts : List InlineRef). Counts (untold (told_by (now_of e)) ts (made_to e.start made)) hand) (sym same) telling.counts;
-    })
+    pass_by (Some now) hand no_extent_ no_ref_ (e, start, telling) = (
+      e,
+      start,
+      record {
+        now_is = telling.now_is;
+        extents = extents_front size e.start items (i ∷ []) (one_none e.start) ∙ telling.extents;
+        fits = telling.fits;
+        order = telling.order;
+        told = subst (AreToldOf (now_of e) (made_to e.start made)) (sym same) telling.told;
+        counts = subst (λ (ts : List InlineRef). Counts (untold (told_by (now_of e)) ts (made_to e.start made)) hand) (sym same) telling.counts;
+      },
+    )
       where
         one_none : (n : ℕ) → All (λ j. is_extent_item j ≡ true → j.0.objectid ≢ n) (i ∷ [])
         one_none n = All-cons (λ j. is_extent_item j ≡ true → j.0.objectid ≢ n) i [] (λ extent. absurd (true≢false (sym extent ∙ no_extent_))) (λ k d inside. absurd (omega (arith, inside)))
+
         same : e.refs ++ refs_in e.start (items ++ i ∷ []) ≡ e.refs ++ refs_in e.start items
         same = ap (λ (ts : List InlineRef). e.refs ++ ts) (refs_front e.start items (i ∷ []) (All-cons (λ j. is_ref_to e.start j ≡ false) i [] (no_ref e.start i no_ref_) (λ k d inside. absurd (omega (arith, inside)))))

@@ -118,13 +118,14 @@ module _ (image : Image) (r : Recount) (s : Super) (met : NodeMap) (hand : List 
 
   pub decides_fits : (head made sum : Bool) → Decides head (KeepsHead s e) → Decides made (All (IsMadeTo e.length (is_node e)) here) → Decides sum ((e.head.refs ≢ 0) × (e.head.refs ≡ length here))
       → Decides (head && (made && (sum && level_right))) (Fits image r e)
-  decides_fits head made sum keeps are counts =
-      ((λ is.
-      let one = and_parts head (made && (sum && level_right)) is in
-      let two = and_parts made (sum && level_right) one.1 in
-      let three = and_parts sum level_right two.1 in
-      let refs = counts.0 three.0 in
-      record { head = subst (λ t. KeepsHead t e) (sym super) (keeps.0 one.0); made = are.0 two.0; some = refs.0; sum = refs.1; level = level_of (keeps.0 one.0) three.1 }),
-      (λ fits.
-      and_from head (made && (sum && level_right)) (keeps.1 (subst (λ t. KeepsHead t e) super fits.head))
-      (and_from made (sum && level_right) (are.1 fits.made) (and_from sum level_right (counts.1 (fits.some, fits.sum)) (level_told fits)))))
+  decides_fits head made sum keeps are counts = (
+    (λ is.
+        let one = and_parts head (made && (sum && level_right)) is in
+        let two = and_parts made (sum && level_right) one.1 in
+        let three = and_parts sum level_right two.1 in
+        let refs = counts.0 three.0 in
+        record { head = subst (λ t. KeepsHead t e) (sym super) (keeps.0 one.0); made = are.0 two.0; some = refs.0; sum = refs.1; level = level_of (keeps.0 one.0) three.1 }),
+    (λ fits.
+        and_from head (made && (sum && level_right)) (keeps.1 (subst (λ t. KeepsHead t e) super fits.head))
+        (and_from made (sum && level_right) (are.1 fits.made) (and_from sum level_right (counts.1 (fits.some, fits.sum)) (level_told fits)))),
+  )

@@ -36,8 +36,8 @@ module _ (image : Image) (r : Recount) (old : RefPass) (items later : List Item)
   -- the first of those that are made to addresses between
   pub refuse_first : (address a : ℕ) → All (λ j. address ≤ j.0.objectid) later → IsFirst a (made_behind old.at made) → a < address → KeepsExtentTree image r a → ⊥
   refuse_first address a behind first less keeps =
-        refuse_between first.one first.there (All-weaker (λ j. address ≤ j.0.objectid) (λ j. first.one.start < j.0.objectid) (λ j h. let is = first.begins in omega (arith, h, is, less)) later behind)
-        (subst (KeepsExtentTree image r) (sym first.begins) keeps)
+      refuse_between first.one first.there (All-weaker (λ j. address ≤ j.0.objectid) (λ j. first.one.start < j.0.objectid) (λ j h. let is = first.begins in omega (arith, h, is, less)) later behind)
+      (subst (KeepsExtentTree image r) (sym first.begins) keeps)
 
   module _ (address : ℕ) (further : old.at < address) (behind : All (λ j. address ≤ j.0.objectid) later) (kept : KeepsExtentTree image r old.at) (high : All (λ m. address ≤ m.start) (made_behind old.at made)) where
     pub between : (b : ℕ) → old.at < b → b < address → KeepsExtentTree image r b
@@ -47,6 +47,7 @@ module _ (image : Image) (r : Recount) (old : RefPass) (items later : List Item)
       where
         not_at : (m : Made) → (m.start ≡ b → ⊥) → (m.start == b) ≡ false
         not_at m other = ne_eqb m.start b other
+
         no_made : All (λ (m : Made). (m.start == b) ≡ false) made
         no_made = all_from_contains (λ (m : Made). (m.start == b) ≡ false) made
             (λ m h. not_at m (λ is. let far = All-contains (λ (n : Made). address ≤ n.start) (made_behind old.at made) m high (in_rest m h (omega (arith, low, is))) in omega (arith, far, is, less)))

@@ -1,5 +1,6 @@
 pub mod Closing
 pub mod Deciding
+pub mod Ending
 pub mod Fitting
 pub mod Going
 pub mod Imports

@@ -94,6 +94,7 @@ module _ (image : Image) (r : Recount) (old : RefPass) (items later : List Item)
             other = λ no_extent _. absurd (true≢false (sym is ∙ no_extent));
             skinny = λ kind. ap (λ s. has_feature s SKINNY_METADATA) stands.super ∙ feature kind;
           }
+
           by : (before : Option ExtentNow) → before ≡ None → IsInHand image r old.at before old.hand.items items → IsInHand image r old.at (Some (now_of e)) pass.hand.items (items ++ i ∷ [])
           by None _ bare =
               take_extent image r items i later old.at next e is read old.hand.items pass.hand.items bare (no_ref old.at i (false_from_ne_true (is_ref_item i) (no_both i is))) right.fits right.order right.told counts

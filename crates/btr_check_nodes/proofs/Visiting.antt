@@ -95,3 +95,14 @@ module _ (image : Image) (r : Recount) (begun : RefPass) (items : List TreeItem)
     stands = subst (Stands image r pass) (sym with_it) stands;
     higher = subst (λ n. All (λ i. n ≤ i.key.objectid) later) (sym at) higher;
   }
+
+-- ---- a whole walk
+
+-- a pass that was given no item
+pub held_begun : (begun : RefPass) → HoldsRefs begun begun []
+held_begun begun = λ image r later over. record { stands = over.stands; higher = λ k d inside. let is = over.first in omega (arith, is) }
+
+-- a pass that was given all
+pub held_all : (image : Image) (r : Recount) (begun pass : RefPass) (items : List TreeItem) → IsOver image r begun items → HoldsRefs begun pass items → Stands image r pass (extent_items r)
+held_all image r begun pass items over holds =
+    subst (Stands image r pass) (sym over.given) (holds image r [] (subst (IsOver image r begun) (sym (append-nil items)) over)).stands

@@ -85,7 +85,6 @@ module _ (nodesize : ℕ) where
   extent_first i e rest yes_ is =
       ap (λ (b : Bool). flat_map own (cond b (i ∷ filter is_extent_item rest) (filter is_extent_item rest))) yes_ ∙ ap (λ (o : Option Extent). at_most_one o ++ extents_in nodesize rest) is
 
-
 pub refs_append : (a : ℕ) (xs ys : List Item) → refs_in a (xs ++ ys) ≡ refs_in a xs ++ refs_in a ys
 refs_append a xs ys = ap (flat_map (λ i. at_most_one (ref_of_item i))) (filter-append (is_ref_to a) xs ys) ∙ flat_map-append (λ i. at_most_one (ref_of_item i)) (filter (is_ref_to a) xs) (filter (is_ref_to a) ys)
 

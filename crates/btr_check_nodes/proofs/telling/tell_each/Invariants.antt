@@ -5,5 +5,5 @@ use Rattle.btr_check_nodes.proofs.telling.tell_each.Given as goal
 abbrev pub invariant-loop-i : goal.invariant-loop-i
 invariant-loop-i l = record {
   ascends : AreJoined l.hand.items;
-  told : (list : List Made) → Counts list l.fn.hand.items → AreToldUpTo l.e l.refs l.i list l.hand.items
+  told : (list : List Made) → Counts list l.fn.hand.items → AreToldUpTo l.e l.refs l.i list l.hand.items;
 }
