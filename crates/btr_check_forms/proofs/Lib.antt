@@ -1,0 +1,4 @@
+pub mod ByKind
+pub mod Deciding
+pub mod Gone
+pub mod Imports
