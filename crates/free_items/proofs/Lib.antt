@@ -1,0 +1,10 @@
+pub mod Counting
+pub mod Few
+pub mod Front
+pub mod Fronts
+pub mod Grouped
+pub mod Merged
+pub mod Planned
+pub mod Sizes
+pub mod Taken
+pub mod Unique
