@@ -16,25 +16,25 @@ rest x g = record { address = x; length = end_of g - x }
 
 rest_free : (used : List Range) (g : Range) (x : ℕ) → g.address ≤ x → x < end_of g → ((a : ℕ) → is_in a g ≡ true → is_in_any used a ≡ nat_lt a x) → AreFreeRuns used g (rest x g ∷ [])
 rest_free used g x low high front = record {
-  exact = λ a. at a (is_in_any used a) (front a);
+  exact = λ a. at a (is_in a g) (is_in_any used a) refl (front a);
   some = All-cons (λ (r : Range). 1 ≤ r.length) (rest x g) [] (omega (arith, high)) (All-nil (λ (r : Range). 1 ≤ r.length));
   apart = one_pair (rest x g);
 }
   where
-    at : (a : ℕ) (u : Bool) → (is_in a g ≡ true → u ≡ nat_lt a x) → is_in_any (rest x g ∷ []) a ≡ (is_in a g && not u)
-    at a true is = grind (arith, is, low, high)
-    at a false is = grind (arith, is, low, high)
+    at : (a : ℕ) (inside u : Bool) → is_in a g ≡ inside → (inside ≡ true → u ≡ nat_lt a x) → is_in_any (rest x g ∷ []) a ≡ (inside && not u)
+    at a true u is same = let below = same refl in grind (arith, is, below, low, high)
+    at a false u is same = grind (arith, is, low, high)
 
 none_free : (used : List Range) (g : Range) (x : ℕ) → end_of g ≤ x → ((a : ℕ) → is_in a g ≡ true → is_in_any used a ≡ nat_lt a x) → AreFreeRuns used g []
 none_free used g x past front = record {
-  exact = λ a. at a (is_in_any used a) (front a);
+  exact = λ a. at a (is_in a g) (is_in_any used a) refl (front a);
   some = All-nil (λ (r : Range). 1 ≤ r.length);
   apart = λ i j d l h. absurd (omega (arith, l, h));
 }
   where
-    at : (a : ℕ) (u : Bool) → (is_in a g ≡ true → u ≡ nat_lt a x) → false ≡ (is_in a g && not u)
-    at a true is = grind (arith, is, past)
-    at a false is = grind (arith, is, past)
+    at : (a : ℕ) (inside u : Bool) → is_in a g ≡ inside → (inside ≡ true → u ≡ nat_lt a x) → false ≡ (inside && not u)
+    at a true u is same = let below = same refl in grind (arith, is, below, past)
+    at a false u is same = refl
 
 same_use : (used : List Range) (g : Range) → (a : ℕ) → is_in a g ≡ true → is_in_any used a ≡ is_in_any used a
 same_use used g a inside = refl

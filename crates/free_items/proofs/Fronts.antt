@@ -2,7 +2,7 @@
 use Rattle.std.proofs.Common.{◌≡◌, ◌≢◌, ◌∙◌, ◌⊎◌, inl, inr, ℕ, suc, zero, ◌+◌, ◌-◌, ◌*◌, ◌/◌, ◌%◌, ◌^◌, ◌≤◌, ◌<◌, nat_le, nat_lt, ◌==◌, Bool, true, false, not, ◌&&◌, ◌||◌, List, [], ◌∷◌, All, AllPairs, Any, get_or, length, map, take, filter, refl, sym, ap, subst, arith, ⊎_elim}
 use Rattle.std.specs.Prelude.{Contains}
 use Rattle.std.specs.List.{list_any}
-use Rattle.std.proofs.lemmas.Bool.{both_ways, cases_Bool, cases_lt, eq-eqb, eqb-true, le-ltb, lt-ltb}
+use Rattle.std.proofs.lemmas.Bool.{and_from, and_parts, cases_lt, eq-eqb, eqb-true, le-leb, le-ltb, leb-true, lt-ltb, ltb-true}
 use Rattle.std.proofs.lemmas.List.{get_or-take, get_or_default, length-take}
 use Rattle.std.proofs.lemmas.List.Elements.{Contains-get_or}
 use Rattle.std.proofs.lemmas.List.Folds.{Any-from_list_any, list_any-from_Any}
@@ -67,6 +67,14 @@ among_all xs count x taken =
     let long = length-take count xs in
     (taken.0, omega (arith, taken.1, long), sym (get_or-take count xs taken.0 x (omega (arith, taken.1, long))) ∙ taken.2)
 
+-- ---- an address of a range
+
+pub within : (a : ℕ) (g : Range) → is_in a g ≡ true → (g.address ≤ a) × (a < end_of g)
+within a g is = let both = and_parts (nat_le g.address a) (nat_lt a (end_of g)) is in (leb-true g.address a both.0, ltb-true a (end_of g) both.1)
+
+pub is_within : (a : ℕ) (g : Range) → g.address ≤ a → a < end_of g → is_in a g ≡ true
+is_within a g low high = and_from (nat_le g.address a) (nat_lt a (end_of g)) (le-leb g.address a low) (lt-ltb a (end_of g) high)
+
 -- ---- an address of a node
 
 abbrev pub has_place : List ℕ → ℕ → Bool
@@ -97,14 +105,13 @@ in_nodes n nodes a s aligned =
     let of = from_map (node_range n) nodes r (found.0, found.2, found.3) in
     let begins : r.address ≡ of.0.address = ap (λ (x : Range). x.address) (sym of.2) in
     let long : r.length ≡ n = ap (λ (x : Range). x.length) (sym of.2) in
-    let low : r.address ≤ a = grind (arith, found.4) in
-    let high : a < r.address + r.length = grind (arith, found.4) in
+    let near = within a r found.4 in
     let among : Contains (map (λ (m : TreeNode). m.address) nodes) of.0.address = in_map (λ (m : TreeNode). m.address) nodes of.0 of.1 in
-    let same : of.0.address ≡ n * (a / n) = s.only of.0.address a (aligned of.0.address among) (omega (arith, begins, low)) (omega (arith, begins, long, high)) in
+    let same : of.0.address ≡ n * (a / n) = s.only of.0.address a (aligned of.0.address among) (omega (arith, begins, near.0)) (omega (arith, begins, long, near.1)) in
     has_it (map (λ (m : TreeNode). m.address) nodes) (n * (a / n)) (subst (λ (x : ℕ). Contains (map (λ (m : TreeNode). m.address) nodes) x) same among))
     (λ is.
     let of = from_map (λ (m : TreeNode). m.address) nodes (n * (a / n)) (it_has (map (λ (m : TreeNode). m.address) nodes) (n * (a / n)) is) in
     let among : Contains (map (node_range n) nodes) (node_range n of.0) = in_map (node_range n) nodes of.0 of.1 in
     let around = s.at a in
-    let inside : is_in a (node_range n of.0) ≡ true = grind (arith, of.2, around.0, around.1) in
+    let inside : is_in a (node_range n of.0) ≡ true = is_within a (node_range n of.0) (omega (arith, of.2, around.0)) (omega (arith, of.2, around.1)) in
     list_any-from_Any (is_in a) (map (node_range n) nodes) (among.0, node_range n of.0, among.1, among.2, inside))

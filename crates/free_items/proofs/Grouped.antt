@@ -35,7 +35,7 @@ use Rattle.unit_plan.specs.Places.{node_places}
 use Rattle.free_items.specs.Used.{free_tree_items, group_of, merged_ranges, node_range, piece_range, used_ranges}
 use Rattle.free_items.proofs.Counting.{begin_once, begins_of, group_few}
 use Rattle.free_items.proofs.Front.{one_at_most, one_run}
-use Rattle.free_items.proofs.Fronts.{has_place}
+use Rattle.free_items.proofs.Fronts.{has_place, within}
 use Rattle.free_items.proofs.Merged.{AllBeside, Beside, in_merged, merged_up, range_cmp}
 use Rattle.free_items.proofs.Planned.{roles_beside}
 use Rattle.free_items.proofs.Sizes.{Sizes, sizes}
@@ -168,7 +168,9 @@ module _ (plan : Plan) (blocks n : ℕ) (chunks : List PlannedChunk) (pieces : L
       let d : PlannedChunk = there.1 in
       let at : LiesInData of.0 d = there.4 in
       let here : is_in a (piece_range of.0) ≡ true = subst (λ (r : Range). is_in a r ≡ true) (sym of.2) found.4 in
-      absurd (⊎_elim (λ (before : c.start + c.length ≤ d.start). over (grind (arith, before, inside, here, at.low))) (λ (behind : d.start + d.length ≤ c.start). over (grind (arith, behind, inside, here, at.high)))
+      let one_in = within a (group_of c) inside in
+      let other_in = within a (piece_range of.0) here in
+      absurd (⊎_elim (λ (before : c.start + c.length ≤ d.start). over (omega (arith, before, one_in.1, other_in.0, at.low))) (λ (behind : d.start + d.length ≤ c.start). over (omega (arith, behind, one_in.0, other_in.1, at.high)))
       (roles_beside plan blocks chunks is.chunks_ c d among (there.0, there.2, there.3) (λ same. other (same ∙ at.role)))))
       (λ (hasnt : is_in_any piece_ranges a ≡ false). hasnt)
       (cases_Bool (is_in_any piece_ranges a))

@@ -3,7 +3,9 @@ pub mod Few
 pub mod Front
 pub mod Fronts
 pub mod Grouped
+pub mod Lost
 pub mod Merged
+pub mod Passing
 pub mod Planned
 pub mod Sizes
 pub mod Taken

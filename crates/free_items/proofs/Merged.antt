@@ -1,5 +1,5 @@
 -- Two lists of ranges in one.
-use Rattle.std.proofs.Common.{◌≡◌, ◌≢◌, ◌∙◌, ℕ, ◌+◌, ◌≤◌, ◌<◌, nat_le, nat_lt, Bool, true, false, ◌&&◌, ◌||◌, List, [], ◌∷◌, All, AllPairs, length, refl, sym, ap, subst, arith, ⊎_elim, ◌⊎◌}
+use Rattle.std.proofs.Common.{◌≡◌, ◌≢◌, ◌∙◌, ℕ, ◌+◌, ◌≤◌, ◌<◌, nat_le, nat_lt, Bool, true, false, ◌&&◌, ◌||◌, List, [], ◌∷◌, All, AllPairs, get_or, length, refl, sym, ap, subst, arith, ⊎_elim, ◌⊎◌}
 use Rattle.std.proofs.lemmas.Bool.{cases_eq, cases_lt}
 use Rattle.std.proofs.lemmas.List.Elements.{All-head, All-tail}
 use Rattle.free_space.proofs.Apart.{Up, up_lower}
@@ -22,10 +22,10 @@ abbrev pub AllBeside : List Range → List Range → Type 0
 AllBeside ranges others = All (λ r. All (Beside r) others) ranges
 
 -- the first of two lists, by their addresses
-less_merge : (r : Range) (ranges : List Range) (s : Range) (others : List Range) → r.address < s.address → merged_ranges (r ∷ ranges) (s ∷ others) ≡ r ∷ merged_ranges ranges (s ∷ others)
+pub less_merge : (r : Range) (ranges : List Range) (s : Range) (others : List Range) → r.address < s.address → merged_ranges (r ∷ ranges) (s ∷ others) ≡ r ∷ merged_ranges ranges (s ∷ others)
 less_merge r ranges s others less = merge-less range_cmp r ranges s others (nat_less r.address s.address less)
 
-greater_merge : (r : Range) (ranges : List Range) (s : Range) (others : List Range) → s.address < r.address → merged_ranges (r ∷ ranges) (s ∷ others) ≡ s ∷ merged_ranges (r ∷ ranges) others
+pub greater_merge : (r : Range) (ranges : List Range) (s : Range) (others : List Range) → s.address < r.address → merged_ranges (r ∷ ranges) (s ∷ others) ≡ s ∷ merged_ranges (r ∷ ranges) others
 greater_merge r ranges s others less = merge-greater range_cmp r ranges s others (nat_greater r.address s.address less)
 
 -- ranges that are not empty and lie beside each other begin apart
@@ -47,7 +47,7 @@ module _ (b : ℕ) where
       subst (Up 0 low) (sym (greater_merge r ranges s others less)) (
         up.0,
         up.1,
-        up_at r ranges from some on rest others (end_of s + 0) (omega (arith, ends)) up.2 (All-tail (Beside r) s others beside) (λ k d h. All-tail (Beside _) s others (apart k d h)),
+        up_at r ranges from some on rest others (end_of s + 0) (omega (arith, ends)) up.2 (All-tail (Beside r) s others beside) (λ k d h. All-tail (Beside (get_or ranges k d)) s others (apart k d h)),
       ))
 
 -- both ascend, and so does the whole
@@ -56,17 +56,21 @@ merged_up b [] others up also apart = also
 merged_up b (r ∷ ranges) others up also apart =
     up_at b r ranges up.0 up.1 (λ more later beside. merged_up (end_of r + 0) ranges more up.2 later beside) up.2 others b up.0 also (All-head (λ x. All (Beside x) others) r ranges apart) (All-tail (λ x. All (Beside x) others) r ranges apart)
 
+nothing_more : (b : Bool) → b ≡ (b || false)
+nothing_more true = refl
+nothing_more false = refl
+
 -- an address is in use where one of both has it
 in_at : (a : ℕ) (r : Range) (ranges : List Range) → 1 ≤ r.length → ((others : List Range) → All (λ s. 1 ≤ s.length) others → AllBeside ranges others → is_in_any (merged_ranges ranges others) a ≡ (is_in_any ranges a || is_in_any others a))
     → (others : List Range) → All (λ s. 1 ≤ s.length) others → All (Beside r) others → AllBeside ranges others → is_in_any (merged_ranges (r ∷ ranges) others) a ≡ (is_in_any (r ∷ ranges) a || is_in_any others a)
-in_at a r ranges some on [] filled beside apart = grind arith
+in_at a r ranges some on [] filled beside apart = nothing_more (is_in_any (r ∷ ranges) a)
 in_at a r ranges some on (s ∷ others) filled beside apart =
     by_begin r s some (All-head (λ (x : Range). 1 ≤ x.length) s others filled) (All-head (Beside r) s others beside)
     (λ less ends. ap (λ (l : List Range). is_in_any l a) (less_merge r ranges s others less) ∙ first (is_in a r) (is_in_any ranges a) (is_in_any (s ∷ others) a) _ (on (s ∷ others) filled apart))
     (λ less ends.
     ap (λ (l : List Range). is_in_any l a) (greater_merge r ranges s others less)
     ∙ second (is_in a s) (is_in_any (r ∷ ranges) a) (is_in_any others a) _
-    (in_at a r ranges some on others (All-tail (λ (x : Range). 1 ≤ x.length) s others filled) (All-tail (Beside r) s others beside) (λ k d h. All-tail (Beside _) s others (apart k d h))))
+    (in_at a r ranges some on others (All-tail (λ (x : Range). 1 ≤ x.length) s others filled) (All-tail (Beside r) s others beside) (λ k d h. All-tail (Beside (get_or ranges k d)) s others (apart k d h))))
   where
     first : (x y z w : Bool) → w ≡ (y || z) → (x || w) ≡ ((x || y) || z)
     first true y z w e = refl

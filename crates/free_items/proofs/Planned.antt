@@ -78,6 +78,9 @@ pub is_metadata_unit : (plan : Plan) (blocks u : ℕ) → role_of plan blocks u 
 unfolding role_of
 is_metadata_unit plan blocks u is = among_contains plan.metadata u (listed_metadata (has_role plan blocks u) (is_among plan.system u) (is_among plan.metadata u) is)
 
+some_role : (a b : Role) → Some a ≡ Some b → a ≡ b
+some_role a b is = cc
+
 -- ---- chunks
 
 module _ (plan : Plan) (blocks : ℕ) (chunks : List PlannedChunk) (are : AreChunks plan blocks chunks) where
@@ -125,7 +128,7 @@ module _ (plan : Plan) (blocks : ℕ) (chunks : List PlannedChunk) (are : AreChu
       let same : Some c.role ≡ Some role = sym (of.one_role u first_low before) ∙ is in
       (c, record {
         among = there;
-        role_is = cc same;
+        role_is = some_role c.role role same;
         low = holds.low;
         high = omega (arith, of.ends, before, fits);
       })

@@ -24,7 +24,7 @@ use Rattle.free_items.specs.Places.{ends_chunk, places_before_ends}
 use Rattle.free_items.specs.Used.{group_of, node_range}
 use Rattle.free_items.proofs.Sizes.{Sizes, sizes}
 use Rattle.free_items.proofs.Planned.{HasUnit, IsPlaceOf, beside, chunk_of, has_role_of, is_metadata_unit, is_place, is_system_unit, place_of, roles_beside}
-use Rattle.free_items.proofs.Fronts.{IsFront, among_all, front_of, has_it, has_place, in_nodes, it_has, same_test, taken_before}
+use Rattle.free_items.proofs.Fronts.{IsFront, among_all, front_of, has_it, has_place, in_nodes, is_within, it_has, same_test, taken_before, within}
 
 -- the places that no chunk ends behind
 kept_place : (n : ℕ) (chunks : List PlannedChunk) (places : List ℕ) (a : ℕ) → Contains places a → ends_chunk chunks (a + n) ≡ false → Contains (places_before_ends n chunks places) a
@@ -44,8 +44,9 @@ module _ (plan : Plan) (blocks n : ℕ) (chunks : List PlannedChunk) (pieces : L
   s = sizes n is.size
 
   abbrev spots : List ℕ
-  abbrev own_spots : List ℕ
   spots = places_before_ends n chunks (node_places n plan.metadata)
+
+  abbrev own_spots : List ℕ
   own_spots = node_places n plan.system
 
   -- where a place of units of a role lies
@@ -89,12 +90,14 @@ module _ (plan : Plan) (blocks n : ℕ) (chunks : List PlannedChunk) (pieces : L
     -- no other chunk has an address of a chunk
     one_chunk : (c d : PlannedChunk) (a : ℕ) → Contains chunks c → Contains chunks d → c.role ≢ d.role → is_in a (group_of c) ≡ true → is_in a (group_of d) ≡ true → ⊥
     one_chunk c d a one other apart here there =
-        ⊎_elim (λ (before : c.start + c.length ≤ d.start). absurd (grind (arith, before, here, there))) (λ (behind : d.start + d.length ≤ c.start). absurd (grind (arith, behind, here, there)))
+        let one_in = within a (group_of c) here in
+        let other_in = within a (group_of d) there in
+        ⊎_elim (λ (before : c.start + c.length ≤ d.start). absurd (omega (arith, before, one_in.1, other_in.0))) (λ (behind : d.start + d.length ≤ c.start). absurd (omega (arith, behind, one_in.0, other_in.1)))
         (roles_beside plan blocks chunks is.chunks_ c d one other apart)
 
     -- the place of an address in a chunk
     around : (role : Role) (a : ℕ) → (at : LiesIn role (n * (a / n))) → is_in a (group_of at.chunk) ≡ true
-    around role a at = let near = s.at a in grind (arith, near.0, near.1, at.low, at.high)
+    around role a at = let near = s.at a in is_within a (group_of at.chunk) (omega (arith, near.0, at.low)) (omega (arith, near.1, at.high))
 
     -- in a chunk of one role, the nodes there are those at its places
     system≢metadata : System ≢ Metadata
@@ -220,8 +223,8 @@ module _ (plan : Plan) (blocks n : ℕ) (chunks : List PlannedChunk) (pieces : L
     low = let e = times_le n (nodes_in_unit n * at.first) (nodes_in_unit n * at.first + front.count) (omega arith) in omega (arith, at.starts, e);
     high = let e = times_le n (nodes_in_unit n * at.first + front.count) (nodes_in_unit n * at.end) (omega (arith, front.within, order)) in omega (arith, at.ends, e);
     exact = λ a inside.
-        let low : nodes_in_unit n * at.first ≤ a / n = not_under a (nodes_in_unit n * at.first) (grind (arith, inside, at.starts)) in
-        let high : a / n < nodes_in_unit n * at.end = not_over a (nodes_in_unit n * at.end) (grind (arith, inside, at.ends)) in
+        let low : nodes_in_unit n * at.first ≤ a / n = not_under a (nodes_in_unit n * at.first) (let near = within a (group_of c) inside in omega (arith, near.0, at.starts)) in
+        let high : a / n < nodes_in_unit n * at.end = not_over a (nodes_in_unit n * at.end) (let near = within a (group_of c) inside in omega (arith, near.1, at.ends)) in
         let i : ℕ = a / n - nodes_in_unit n * at.first in
         let is_i : nodes_in_unit n * at.first + i ≡ a / n = omega (arith, low) in
         subst (λ (k : ℕ). has_place taken (n * k) ≡ nat_lt i front.count) is_i (front.exact i (omega (arith, low, high)))
@@ -295,7 +298,7 @@ module _ (plan : Plan) (blocks n : ℕ) (chunks : List PlannedChunk) (pieces : L
         let some = s.some in
         let begins : n * (nodes_in_unit n * at.first) ≤ n * last = times_le n (nodes_in_unit n * at.first) last (omega (arith, wide)) in
         let a : ℕ = n * last in
-        let inside : is_in a (group_of c) ≡ true = grind (arith, at.starts, at.ends, begins, near, some) in
+        let inside : is_in a (group_of c) ≡ true = is_within a (group_of c) (omega (arith, at.starts, begins)) (omega (arith, at.ends, near, some)) in
         let place : n * (a / n) ≡ a = index last in
         let there : has_place (take count spots) a ≡ true = ap (has_place (take count spots)) (sym place) ∙ (front.exact a inside ∙ lt-ltb a front.end (omega (arith, all, at.ends, near, some))) in
         let kept = was_place n chunks (node_places n plan.metadata) a (among_all spots count a (it_has (take count spots) a there)) in

@@ -1,5 +1,5 @@
 -- What a range is left free of used ranges is one list of runs.
-use Rattle.std.proofs.Common.{◌≡◌, ◌∙◌, ℕ, ◌+◌, ◌-◌, ◌≤◌, ◌<◌, nat_le, nat_lt, Bool, true, false, not, ◌&&◌, ◌||◌, List, [], ◌∷◌, All, AllPairs, length, refl, sym, ap, ap₂, arith, ⊎_elim, ◌⊎◌}
+use Rattle.std.proofs.Common.{◌≡◌, ◌∙◌, ℕ, ◌+◌, ◌-◌, ◌≤◌, ◌<◌, nat_le, nat_lt, Bool, true, false, not, ◌&&◌, ◌||◌, List, [], ◌∷◌, All, AllPairs, length, refl, suc, sym, ap, ap₂, arith, ⊎_elim, ◌⊎◌}
 use Rattle.std.proofs.lemmas.Bool.{cases_eq, cases_lt}
 use Rattle.std.proofs.lemmas.List.Elements.{All-cons, All-head, All-nil, All-tail}
 use Rattle.free_space.specs.Runs.{AreFreeRuns, end_of, is_in, is_in_any}
@@ -16,8 +16,8 @@ low_apart b (r ∷ runs) some pairs low = (
   All-head (λ (x : Range). b ≤ x.address) r runs low,
   All-head (λ (x : Range). 1 ≤ x.length) r runs some,
   low_apart (end_of r + 1) runs (All-tail (λ (x : Range). 1 ≤ x.length) r runs some)
-      (λ i j d l h. pairs (i + 1) (j + 1) d (omega (arith, l)) (omega (arith, h)))
-      (λ k d h. let e : end_of r < _ = pairs 0 (k + 1) d (omega arith) (omega (arith, h)) in omega (arith, e)),
+      (λ i j d l h. pairs (suc i) (suc j) d (omega (arith, l)) (omega (arith, h)))
+      (λ k d h. let e = pairs 0 (suc k) d (omega arith) (omega (arith, h)) in omega (arith, e)),
 )
 
 -- no run has an address before

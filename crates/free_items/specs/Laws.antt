@@ -67,3 +67,7 @@ abbrev pub FreeItemsAreFew : Type 0
 FreeItemsAreFew =
     (plan : Plan) (blocks nodesize count own : ℕ) (chunks : List PlannedChunk) (pieces : List Piece) (nodes : List TreeNode) → IsPlanned plan blocks nodesize chunks pieces → AreTaken plan nodesize chunks count own nodes
     → bytes_of (lengths_of (free_tree_items chunks pieces nodes nodesize)) ≤ 58 * length chunks + 25 * length pieces
+
+-- no more places are lost than there are chunks
+abbrev pub FewPlacesAreLost : Type 0
+FewPlacesAreLost = (nodesize : ℕ) (chunks : List PlannedChunk) (places : List ℕ) → AllPairs (λ a b. a < b) places → length places ≤ length (places_before_ends nodesize chunks places) + length chunks

@@ -1,5 +1,5 @@
 // Laws of the definitions, each the contract of a function that does nothing.
-ghost use Rattle.free_items.specs.Laws.{FreeItemsAreFew, FreeItemsStay, UsedSpaceIsApart};
+ghost use Rattle.free_items.specs.Laws.{FewPlacesAreLost, FreeItemsAreFew, FreeItemsStay, UsedSpaceIsApart};
 
 /// What pieces and nodes of a planned volume take lies in its block groups, without overlaps.
 pub fn used_space_is_apart()
@@ -14,4 +14,9 @@ pub fn free_items_stay()
 /// They take no more bytes than are counted by chunks and pieces.
 pub fn free_items_are_few()
     ensures { FreeItemsAreFew }
+{}
+
+/// No more places are lost at the ends of chunks than there are chunks.
+pub fn few_places_are_lost()
+    ensures { FewPlacesAreLost }
 {}
