@@ -115,6 +115,7 @@ module _ (plan : Plan) (blocks n : ℕ) (chunks : List PlannedChunk) (pieces : L
   s = sizes n is.size
 
   abbrev groups : List Range
+
   abbrev piece_ranges : List Range
   groups = map group_of chunks
   piece_ranges = map piece_range pieces

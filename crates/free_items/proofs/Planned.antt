@@ -125,13 +125,15 @@ module _ (plan : Plan) (blocks : ℕ) (chunks : List PlannedChunk) (are : AreChu
       let holds : HoldsUnit c u = found.4 in
       let first_low : of.first ≤ u = omega (arith, holds.low, of.starts) in
       let before : u < of.end = omega (arith, holds.high, of.ends) in
-      let same : Some c.role ≡ Some role = sym (of.one_role u first_low before) ∙ is in
-      (c, record {
-        among = there;
-        role_is = some_role c.role role same;
-        low = holds.low;
-        high = omega (arith, of.ends, before, fits);
-      })
+      let same : Some c.role ≡ Some role = sym (of.one_role u first_low before) ∙ is in (
+        c,
+        record {
+          among = there;
+          role_is = some_role c.role role same;
+          low = holds.low;
+          high = omega (arith, of.ends, before, fits);
+        },
+      )
 
   -- the units of a chunk have its role
   pub has_role_of : (c : PlannedChunk) (u : ℕ) → Contains chunks c → 2 ^ 20 * u < 4096 * (c.start + c.length) → 4096 * c.start ≤ 2 ^ 20 * u → role_of plan blocks u ≡ Some c.role

@@ -1,7 +1,18 @@
 -- Places of nodes, as multiples of their size.
-use Rattle.std.proofs.Common.{◌≡◌, ℕ, ◌+◌, ◌*◌, ◌/◌, ◌%◌, ◌^◌, ◌≤◌, ◌<◌, sym, subst, arith, ⊎_elim}
+use Rattle.std.proofs.Common.{◌≡◌, ℕ, suc, zero, ◌+◌, ◌-◌, ◌*◌, ◌/◌, ◌%◌, ◌^◌, ◌≤◌, ◌<◌, sym, subst, arith, ⊎_elim}
+use Rattle.std.proofs.lemmas.Nat.{mul-le}
 use Rattle.btr_tree.specs.btr_node.NodeSize.{IsNodeSize}
 use Rattle.unit_plan.specs.Needed.{nodes_in_unit}
+
+pub times_le : (k x y : ℕ) → x ≤ y → k * x ≤ k * y
+times_le k x y h = mul-le k x k y (omega arith) h
+
+pub times_one : (k x : ℕ) → k * (x + 1) ≡ k * x + k
+times_one k x = grind arith
+
+pub one_back : (k m : ℕ) → 1 ≤ m → k * (m - 1) + k ≡ k * m
+one_back k zero h = absurd (omega (arith, h))
+one_back k (suc m) h = grind arith
 
 pub record Sizes (n : ℕ) : Type 0 where
   pub some : 1 ≤ n

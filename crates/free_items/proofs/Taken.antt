@@ -22,7 +22,7 @@ use Rattle.space_items.specs.declared.node.TreeNode.{TreeNode}
 use Rattle.free_items.specs.Laws.{AreTaken, AreUnitsOf, IsPlanned}
 use Rattle.free_items.specs.Places.{ends_chunk, places_before_ends}
 use Rattle.free_items.specs.Used.{group_of, node_range}
-use Rattle.free_items.proofs.Sizes.{Sizes, sizes}
+use Rattle.free_items.proofs.Sizes.{Sizes, one_back, sizes, times_le, times_one}
 use Rattle.free_items.proofs.Planned.{HasUnit, IsPlaceOf, beside, chunk_of, has_role_of, is_metadata_unit, is_place, is_system_unit, place_of, roles_beside}
 use Rattle.free_items.proofs.Fronts.{IsFront, among_all, front_of, has_it, has_place, in_nodes, is_within, it_has, same_test, taken_before, within}
 
@@ -178,9 +178,6 @@ module _ (plan : Plan) (blocks n : ℕ) (chunks : List PlannedChunk) (pieces : L
       let starts : 4096 * c.start ≤ 2 ^ 20 * (n * i / 2 ^ 20) = omega (arith, at.starts, begins, of.starts) in
       let inside : 2 ^ 20 * (n * i / 2 ^ 20) < 4096 * (c.start + c.length) = omega (arith, at.ends, stops, some) in
       is_place n units i s (listed (n * i / 2 ^ 20) (has_role_of plan blocks chunks is.chunks_ c (n * i / 2 ^ 20) among inside starts ∙ ap (λ (r : Role). let o : Option Role = Some r in o) role_is))
-    where
-      times_le : (k x y : ℕ) → x ≤ y → k * x ≤ k * y
-      times_le k x y h = grind (arith, h)
 
   -- what is taken of a chunk is its front
   front_in : (c : PlannedChunk) (at : Spans c) (taken : List ℕ) → ((x y : ℕ) → nodes_in_unit n * at.first ≤ x → x < y → y < nodes_in_unit n * at.end → Contains taken (n * y) → Contains taken (n * x))
@@ -231,9 +228,6 @@ module _ (plan : Plan) (blocks n : ℕ) (chunks : List PlannedChunk) (pieces : L
         ∙ same_order a i front.count is_i;
   }
     where
-      times_le : (k x y : ℕ) → x ≤ y → k * x ≤ k * y
-      times_le k x y h = grind (arith, h)
-
       order : nodes_in_unit n * at.first ≤ nodes_in_unit n * at.end
       order = times_le (nodes_in_unit n) at.first at.end (omega (arith, at.some))
 
@@ -275,9 +269,6 @@ module _ (plan : Plan) (blocks n : ℕ) (chunks : List PlannedChunk) (pieces : L
         kept_place n chunks (node_places n plan.metadata) (n * x) (place_in Metadata plan.metadata c x (is_metadata_unit plan blocks) among role at low (omega (arith, less, high)))
         (no_end c (n * x) (n * y) among (omega (arith, at.starts, begins)) step (omega (arith, at.ends, stop, some))) in
         taken_before spots count (n * x) (n * y) (still_up n chunks (node_places n plan.metadata) (ascending Metadata plan.metadata is.metadata)) there kept (omega (arith, step, some))
-      where
-        times_le : (k x y : ℕ) → x ≤ y → k * x ≤ k * y
-        times_le k x y h = grind (arith, h)
 
     pub system_front : (c : PlannedChunk) → Contains chunks c → c.role ≡ System → HasNodeFront c (take own own_spots)
     system_front c among role = by_places c (system_spans c among role) (take own own_spots) (front_in c (system_spans c among role) (take own own_spots) (system_closed c among role))
@@ -307,22 +298,15 @@ module _ (plan : Plan) (blocks n : ℕ) (chunks : List PlannedChunk) (pieces : L
         absurd (both_ways (ends_chunk chunks (a + n)) kept.1 ends))
         (cases_lt front.end (4096 * (c.start + c.length)))
       where
-        times_le : (k x y : ℕ) → x ≤ y → k * x ≤ k * y
-        times_le k x y h = grind (arith, h)
-
         wider : (at : Spans c) → nodes_in_unit n * at.first + 1 ≤ nodes_in_unit n * at.end
         wider at =
             let few = s.few 0 in
             let step : nodes_in_unit n * (at.first + 1) ≤ nodes_in_unit n * at.end = times_le (nodes_in_unit n) (at.first + 1) at.end (omega (arith, at.some)) in
-            let more : nodes_in_unit n * (at.first + 1) ≡ nodes_in_unit n * at.first + nodes_in_unit n = grind arith in
+            let more = times_one (nodes_in_unit n) at.first in
             omega (arith, few, step, more)
 
         exact_last : (at : Spans c) → nodes_in_unit n * at.first + 1 ≤ nodes_in_unit n * at.end → n * (nodes_in_unit n * at.end - 1) + n ≡ n * (nodes_in_unit n * at.end)
         exact_last at wide = one_back n (nodes_in_unit n * at.end) (omega (arith, wide))
-          where
-            one_back : (k m : ℕ) → 1 ≤ m → k * (m - 1) + k ≡ k * m
-            one_back k zero h = absurd (omega (arith, h))
-            one_back k (suc m) h = grind arith
 
         index : (i : ℕ) → n * (n * i / n) ≡ n * i
         index i = sym (s.only (n * i) (n * i) (s.times i) (omega arith) (let e = s.some in omega (arith, e)))

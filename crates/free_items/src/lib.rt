@@ -18,8 +18,6 @@ pub use free_space;
 pub use free_space::Range;
 pub use groups::{Ranges, groups_of};
 pub use items::FreeItems;
-pub use laws::{
-    few_places_are_lost, free_items_are_few, free_items_stay, used_space_is_apart,
-};
+pub use laws::{few_places_are_lost, free_items_are_few, free_items_stay, used_space_is_apart};
 pub use places::slots_before_ends;
 pub use used::UsedSpace;
