@@ -11,7 +11,7 @@ pub use Rattle.std.specs.Prelude.{Contains, slice_get, ◌==◌}
 pub use Rattle.std.specs.Result.{MatchResult}
 pub use Rattle.btr_super.specs.Super.{mirror_bytes, super_bytes}
 pub use Rattle.btr_super.specs.btrfs_format.declared.block.TheConstants.{FIRST_MIRROR, SECOND_MIRROR, SUPER_BLOCK, SUPER_INFO_OFFSET}
-pub use Rattle.btr_super.specs.btrfs_format.declared.object.TheConstants.{EXTENT_TREE, ROOT_TREE_DIR_OBJECTID}
+pub use Rattle.btr_super.specs.btrfs_format.declared.object.TheConstants.{EXTENT_TREE, FREE_SPACE_TREE, ROOT_TREE_DIR_OBJECTID}
 pub use Rattle.btr_tree_writer.specs.btr_space_items.Chunk.{chunk_bytes}
 unfoldable pub use Rattle.btr_tree_writer.specs.btr_space_items.Chunk.{chunk_layout}
 pub use Rattle.command_answers.proofs.outside.Crash.{reads_only, sync_only, write_only, writes_length, writes_then, writes_weaker}
@@ -22,7 +22,7 @@ pub use Rattle.command_answers.specs.vol_block.declared.ids.Ids.{Ids}
 pub use Rattle.convert_steps.specs.Making.{before_zero, ids_by, label_by, label_field}
 pub use Rattle.convert_steps.specs.Moved.{CanMove, CanWrite, HasOwner, HasPlace, HoldMoved, HoldsPiece, IsMovedPlace, IsMovedTo}
 pub use Rattle.convert_steps.specs.Prepared.{IsPrepareAnswer, RefusesConversion, by_plan}
-pub use Rattle.convert_steps.specs.Superblock.{boot_bytes, features, is_system_role, record_bytes}
+pub use Rattle.convert_steps.specs.Superblock.{boot_bytes, features, features_to_write, is_system_role, record_bytes}
 unfoldable pub use Rattle.convert_steps.specs.Superblock.{new_super}
 pub use Rattle.convert_steps.specs.Switch.{HasCopies, IsCopy, IsCopyAt, IsHalfSwitched, IsLeftBySwitch, IsMirror, IsMirrorOf, IsSwitchPart, IsSwitched}
 pub use Rattle.indexmap.specs.IndexMap.{keys}

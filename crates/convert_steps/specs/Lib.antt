@@ -20,6 +20,7 @@ pub use Rattle.space_items.specs as space_items
 pub use Rattle.super_turn.specs as super_turn
 pub use Rattle.unit_plan.specs as unit_plan
 pub mod Found
+pub mod Free
 pub mod Making
 pub mod Moved
 pub mod Prepared

@@ -28,9 +28,11 @@ use unit_plan::item_bytes::{BLOCK_GROUP_BYTES, EXTENT_BYTES, NODE_BYTES};
 use unit_plan::{PieceList, chunks_of};
 
 /// The extent tree that was written.
-#[derive(Clone, Copy)]
+#[derive(Drop)]
 pub struct WrittenExtents {
     pub root: Root,
+    /// All nodes.
+    pub nodes: NodeList,
     /// The bytes of all extents and nodes.
     pub used: u64,
 }
@@ -127,5 +129,5 @@ pub fn write_extents<D: Disk, P: PieceList>(
         nodes: &nodes,
     };
     let root = row.write(w.alloc, disk, EXTENT_TREE, &mut items)?;
-    Ok(WrittenExtents { root, used })
+    Ok(WrittenExtents { root, nodes, used })
 }

@@ -3,6 +3,7 @@
 #![tactic(auto)]
 
 mod first;
+mod free;
 mod last;
 mod root_tree;
 mod roots;

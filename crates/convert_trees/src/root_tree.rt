@@ -20,6 +20,7 @@ ghost use Rattle.convert_trees.specs.RootTree.{AddsLast, root_count, saved_in, s
 ghost use Rattle.unit_plan.specs.Trees.{new_trees};
 ghost use Rattle.convert_steps.specs.Standing.{told_roots};
 
+use crate::free::{keep_free_tree, write_free_tree};
 use crate::last::write_extents;
 use crate::roots::{counted, root_list, saved_index};
 use crate::writing::Writing;
@@ -65,8 +66,10 @@ pub fn write_last<D: Disk, P: PieceList>(
 {
     let index = saved_index(w.volume);
     let slots = keep_roots(row, w, placed, index)?;
+    let kept = kept_free(row, w, chunk_nodes)?;
     let written = write_extents(row, disk, w, chunk_nodes)?;
-    let list = root_list(w, placed, written.root, index)?;
+    let free = write_kept(disk, w, kept, &written.nodes)?;
+    let list = root_list(w, placed, written.root, free, index)?;
     let tree = write_tree(
         w.alloc,
         disk,
@@ -80,6 +83,31 @@ pub fn write_last<D: Disk, P: PieceList>(
         root: tree.root,
         used: written.used,
     })
+}
+
+/// The slots for the free space tree, where there is one.
+fn kept_free<P: PieceList>(
+    row: &mut Trees,
+    w: &Writing<'_, P>,
+    chunk_nodes: &NodeList,
+) -> Result<Option<Slots>, WriteAnswer> {
+    if !w.options.free_tree {
+        return Ok(None);
+    }
+    Ok(Some(keep_free_tree(row, w, chunk_nodes)?))
+}
+
+/// Writes the free space tree to its slots, where there is one.
+fn write_kept<D: Disk, P: PieceList>(
+    disk: &mut D,
+    w: &Writing<'_, P>,
+    kept: Option<Slots>,
+    nodes: &NodeList,
+) -> Result<Option<Root>, WriteAnswer> {
+    match kept {
+        Some(slots) => Ok(Some(write_free_tree(disk, w, slots, nodes)?)),
+        None => Ok(None),
+    }
 }
 
 /// Takes slots for the nodes of the root tree, and gives them. It has as many nodes whatever the roots in its items are.
@@ -108,7 +136,8 @@ fn keep_roots<P: PieceList>(
         level: 0,
         nodes: 0,
     };
-    let list = root_list(w, placed, none, index)?;
+    let free = if w.options.free_tree { Some(none) } else { None };
+    let list = root_list(w, placed, none, free, index)?;
     let from = row.taken();
     row.take(&counted(&list, w.form.nodesize), ROOT_TREE)?;
     let rest = row.slots_from(w.alloc, from)?;

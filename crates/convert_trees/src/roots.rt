@@ -15,7 +15,7 @@ ghost use Rattle.convert_trees.specs.Roots.{AreFew};
 
 use crate::writing::Writing;
 use btr_item_list::ItemList;
-use btr_tree::btrfs_format::object::EXTENT_TREE;
+use btr_tree::btrfs_format::object::{EXTENT_TREE, FREE_SPACE_TREE};
 use btr_tree::{Counter, Memory, Root};
 use convert_steps::{PlacedTree, PlacedTrees};
 use reiser_volume::{InodeNumbers, Volume};
@@ -28,6 +28,7 @@ pub fn root_list<P: PieceList>(
     w: &Writing<'_, P>,
     placed: &PlacedTrees,
     extents: Root,
+    free: Option<Root>,
     index: u64,
 ) -> Result<ItemList, Memory>
     requires moment { w.now.time < 2 ^ 63 }
@@ -36,7 +37,14 @@ pub fn root_list<P: PieceList>(
     requires few { AreFew placed.now extents }
     ensures { IfOk result (λ items. items ≡ root_items (told_roots placed.now extents) index w.now.form.ids w.now.time w.now.form.nodesize) }
 {
-    let list = told_roots(w.alloc, placed.as_slice(), extents)?;
+    let mut list = told_roots(w.alloc, placed.as_slice(), extents)?;
+    if let Some(root) = free {
+        let root = TreeRoot {
+            tree: FREE_SPACE_TREE,
+            root,
+        };
+        list = with_root(w.alloc, list.as_slice(), root)?;
+    }
     roots(w.alloc, &list, index, &w.form.ids, w.time, w.form.nodesize)
 }
 

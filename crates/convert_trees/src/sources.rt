@@ -1,6 +1,8 @@
 // The streams of a volume's items, as sources of trees.
 use btr_tree::{BlockSource, Key, VolAnswer};
+use std::alloc::AllocError;
 use btr_tree_writer::ItemSource;
+use free_space::{FreeStream, Range, UsedRanges};
 use file_items::Items;
 use reiser_volume::Volume;
 use space_items::{ExtentStream, NodeList, SumStream};
@@ -129,4 +131,121 @@ impl<'a, P: PieceList> ItemSource for ExtentItems<'a, P> {
     }
 
     ghost stays = { λ s image other same fits. (fits, refl) };
+}
+
+/// The ranges that pieces and nodes take, ascending, from one piece and one node on.
+pub struct UsedSpace<'a, P: PieceList> {
+    pub pieces: &'a P,
+    pub nodes: &'a NodeList,
+    pub nodesize: u32,
+    pub piece: usize,
+    pub node: usize,
+}
+
+impl<'a, P: PieceList> Clone for UsedSpace<'a, P> {
+    fn clone(&self) -> Result<Self, AllocError> {
+        Ok(*self)
+    }
+}
+
+impl<'a, P: PieceList> Copy for UsedSpace<'a, P> {}
+
+impl<'a, P: PieceList> UsedSpace<'a, P> {
+    /// The next node.
+    fn next_node(&self) -> Option<Range> {
+        if self.node >= self.nodes.len() {
+            return None;
+        }
+        Some(Range {
+            address: self.nodes.get(self.node).address,
+            length: self.nodesize as u64,
+        })
+    }
+
+    /// The next piece.
+    fn next_piece(&self) -> Option<Range> {
+        if self.piece >= self.pieces.len() {
+            return None;
+        }
+        let piece = self.pieces.get(self.piece);
+        Some(Range {
+            address: 4096 * piece.place,
+            length: 4096 * piece.count,
+        })
+    }
+
+    /// Whether the next one is a node.
+    fn is_node_next(&self) -> bool {
+        match (self.next_node(), self.next_piece()) {
+            (Some(node), Some(piece)) => node.address < piece.address,
+            (Some(_), None) => true,
+            (None, _) => false,
+        }
+    }
+}
+
+impl<'a, P: PieceList> UsedRanges for UsedSpace<'a, P> {
+    ghost use Rattle.std.specs.Prelude.{drop};
+    ghost use Rattle.convert_steps.specs.Free.{used_ranges};
+    ghost use Rattle.convert_trees.specs.Free.{FitsUsed};
+
+    ghost ahead = { λ s. used_ranges (drop s.piece (P.pieces s.pieces.now)) (drop s.node s.nodes.now) s.nodesize };
+
+    ghost is_live = { λ s. FitsUsed (P.pieces s.pieces.now) s.nodes.now s.nodesize s.piece s.node };
+
+    fn first(&self) -> Option<Range> {
+        if self.is_node_next() {
+            self.next_node()
+        } else {
+            self.next_piece()
+        }
+    }
+
+    fn pass(&mut self) {
+        if self.is_node_next() {
+            self.node += 1;
+        } else {
+            self.piece += 1;
+        }
+    }
+}
+
+/// The items of the free space tree.
+#[derive(Drop)]
+pub struct FreeItems<'a, P: PieceList> {
+    pub items: FreeStream<'a, UsedSpace<'a, P>>,
+}
+
+impl<'a, P: PieceList> ItemSource for FreeItems<'a, P> {
+    ghost use Rattle.std.specs.Prelude.{◌≡◌, ◌≤◌, refl};
+    ghost use Rattle.free_space.specs.Stream.{free_ahead, standing};
+    ghost use Rattle.convert_trees.specs.Free.{IsLiveFree, used_left};
+
+    ghost ahead = { λ s image. free_ahead s.items.rest.at s.items.rest.end (used_left (P.pieces s.items.rest.used.pieces.now) s.items.rest.used.nodes.now s.items.rest.used.nodesize s.items.rest.used.piece s.items.rest.used.node) s.items.groups.now };
+
+    ghost fits = { λ s image. Unit {0} };
+
+    ghost needs = { λ s b. ⊥ };
+
+    ghost is_live = { λ s. IsLiveFree (P.pieces s.items.rest.used.pieces.now) s.items.rest.used.nodes.now s.items.rest.used.nodesize s.items.rest.used.piece s.items.rest.used.node s.items.groups.now s.items.item };
+
+    ghost reach = { λ s. 0 };
+
+    ghost stands = { λ s item. item ≡ standing s.items.item };
+
+    ghost has_item = { λ s. s.items.item.width ≤ 8 };
+
+    ghost stays = { λ s image other same fits. (fits, refl) };
+
+    fn advance<S: BlockSource>(&mut self, _src: &mut S) -> Result<bool, VolAnswer> {
+        Ok(self.items.advance())
+    }
+
+    fn key(&self) -> Key {
+        self.items.key()
+    }
+
+    fn body(&self) -> &[u8] {
+        self.items.body()
+    }
 }

@@ -30,7 +30,9 @@ use convert_steps::{NewRoots, PlacedTree, PlacedTrees};
 use reiser_volume::Volume;
 use std::alloc::Global;
 use unit_plan::convert_options::Options;
-use unit_plan::{NewTree, PieceList, Plan, Units, new_trees, slots_of};
+use unit_plan::{
+    NewTree, PieceList, Plan, Units, chunks_of, new_trees, slots_before_ends, slots_of,
+};
 
 /// Writes all trees of a converted volume: the chunk tree to the plan's units for it, and all others to those for metadata.
 /// `ids` are those of the new volume, and `now` is the time of the conversion in seconds since the start of 1970, below 2^63.
@@ -84,7 +86,7 @@ pub fn write_trees<D: Disk, P: PieceList>(
     };
     let mut chunk_row = row_of(&w, &plan.system)?;
     let chunk = write_chunks(&mut chunk_row, disk, &w)?;
-    let mut row = row_of(&w, &plan.metadata)?;
+    let mut row = row_of_trees(&w)?;
     let placed = write_row(&mut row, disk, &w, &new_trees())?;
     write_last(&mut row, disk, &w, chunk, &placed, chunk_row.nodes())
 }
@@ -108,6 +110,17 @@ fn row_of<P: PieceList>(w: &Writing<'_, P>, units: &Units) -> Result<Trees, Writ
     ensures answers { IfErr result (λ e. e ≡ WriteAnswer.Memory) }
 {
     let slots = slots_of(w.alloc, units, w.form.nodesize)?;
+    Ok(Trees::new(w.alloc, w.form, slots))
+}
+
+/// The slots for all trees but the chunk tree. Where there is a free space tree, the last one of each chunk is none of them.
+fn row_of_trees<P: PieceList>(w: &Writing<'_, P>) -> Result<Trees, WriteAnswer> {
+    let slots = slots_of(w.alloc, &w.plan.metadata, w.form.nodesize)?;
+    if !w.options.free_tree {
+        return Ok(Trees::new(w.alloc, w.form, slots));
+    }
+    let chunks = chunks_of(w.alloc, w.plan, w.volume.sup().blocks)?;
+    let slots = slots_before_ends(w.alloc, &slots, &chunks, w.form.nodesize)?;
     Ok(Trees::new(w.alloc, w.form, slots))
 }
 
