@@ -7,7 +7,7 @@ pub use Rattle.std.proofs.lemmas.List.Sums.{sum_by-cons, take_while-cons}
 pub use Rattle.std.proofs.lemmas.Option.{get_or_from_slice_get, slice_get-get_or, slice_get_within}
 pub use Rattle.std.proofs.lemmas.Result.{err_from_is_err_and}
 pub use Rattle.std.specs.List.{All, AllPairs, flat_map, sum_by}
-pub use Rattle.std.specs.Prelude.{Contains, slice_get, ◌==◌}
+pub use Rattle.std.specs.Prelude.{Contains, MatchOption, slice_get, ◌==◌}
 pub use Rattle.std.specs.Result.{MatchResult}
 pub use Rattle.btr_super.specs.Super.{mirror_bytes, super_bytes}
 pub use Rattle.btr_super.specs.btrfs_format.declared.block.TheConstants.{FIRST_MIRROR, SECOND_MIRROR, SUPER_BLOCK, SUPER_INFO_OFFSET}

@@ -4,12 +4,13 @@ use Rattle.std.specs.List.{take_while}
 use Rattle.command_answers.specs.outside.History.{Image}
 use Rattle.command_answers.specs.vol_block.declared.ids.Ids.{Ids}
 use Rattle.convert_steps.specs.Source.{HasPieces}
+use Rattle.free_items.specs.Places.{places_before_ends}
 use Rattle.reiser_volume.specs.reiser_volume_objects.Keys.{root, same_key}
 use Rattle.reiser_volume.specs.reiser_super.declared.superblock.Super.{Super}
 use Rattle.reiser_volume.specs.Opened.{links_in}
 use Rattle.reiser_volume.specs.declared.volume.Volume.{Volume}
 use Rattle.unit_plan.specs.Chunks.{AreChunks}
-use Rattle.unit_plan.specs.Places.{node_places, places_before_ends}
+use Rattle.unit_plan.specs.Places.{node_places}
 use Rattle.unit_plan.specs.declared.chunk.PlannedChunk.{PlannedChunk}
 use Rattle.unit_plan.specs.convert_options.Identifier.{is_nil}
 use Rattle.unit_plan.specs.convert_options.declared.options.LabelChoice.{LabelChoice}
@@ -65,8 +66,8 @@ new_ids m = ids_by m.ids m.volume.sup m.options
 abbrev pub chunk_slots : Making → List ℕ
 chunk_slots m = node_places m.options.nodesize m.plan.system
 
--- Where those of all other trees may lie. With a free space tree the last place of each chunk stays free: so each chunk for them has
--- one free run, however many of its places are taken.
+-- Where those of all other trees may lie. With a free space tree the last place of each chunk stays free: so each chunk
+-- for them has one free run, however many of its places are taken.
 abbrev pub places_for : Options → List PlannedChunk → List ℕ → List ℕ
 places_for o chunks units = if o.free_tree then places_before_ends o.nodesize chunks (node_places o.nodesize units) else node_places o.nodesize units
 

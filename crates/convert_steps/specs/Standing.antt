@@ -1,5 +1,5 @@
 -- The trees of a converted volume.
-use Rattle.std.specs.Prelude.{◌≡◌, ◌≤◌, ◌↔◌, ◌⊎◌, ℕ, ◌+◌, ◌*◌, Bool, true, false, List, [], ◌∷◌, ◌++◌, All, Contains, Option, Some, None, MatchOption, length, drop, map, take, if◌then◌else◌}
+use Rattle.std.specs.Prelude.{◌≡◌, ◌≤◌, ℕ, ◌+◌, ◌*◌, Bool, true, false, List, [], ◌∷◌, ◌++◌, All, Option, Some, None, MatchOption, length, drop, map, take, if◌then◌else◌}
 use Rattle.std.specs.List.{sum_by}
 use Rattle.std.specs.Option.{option_map_or}
 use Rattle.btr_super.specs.btrfs_format.declared.object.TheConstants.{CHUNK_TREE, EXTENT_TREE, FREE_SPACE_TREE, ROOT_TREE}
@@ -11,11 +11,12 @@ use Rattle.btr_tree.specs.declared.climb.Root.{Root}
 use Rattle.btr_tree.specs.btr_reader_walk.declared.tree.Form.{Form}
 use Rattle.file_items.specs.Small.{image_items, relocation_items}
 use Rattle.file_items.specs.Tree.{fs_tree_items}
-use Rattle.convert_steps.specs.Free.{free_tree_items}
 use Rattle.convert_steps.specs.Source.{made_from}
+use Rattle.convert_steps.specs.Space.{SpaceFits}
+use Rattle.free_items.specs.Used.{free_tree_items}
 use Rattle.space_items.specs.Chunks.{chunk_items, device_items}
 use Rattle.space_items.specs.Extents.{extent_items, used_in}
-use Rattle.space_items.specs.Nodes.{AreNodes, merged_nodes, nodes_of_tree}
+use Rattle.space_items.specs.Nodes.{merged_nodes, nodes_of_tree}
 use Rattle.space_items.specs.Own.{extent_bytes}
 use Rattle.space_items.specs.Roots.{root_items}
 use Rattle.space_items.specs.StreamLaws.{FitLeaves}
@@ -234,21 +235,10 @@ abbrev pub own_count : Image → Image → Making → ℕ
 own_count image other m =
     2 * node_bound (extent_bytes (length m.pieces) (length m.chunks) (other_count image other m (no_trees m.options.free_tree) + chunk_count m)) m.options.nodesize + 16
 
--- these are the nodes at so many first slots, and those of the chunk tree
-pub record AreTaken (m : Making) (nodes : List TreeNode) : Type 0 where
-  pub are_nodes : AreNodes nodes
-  pub count : ℕ
-  pub taken : (a : ℕ) → Contains (map (λ n. n.address) nodes) a ↔ (Contains (take count (slots m)) a ⊎ Contains (map (λ n. n.address) (chunk_tree_nodes m)) a)
-
--- The free space tree's items are those of a tree, and have the same lengths, whichever first slots are taken.
-pub record FitsSpace (m : Making) (nodes : List TreeNode) : Type 0 where
-  pub fit : FitLeaves (space_tree_items m nodes)
-  pub same : lengths_of (space_tree_items m nodes) ≡ free_lengths m
-
 -- The items of each tree are those of a tree, and the slots suffice: for the nodes of all trees but the extent tree, and behind
 -- them for the bound of the extent tree's.
 pub record AllFit (image other : Image) (m : Making) : Type 0 where
   pub each : All (λ t. FitLeaves (items_of image other m t)) new_trees
-  pub free : m.options.free_tree ≡ true → (nodes : List TreeNode) → AreTaken m nodes → FitsSpace m nodes
+  pub free : m.options.free_tree ≡ true → SpaceFits m.chunks m.pieces m.options.nodesize (slots m) (chunk_tree_nodes m)
   pub chunk_few : chunk_count m ≤ length (chunk_slots m)
   pub few : other_count image other m (no_trees m.options.free_tree) + own_count image other m ≤ length (slots m)

@@ -3,11 +3,12 @@
 #![tactic(auto)]
 
 mod first;
-mod free;
+mod keep;
 mod last;
 mod root_tree;
 mod roots;
 mod sources;
+mod space;
 mod write;
 mod writing;
 

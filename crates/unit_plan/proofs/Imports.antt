@@ -29,7 +29,7 @@ unfoldable pub use Rattle.unit_plan.specs.Chunks.{has_role, role_of}
 pub use Rattle.unit_plan.specs.Dividing.{AreBegun, IsJoined, IsWithChunk, chunk_from}
 pub use Rattle.unit_plan.specs.Laws.{AreFreeUnits, AreLongRuns, AreUnitsApart, IsSoundPlan, PlansAreSound}
 pub use Rattle.unit_plan.specs.Needed.{nodes_in_unit, tree_bytes}
-pub use Rattle.unit_plan.specs.Places.{ArePlaces, PlacesServe, ends_chunk, places_in}
+pub use Rattle.unit_plan.specs.Places.{ArePlaces, PlacesServe, places_in}
 unfoldable pub use Rattle.unit_plan.specs.Places.{node_places}
 pub use Rattle.unit_plan.specs.Roles.{RoleSets, role_in}
 pub use Rattle.unit_plan.specs.Staying.{is_ahead, is_as_long, is_longer, stays}

@@ -1,10 +1,9 @@
 -- Where the nodes of a plan's units lie, in bytes.
-use Rattle.std.specs.Prelude.{◌≡◌, ℕ, ◌==◌, Bool, not, filter, ◌+◌, ◌*◌, ◌^◌, ◌≤◌, ◌<◌, List, length, map, All, AllPairs}
-use Rattle.std.specs.List.{flat_map, list_any, range_with_len}
+use Rattle.std.specs.Prelude.{◌≡◌, ℕ, ◌+◌, ◌*◌, ◌^◌, ◌≤◌, ◌<◌, List, length, map, All, AllPairs}
+use Rattle.std.specs.List.{flat_map, range_with_len}
 use Rattle.btr_tree.specs.btr_node.NodeSize.{IsNodeSize}
 use Rattle.btr_tree.specs.Building.{AreSlots}
 use Rattle.unit_plan.specs.Needed.{nodes_in_unit}
-use Rattle.unit_plan.specs.declared.chunk.PlannedChunk.{PlannedChunk}
 
 -- the nodes that fill a unit
 abbrev pub places_in : ℕ → ℕ → List ℕ
@@ -12,14 +11,6 @@ places_in nodesize u = map (λ k. 2 ^ 20 * u + nodesize * k) (range_with_len 0 (
 
 unfoldable pub node_places : ℕ → List ℕ → List ℕ
 node_places nodesize units = flat_map (places_in nodesize) units
-
--- a chunk ends at the address
-abbrev pub ends_chunk : List PlannedChunk → ℕ → Bool
-ends_chunk chunks address = list_any (λ c. 4096 * (c.start + c.length) == address) chunks
-
--- Where nodes may lie that leave the last place of each chunk free: so each chunk for nodes has one free run, behind them.
-unfoldable pub places_before_ends : ℕ → List PlannedChunk → List ℕ → List ℕ
-places_before_ends nodesize chunks places = filter (λ a. not (ends_chunk chunks (a + nodesize))) places
 
 -- they lie within these units, and ascend
 pub record ArePlaces (nodesize n : ℕ) (places : List ℕ) : Type 0 where

@@ -31,7 +31,7 @@ pub use division::chunks_of;
 pub use laws::{chunks_are_few, places_serve, plans_are_sound, plans_fit, roles_are_uses};
 pub use need::{Need, needed};
 pub use piece::{Piece, PieceList};
-pub use places::{slots_before_ends, slots_of};
+pub use places::slots_of;
 pub use plan::{Plan, PlanAnswer};
 pub use sums::sums_in_item;
 pub use tree::{NewTree, new_trees};
