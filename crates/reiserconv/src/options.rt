@@ -222,13 +222,14 @@ const FEATURE: &str = "'{1}' is no feature: '--features' takes free-space-tree."
 
 const FEATURE_SPELLED: &str = "'{1}' is written '{2}': write '--features {2}'.";
 
+/// What is wrong with the name of a feature.
 fn wrong_feature(alloc: Global, value: &str) -> Result<Option<Finding>, AllocError> {
     if value.starts_with('-') {
         return found(Finding::new(alloc, NO_FEATURE, "", ""));
     }
     match value {
         "free-space-tree" => Ok(None),
-        "fst" | "free_space_tree" | "freespacetree" | "space_cache=v2" => found(Finding::new(
+        "fst" | "free_space_tree" | "space_cache=v2" | "space-cache=v2" => found(Finding::new(
             alloc,
             FEATURE_SPELLED,
             value,
