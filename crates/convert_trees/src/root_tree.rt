@@ -112,7 +112,11 @@ fn keep_roots<P: PieceList>(
         level: 0,
         nodes: 0,
     };
-    let free = if w.options.free_tree { Some(none) } else { None };
+    let free = if w.options.free_tree {
+        Some(none)
+    } else {
+        None
+    };
     let list = root_list(w, placed, none, free, index)?;
     keep(w.alloc, row, &counted(&list, w.form.nodesize), ROOT_TREE)
 }

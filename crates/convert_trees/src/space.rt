@@ -168,10 +168,7 @@ fn counted<P: PieceList>(w: &Writing<'_, P>, nodes: &NodeList) -> Result<Counter
 {
     let groups = groups_in(w)?;
     let used = UsedSpace::new(w.pieces, nodes, w.form.nodesize);
-    Ok(count_nodes(
-        FreeItems::new(groups.as_slice(), used),
-        w.form.nodesize,
-    ))
+    Ok(count_nodes(FreeItems::new(groups.as_slice(), used), w.form.nodesize))
 }
 
 /// Writes the free space tree to the slots that were kept for it, where these are all nodes.

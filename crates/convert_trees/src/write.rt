@@ -27,10 +27,10 @@ use crate::writing::Writing;
 use btr_tree::{Access, Disk, Ids};
 use btr_tree_writer::{NodeForm, Trees, WriteAnswer};
 use convert_steps::{NewRoots, PlacedTree, PlacedTrees};
+use free_items::slots_before_ends;
 use reiser_volume::Volume;
 use std::alloc::Global;
 use unit_plan::convert_options::Options;
-use free_items::slots_before_ends;
 use unit_plan::{NewTree, PieceList, Plan, Units, chunks_of, new_trees, slots_of};
 
 /// Writes all trees of a converted volume: the chunk tree to the plan's units for it, and all others to those for metadata.

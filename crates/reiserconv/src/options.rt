@@ -82,9 +82,7 @@ impl Choice {
             | Choice::NoInline
             | Choice::NoDatasum
             | Choice::Csum
-            | Choice::Features => {
-                matches!(verb, Verb::Inspect | Verb::Convert)
-            }
+            | Choice::Features => { matches!(verb, Verb::Inspect | Verb::Convert) }
             Choice::Label | Choice::CopyLabel | Choice::Uuid => verb == Verb::Convert,
         }
     }
