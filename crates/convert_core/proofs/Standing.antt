@@ -1,9 +1,6 @@
 -- What stands on a disk goes on standing while none of its blocks is written.
-use Rattle.convert_core.proofs.Imports.{◌≡◌, ◌∙◌, ◌⊎◌, inl, inr, ℕ, ◌+◌, ◌-◌, ◌<◌, ◌≤◌, List, [], ◌++◌, length, take, drop, sym, ap, arith, length-drop, ◌∷◌, refl, Contains, if◌then◌else◌, CHUNK_TREE, EXTENT_TREE, ROOT_TREE, Image, block_at, Item, IsInSlots, Making, new_ids, chunk_slots, slots, HoldMoved, chunk_items, TreeNode, Piece, StandsConverted, TreeRoots, TreesStand, extents_from, form, items_of, nodes_from, placed_trees, root_from, root_tree_items, sum_tree_items, get_or-drop}
-use Rattle.std.proofs.Common.{true, false, Option, Some, None}
-use Rattle.std.specs.Prelude.{MatchOption}
+use Rattle.convert_core.proofs.Imports.{◌≡◌, ◌∙◌, ◌⊎◌, inl, inr, ℕ, ◌+◌, ◌-◌, ◌<◌, ◌≤◌, List, [], ◌++◌, length, take, drop, sym, ap, arith, length-drop, ◌∷◌, refl, true, false, Option, Some, None, Contains, if◌then◌else◌, MatchOption, CHUNK_TREE, EXTENT_TREE, ROOT_TREE, Image, block_at, Item, IsInSlots, Making, new_ids, chunk_slots, slots, HoldMoved, chunk_items, TreeNode, Piece, StandsConverted, TreeRoots, TreesStand, extents_from, form, items_of, nodes_from, placed_trees, root_from, root_tree_items, sum_tree_items, chunk_tree_nodes, free_from, nodes_of_free, space_tree_items, get_or-drop}
 use Rattle.convert_steps.proofs.Row.{nodes_by, stand_by, items_by}
-use Rattle.convert_steps.specs.Standing.{chunk_tree_nodes, free_from, nodes_of_free, space_tree_items}
 use Rattle.convert_steps.specs.btr_super.btrfs_format.declared.object.TheConstants.{FREE_SPACE_TREE}
 use Rattle.convert_steps.specs.Row.{StandBehind}
 use Rattle.convert_steps.specs.declared.trees.PlacedTree.{PlacedTree}

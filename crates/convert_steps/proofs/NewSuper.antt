@@ -1,5 +1,5 @@
 -- The fields of a new superblock.
-use Rattle.convert_steps.proofs.Imports.{◌≡◌, ℕ, ◌*◌, ◌-◌, ◌++◌, List, length, replicate, ◌∙◌, ap, SUPER_INFO_OFFSET, device_body, PlannedChunk, Ids, boot_bytes, features, features_to_write, new_super, ROOT_TREE_DIR_OBJECTID, Bool}
+use Rattle.convert_steps.proofs.Imports.{◌≡◌, ℕ, ◌*◌, ◌-◌, ◌++◌, List, length, replicate, ◌∙◌, ap, Bool, SUPER_INFO_OFFSET, device_body, PlannedChunk, Ids, boot_bytes, features, features_to_write, new_super, ROOT_TREE_DIR_OBJECTID}
 use Rattle.btr_super.specs.btrfs_format.declared.flag.TheConstants.{HEADER_FLAG_WRITTEN}
 use Rattle.btr_super.specs.btrfs_format.declared.size.TheConstants.{SYSTEM_CHUNK_ARRAY_SIZE}
 use Rattle.btr_tree_writer.specs.btr_space_items.declared.device.Device.{Device}

@@ -1,5 +1,5 @@
 -- Trees one behind the other, and lists in the order of numbers.
-use Rattle.convert_steps.proofs.Imports.{◌≡◌, ◌∙◌, ℕ, ◌+◌, ◌≤◌, ◌&&◌, nat_lt, Bool, true, false, not, List, [], ◌∷◌, ◌++◌, append_assoc, drop, if◌then◌else◌, map, refl, sym, ap, ap₂, subst, arith, ◌<◌, length, ◌⊎◌, inl, inr, ⊎_elim, and_parts, All-cons, All-head, All-nil, All-tail, All-map, All-contains, sum_by-cons, All, AllPairs, sum_by, EXTENT_TREE, FREE_SPACE_TREE, Image, Option, None, Some, MatchOption, length-map, Contains, Ids, Options, Volume, PlannedChunk, Piece}
+use Rattle.convert_steps.proofs.Imports.{◌≡◌, ◌∙◌, ℕ, ◌+◌, ◌≤◌, ◌&&◌, nat_lt, Bool, true, false, not, List, [], ◌∷◌, ◌++◌, append_assoc, drop, if◌then◌else◌, map, refl, sym, ap, ap₂, subst, arith, ◌<◌, length, ◌⊎◌, inl, inr, ⊎_elim, Option, None, Some, and_parts, All-cons, All-head, All-nil, All-tail, All-map, All-contains, sum_by-cons, All, AllPairs, sum_by, EXTENT_TREE, FREE_SPACE_TREE, Image, MatchOption, Contains, length-map, Ids, Options, Volume, PlannedChunk, Piece, AllPairs-cons}
 use Rattle.std.proofs.Common.{◌==◌}
 use Rattle.reiser_volume.proofs.reiser_bitmap.Ranges.{contains_cases, contains_head, contains_tail}
 use Rattle.unit_plan.specs.declared.tree.NewTree.TheVariants.{Files, SavedImage, Relocation, Checksums, Devices}
@@ -9,7 +9,6 @@ use Rattle.extent_pieces.proofs.Lists.{pairs_head, pairs_tail}
 use Rattle.convert_steps.specs.Standing.{of_free, told_root, told_roots, new_tree_items}
 use Rattle.space_items.proofs.Levels.{map-map}
 use Rattle.space_items.specs.declared.node.TreeRoot.{TreeRoot}
-use Rattle.std.proofs.lemmas.List.Kept.{AllPairs-cons}
 use Rattle.btr_tree.specs.btr_node.Leaf.{Item}
 use Rattle.btr_tree.specs.Counting.{tree_nodes}
 use Rattle.btr_tree.specs.Roots.{lengths_of}

@@ -1,8 +1,5 @@
 -- The slots of a conversion are places of its units.
-use Rattle.convert_steps.proofs.Imports.{ℕ, ◌+◌, Bool, true, false, List, not, get_or, if◌then◌else◌, All, AllPairs, Contains, Options, PlannedChunk}
-use Rattle.std.proofs.lemmas.List.Elements.{All-contains, Contains-get_or}
-use Rattle.std.proofs.lemmas.List.Kept.{AllPairs-filter}
-use Rattle.convert_steps.specs.Making.{places_for}
+use Rattle.convert_steps.proofs.Imports.{ℕ, ◌+◌, Bool, true, false, List, not, get_or, if◌then◌else◌, All, AllPairs, Contains, Options, PlannedChunk, All-contains, Contains-get_or, AllPairs-filter, places_for}
 use Rattle.free_items.proofs.Taken.{was_place}
 use Rattle.free_items.specs.Places.{ends_chunk, places_before_ends}
 use Rattle.unit_plan.specs.Places.{node_places}

@@ -1,10 +1,6 @@
 -- All trees stand in the end.
-use Rattle.convert_trees.proofs.Imports.{◌≡◌, ◌∙◌, ℕ, ◌+◌, ◌≤◌, ◌++◌, ◌∷◌, Bool, List, [], if◌then◌else◌, map, take, drop, length, refl, sym, ap, ap₂, subst, arith, ◌==◌, true, false, not, All, AllPairs, All-head, All-tail, CHUNK_TREE, EXTENT_TREE, FREE_SPACE_TREE, ROOT_TREE, Option, places_for, Image, History, reads, WritesOnly, Item, IsNodeSize, AreSlots, lengths_of, IsInSlots, Root, Making, chunk_slots, new_ids, slots, IsFor, form, TreeRoots, TreesStand, items_of, no_root, placed_trees, roots_told, Volume, chunk_items, extent_items, merged_nodes, nodes_of_tree, TreeNode, TreeStands, NodeForm, Trees, AreUnitsApart, node_places, PlannedChunk, Options, Piece, Plan, Ids, Adds, first_items, AddsRow, AddsLast, root_count, saved_in, slots_needed, items_of_root, eq-eqb, pairs_head, pairs_tail, new_trees, tree_number, NewTree, nodes_by, numbers_apart, stand_by, items_by, StandBehind, nodes_behind, slot_behind, NewRoots, PlacedTree}
+use Rattle.convert_trees.proofs.Imports.{◌≡◌, ◌∙◌, ℕ, ◌+◌, ◌≤◌, ◌++◌, ◌∷◌, Bool, List, [], if◌then◌else◌, map, take, drop, length, refl, sym, ap, ap₂, subst, arith, ◌==◌, true, false, not, Option, All, AllPairs, All-head, All-tail, CHUNK_TREE, EXTENT_TREE, FREE_SPACE_TREE, ROOT_TREE, places_for, Making, chunk_slots, new_ids, slots, Image, History, reads, WritesOnly, Item, IsNodeSize, AreSlots, lengths_of, IsInSlots, Root, IsFor, form, TreeRoots, TreesStand, items_of, no_root, placed_trees, roots_told, chunk_tree_nodes, free_lengths, free_nodes, space_tree_items, Volume, chunk_items, extent_items, merged_nodes, nodes_of_tree, TreeNode, TreeStands, NodeForm, Trees, AreUnitsApart, node_places, PlannedChunk, Options, Piece, Plan, Ids, Adds, first_items, AddsRow, AddsLast, root_count, saved_in, slots_needed, items_of_root, eq-eqb, pairs_head, pairs_tail, new_trees, tree_number, NewTree, nodes_by, numbers_apart, stand_by, items_by, StandBehind, nodes_behind, slot_behind, NewRoots, PlacedTree, slots_are_places, SpaceStands, space_nodes, free_tree_items}
 use Rattle.convert_trees.proofs.Behind.{IsInRest, in_more, row_is, row_with, writes_behind}
-use Rattle.convert_steps.proofs.Slots.{slots_are_places}
-use Rattle.convert_steps.specs.Standing.{chunk_tree_nodes, free_lengths, free_nodes, space_tree_items}
-use Rattle.convert_trees.specs.Space.{SpaceStands, space_nodes}
-use Rattle.free_items.specs.Used.{free_tree_items}
 use Rattle.convert_trees.proofs.Front.{in_front}
 use Rattle.convert_trees.proofs.Opening.{files_in}
 use Rattle.convert_trees.proofs.Given.{node_form}

@@ -1,5 +1,6 @@
 -- What a conversion gives to the writing of its trees, told of its arguments.
-use Rattle.convert_trees.proofs.Imports.{◌≡◌, ◌∙◌, ℕ, ◌+◌, ◌*◌, ◌<◌, ◌≤◌, ◌∷◌, Bool, true, List, [], get_or, length, Some, refl, sym, ap, subst, arith, All, sum_by, Contains, CHUNK_TREE, Image, node_bound, extent_bytes, nodes_of_tree, TreeNode, free_count, free_many, places_for, SpaceFits, sum_by-cons, tree_nodes, lengths_of, IsMaking, Making, new_ids, slots, AllFit, IsFor, SameVolume, chunk_count, no_trees, nodes_for, root_tree_items, items_of, LiesInUnit, all_at, has, IsOpened, superblock, used_of, Volume, chunk_items, FitLeaves, NodeForm, AreChunks, ArePlaced, node_places, PlannedChunk, Options, Piece, Plan, Ids, first_items, row_count, root_count, saved_in, slots_needed, HasPlacedPieces, new_trees, NewTree, items_by}
+use Rattle.convert_trees.proofs.Imports.{◌≡◌, ◌∙◌, ℕ, ◌+◌, ◌*◌, ◌<◌, ◌≤◌, ◌∷◌, Bool, true, List, [], get_or, length, Some, refl, sym, ap, subst, arith, All, sum_by, Contains, CHUNK_TREE, Image, node_bound, tree_nodes, extent_bytes, nodes_of_tree, TreeNode, free_count, AllFit, IsFor, SameVolume, chunk_count, no_trees, nodes_for, root_tree_items, items_of, free_many, places_for, IsMaking, Making, new_ids, slots, sum_by-cons, lengths_of, LiesInUnit, all_at, has, IsOpened, superblock, used_of, Volume, chunk_items, FitLeaves, NodeForm, AreChunks, ArePlaced, node_places, PlannedChunk, Options, Piece, Plan, Ids, first_items, row_count, root_count, saved_in, slots_needed, HasPlacedPieces, new_trees, NewTree, items_by}
+use Rattle.convert_steps.specs.Space.{SpaceFits}
 use Rattle.convert_steps.proofs.extent_pieces.Apart.{places_are_apart}
 use Rattle.reiser_volume.proofs.Holding.{used_length}
 use Rattle.convert_trees.proofs.Staying.{volume_stays}

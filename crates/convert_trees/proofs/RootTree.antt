@@ -1,5 +1,6 @@
 -- The root tree at the slots that were kept for it, and the trees that tell of space behind it.
-use Rattle.convert_trees.proofs.Imports.{◌≡◌, ◌∙◌, ℕ, ◌+◌, ◌-◌, ◌*◌, ◌≤◌, ◌++◌, List, length, take, drop, refl, sym, ap, subst, arith, map, length-drop, length-take, EXTENT_TREE, ROOT_TREE, History, reads, WritesOnly, Item, IsNodeSize, AreSlots, node_bound, tree_nodes, lengths_of, IsInSlots, Root, no_trees, no_root, placed_trees, told_roots, extent_items, merged_nodes, nodes_of_tree, AreIds, extent_bytes, own_bound, root_items, TreeNode, root_items_fit, bound_up, roomy, IsSlotRow, AreWritable, TreeStands, read_form, NodeForm, Trees, PlannedChunk, Piece, AddsLast, root_count, slots_needed, NewRoots, PlacedTree, new_trees, ascends, Bool, true, false, Option, None, Some, has_root, no_free, free_nodes, free_many, AddsSpace, SpaceStands, space_nodes, WrittenSpace, free_tree_items, FREE_SPACE_TREE}
+use Rattle.convert_trees.proofs.Imports.{◌≡◌, ◌∙◌, ℕ, ◌+◌, ◌-◌, ◌*◌, ◌≤◌, ◌++◌, List, length, take, drop, refl, sym, ap, subst, arith, map, Bool, true, false, Option, None, Some, length-drop, length-take, EXTENT_TREE, ROOT_TREE, FREE_SPACE_TREE, History, reads, WritesOnly, Item, IsNodeSize, AreSlots, node_bound, tree_nodes, lengths_of, IsInSlots, Root, no_trees, no_root, placed_trees, told_roots, no_free, free_nodes, extent_items, merged_nodes, nodes_of_tree, AreIds, extent_bytes, own_bound, root_items, TreeNode, root_items_fit, bound_up, roomy, IsSlotRow, AreWritable, TreeStands, read_form, NodeForm, Trees, PlannedChunk, Piece, AddsLast, root_count, slots_needed, NewRoots, PlacedTree, new_trees, ascends, has_root, free_many, AddsSpace, SpaceStands, space_nodes, free_tree_items}
+use Rattle.convert_trees.specs.declared.space.WrittenSpace.{WrittenSpace}
 use Rattle.convert_trees.proofs.Few.{few_merged, row_few}
 use Rattle.convert_trees.proofs.Front.{stands_behind, stands_far, stands_front}
 use Rattle.convert_trees.proofs.Rooted.{root_lengths}

@@ -1,5 +1,5 @@
 -- How long the items of the root tree are goes by no root.
-use Rattle.convert_trees.proofs.Imports.{◌≡◌, ◌∙◌, ℕ, ◌-◌, ◌≤◌, List, [], ◌∷◌, length, length-append, map, refl, sym, ap, ap₂, arith, length-map, length-merge, map-merge, merge, ROOT_ITEM, key_layout, make_key, lengths_of, Root, other_root_items, tree_root_item, root_items, Ids, told_roots, PlacedTree, new_trees, TreeRoot, numbers_of, root_numbers, roots_few, Option, None, Some, has_root}
+use Rattle.convert_trees.proofs.Imports.{◌≡◌, ◌∙◌, ℕ, ◌-◌, ◌≤◌, List, [], ◌∷◌, length, length-append, map, refl, sym, ap, ap₂, arith, Option, None, Some, length-map, length-merge, map-merge, merge, ROOT_ITEM, key_layout, make_key, lengths_of, Root, other_root_items, tree_root_item, root_items, Ids, told_roots, PlacedTree, new_trees, TreeRoot, numbers_of, root_numbers, roots_few, has_root}
 use Rattle.btr_tree.specs.btr_keys.Inode.{inode_layout}
 use Rattle.btr_tree.specs.btr_keys.Stamp.{stamp_layout}
 use Rattle.convert_steps.specs.btr_space_items.RootItem.{root_item_layout}

@@ -1,7 +1,6 @@
 -- What the trees need is there when the writing begins.
-use Rattle.convert_trees.proofs.Imports.{◌≡◌, ◌∙◌, ℕ, ◌+◌, ◌≤◌, ◌++◌, List, [], drop, get_or, length, map, sym, ap, ap₂, subst, arith, All, Contains, Image, History, reads, Item, IsNodeSize, tree_nodes, lengths_of, all_at, IsFreeUnit, Volume, FitTree, FitLeaves, roomy, IsSlotRow, LieApart, AreWritable, read_form, TreeNode, NodeForm, Trees, AreUnitsApart, All-contains_itself, places_for, IsSoundPlan, node_places, PlannedChunk, Options, Piece, Plan, Ids, first_items, AddsRow, FitRow, row_count, HasPlacedPieces, IsInPieces, IsUsedBlock, new_trees, NewTree, nodes_by, row_counted, stand_by, slot_behind, PlacedTree}
+use Rattle.convert_trees.proofs.Imports.{◌≡◌, ◌∙◌, ℕ, ◌+◌, ◌≤◌, ◌++◌, List, [], drop, get_or, length, map, sym, ap, ap₂, subst, arith, All, Contains, Image, History, reads, Item, IsNodeSize, tree_nodes, lengths_of, all_at, IsFreeUnit, Volume, FitTree, FitLeaves, roomy, IsSlotRow, LieApart, AreWritable, read_form, TreeNode, NodeForm, Trees, AreUnitsApart, IsSoundPlan, All-contains_itself, places_for, node_places, PlannedChunk, Options, Piece, Plan, Ids, first_items, AddsRow, FitRow, row_count, HasPlacedPieces, IsInPieces, IsUsedBlock, new_trees, NewTree, nodes_by, row_counted, stand_by, slot_behind, PlacedTree, slots_are_places}
 use Rattle.unit_plan.specs.declared.need.Need.{Need}
-use Rattle.convert_steps.proofs.Slots.{slots_are_places}
 use Rattle.convert_trees.proofs.Behind.{in_more, row_with}
 use Rattle.convert_trees.proofs.Going.{Goes}
 use Rattle.convert_trees.proofs.Opening.{Begins, has_still, items_still}

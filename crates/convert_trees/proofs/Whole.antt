@@ -1,5 +1,5 @@
 -- Writes to the slots of a plan, and all trees as they stand after the last of them.
-use Rattle.convert_trees.proofs.Imports.{◌≡◌, ℕ, ◌⊎◌, inl, inr, List, All, Contains, drop, Result, Ok, Err, IfOk, subst, MatchResult, History, WritesOnly, writes_then, writes_weaker, IsInSlots, IsFailure, WriteAnswer, Trees, node_places, Plan}
+use Rattle.convert_trees.proofs.Imports.{◌≡◌, ℕ, ◌⊎◌, inl, inr, List, drop, Result, Ok, Err, IfOk, subst, All, Contains, MatchResult, History, WritesOnly, writes_then, writes_weaker, IsInSlots, IsFailure, WriteAnswer, Trees, node_places, Plan}
 use Rattle.convert_trees.proofs.Behind.{IsInRest, in_left, in_more}
 
 -- a block of the units for nodes

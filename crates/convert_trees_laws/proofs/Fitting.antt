@@ -1,11 +1,8 @@
 -- Of the items of each tree a tree can be made.
-use Rattle.convert_trees_laws.proofs.Imports.{◌≤◌, ◌<◌, ℕ, ◌+◌, ◌^◌, Bool, true, false, List, [], get_or, length, Option, Some, None, refl, arith, if◌then◌else◌, All-nil, MatchOption, Image, Item, places_are_apart, chunk_items_fit, IsMaking, Making, new_ids, saved_index, used_of, AreIds, FitTree, sum_items, Piece, NewTree, FileKeysAscend, ImageKeysAscend, ItemsAreShort, rooted_trees, placed_trees, chunk_bound, tree_bytes, AreSmall, checksum_tree_bytes, device_tree_bytes, file_tree_bytes, image_tree_bytes, Counts, FileTreeIsCounted, TreesAreCounted, bytes_in, new_trees, SumKind, Crc32c, Sha256}
+use Rattle.convert_trees_laws.proofs.Imports.{◌≤◌, ◌<◌, ℕ, ◌+◌, ◌^◌, Bool, true, false, List, [], get_or, length, Option, Some, None, refl, arith, if◌then◌else◌, All-nil, MatchOption, Image, Item, places_are_apart, chunk_items_fit, IsMaking, Making, new_ids, saved_index, used_of, AreIds, FitTree, sum_items, Piece, NewTree, FileKeysAscend, ImageKeysAscend, ItemsAreShort, rooted_trees, placed_trees, chunk_bound, tree_bytes, AreSmall, checksum_tree_bytes, device_tree_bytes, file_tree_bytes, image_tree_bytes, Counts, FileTreeIsCounted, TreesAreCounted, bytes_in, new_trees, SumKind, Crc32c, Sha256, ArePieces, FitLeaves, ArePlaced}
 use Rattle.convert_steps.specs.Standing.{items_of}
 use Rattle.convert_steps.specs.unit_plan.declared.tree.NewTree.TheVariants.{Files, SavedImage, Relocation, Checksums, Devices}
 use Rattle.convert_steps.proofs.space_items.StreamOrder.{sum_items_fit}
-use Rattle.convert_steps.specs.space_items.Stream.{ArePieces}
-use Rattle.convert_steps.specs.space_items.StreamLaws.{FitLeaves}
-use Rattle.convert_steps.specs.unit_plan.Pieces.{ArePlaced}
 use Rattle.convert_steps.proofs.Row.{ascends, roots_few}
 use Rattle.convert_trees_laws.proofs.Booting.{used_few}
 use Rattle.convert_trees_laws.proofs.ChunkBytes.{chunks_counted, device_counted, roots_counted}

@@ -1,18 +1,12 @@
 -- A conversion plans its volume as the free space tree wants it.
-use Rattle.convert_trees_laws.proofs.Imports.{◌≡◌, ◌∙◌, ◌⊎◌, inl, inr, ◌≤◌, ◌<◌, ◌↔◌, ℕ, ◌+◌, ◌*◌, ◌^◌, Bool, true, false, List, [], get_or, length, map, take, Option, Some, None, refl, sym, ap, subst, arith, ⊎_elim, if◌then◌else◌, MatchOption, All, AllPairs, Any, Contains, Image, IsNodeSize, Item, places_are_apart, IsMaking, Making, new_ids, slots, chunk_slots, used_of, AreIds, Piece, chunk_bound, Counts, lengths_of, bytes_of, chunk_items, IsSoundPlan, need, plans_sound}
+use Rattle.convert_trees_laws.proofs.Imports.{◌≡◌, ◌∙◌, ◌⊎◌, inl, inr, ◌≤◌, ◌<◌, ℕ, ◌+◌, ◌*◌, ◌^◌, Bool, true, false, List, [], get_or, length, map, take, Option, Some, None, refl, sym, ap, subst, arith, ⊎_elim, if◌then◌else◌, Contains, MatchOption, All, AllPairs, Image, IsNodeSize, Item, places_are_apart, IsMaking, Making, new_ids, slots, chunk_slots, used_of, AreIds, Piece, chunk_bound, need, free_tree_bytes, Counts, lengths_of, bytes_of, chunk_items, IsSoundPlan, plans_sound, chunk_count, chunk_tree_nodes, free_lengths, ArePieces, FitLeaves, ArePlaced, System, Metadata, Data}
 use Rattle.btr_tree_writer.proofs.Rows.{addresses_at}
 use Rattle.convert_steps.specs.Space.{AreTaken as AreTakenOf, FitsSpace, SpaceFits}
-use Rattle.convert_steps.specs.Standing.{chunk_count, chunk_tree_nodes, free_lengths}
 use Rattle.free_items.proofs.Grouped.{free_items_are_few, free_items_stay, used_space_is_apart}
 use Rattle.free_items.specs.Laws.{AreTaken, AreUnitsOf, IsPlanned, LiesInData}
 use Rattle.free_space.proofs.Fitting.{free_items_fit}
 use Rattle.convert_steps.specs.space_items.Nodes.{AreNodes}
-use Rattle.convert_steps.specs.space_items.Stream.{ArePieces}
-use Rattle.convert_steps.specs.space_items.StreamLaws.{FitLeaves}
 use Rattle.convert_steps.specs.space_items.declared.node.TreeNode.{TreeNode}
-use Rattle.convert_steps.specs.unit_plan.Needed.{free_tree_bytes}
-use Rattle.convert_steps.specs.unit_plan.Pieces.{ArePlaced}
-use Rattle.convert_steps.specs.unit_plan.declared.chunk.Role.TheVariants.{System, Metadata, Data}
 use Rattle.convert_trees_laws.proofs.Booting.{blocks_are, used_few}
 use Rattle.convert_trees_laws.proofs.Others.{few_chunks, pieces_few}
 

@@ -1,22 +1,18 @@
 -- The units of a plan have the slots for all nodes.
-use Rattle.convert_trees_laws.proofs.Imports.{◌≡◌, ◌≤◌, ◌<◌, ℕ, ◌+◌, ◌*◌, ◌^◌, List, [], ◌∷◌, length, length-append, sym, ap, subst, ◌∙◌, ⊎_elim, arith, get_or, div_ceil, flat_map, range_with_len, div_ceil_times, length-map, length-range_with_len, BLOCK_GROUP_BYTES, EXTENT_BYTES, NODE_BYTES, ROOT_TREE_ROOM, Image, Item, IsNodeSize, node_bound, lengths_of, IsMaking, Making, chunk_slots, new_ids, slots, AllFit, chunk_count, no_trees, nodes_for, other_count, own_count, root_tree_items, FileKeysAscend, ImageKeysAscend, ItemsAreShort, keys, IsOpened, links_in, used_of, chunk_items, AreIds, bound_up, IsSoundPlan, AreSmall, chunk_bound, chunk_nodes, chunk_tree_bytes, extent_nodes, extent_tree_bytes, need, nodes_in_unit, other_nodes, tree_bytes, Counts, Options, plans_sound, AreCounted, PlansSuffice, bytes_in, TreesAreCounted, All-head, All-tail, sum_by-cons, new_trees, NewTree, Bool, true, false, if◌then◌else◌, tree_nodes, TreeRoots}
-use Rattle.std.specs.List.{All, sum_by}
+use Rattle.convert_trees_laws.proofs.Imports.{◌≡◌, ◌≤◌, ◌<◌, ℕ, ◌+◌, ◌*◌, ◌^◌, List, [], ◌∷◌, length, length-append, sym, ap, subst, ◌∙◌, ⊎_elim, arith, get_or, Bool, true, false, if◌then◌else◌, div_ceil, flat_map, range_with_len, div_ceil_times, length-map, length-range_with_len, BLOCK_GROUP_BYTES, EXTENT_BYTES, NODE_BYTES, ROOT_TREE_ROOM, Image, Item, IsNodeSize, node_bound, tree_nodes, lengths_of, IsMaking, Making, chunk_slots, new_ids, slots, AllFit, chunk_count, no_trees, nodes_for, other_count, own_count, root_tree_items, TreeRoots, free_count, free_lengths, FileKeysAscend, ImageKeysAscend, ItemsAreShort, keys, IsOpened, links_in, used_of, chunk_items, AreIds, bound_up, IsSoundPlan, AreFreeUnits, AreSmall, chunk_bound, chunk_nodes, chunk_tree_bytes, extent_nodes, extent_tree_bytes, need, nodes_in_unit, other_nodes, tree_bytes, free_tree_bytes, free_tree_nodes, spare_slots, Counts, Options, plans_sound, AreCounted, PlansSuffice, bytes_in, TreesAreCounted, All-head, All-tail, sum_by-cons, new_trees, NewTree}
+use Rattle.std.specs.List.{All, sum_by, AllPairs}
 use Rattle.convert_steps.specs.Standing.{items_of}
 use Rattle.convert_steps.proofs.extent_pieces.Small.{counts_small}
 use Rattle.convert_steps.specs.space_items.Own.{extent_bytes}
 use Rattle.convert_steps.specs.unit_plan.Places.{node_places, places_in}
+use Rattle.convert_steps.proofs.unit_plan.Placing.{places_serve}
+use Rattle.free_items.proofs.Lost.{few_places_are_lost}
+use Rattle.free_items.specs.Places.{places_before_ends}
 use Rattle.convert_trees_laws.proofs.Fitting.{bound_low, fits, tree_low}
 use Rattle.convert_trees_laws.proofs.NodeCounts.{nodes_few}
 use Rattle.convert_trees_laws.proofs.Booting.{used_few}
 use Rattle.convert_trees_laws.proofs.Others.{few_chunks, pieces_few}
 use Rattle.convert_trees_laws.proofs.Planning.{space_fits}
-use Rattle.convert_steps.proofs.unit_plan.Placing.{places_serve}
-use Rattle.convert_steps.specs.Standing.{free_count, free_lengths}
-use Rattle.convert_steps.specs.unit_plan.Laws.{AreFreeUnits}
-use Rattle.convert_steps.specs.unit_plan.Needed.{free_tree_bytes, free_tree_nodes, spare_slots}
-use Rattle.free_items.proofs.Lost.{few_places_are_lost}
-use Rattle.free_items.specs.Places.{places_before_ends}
-use Rattle.std.specs.List.{AllPairs}
 
 -- ---- the slots of units
 

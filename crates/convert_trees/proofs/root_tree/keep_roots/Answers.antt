@@ -1,4 +1,4 @@
-use Rattle.convert_trees.proofs.Imports.{◌≡◌, ◌∙◌, ℕ, ◌+◌, ◌≤◌, ◌++◌, Bool, true, false, List, Option, None, Some, MatchOption, if◌then◌else◌, length, take, drop, refl, sym, ap, subst, arith, All, ROOT_TREE, Item, IsNodeSize, Root, tree_nodes, lengths_of, NodeForm, root_items_fit, roomy, nodes_of_tree, no_free, no_root, has_root, told_roots, ascends}
+use Rattle.convert_trees.proofs.Imports.{◌≡◌, ◌∙◌, ℕ, ◌+◌, ◌≤◌, ◌++◌, Bool, true, false, List, Option, None, Some, if◌then◌else◌, length, take, drop, refl, sym, ap, subst, arith, MatchOption, All, ROOT_TREE, Item, IsNodeSize, Root, tree_nodes, lengths_of, NodeForm, root_items_fit, roomy, nodes_of_tree, no_free, no_root, told_roots, has_root, ascends}
 use Rattle.convert_trees.proofs.Adding.{handed}
 use Rattle.convert_trees.proofs.Rooted.{root_items_few, root_lengths}
 use Rattle.convert_trees.proofs.root_tree.keep_roots.Goals as goal
