@@ -3,8 +3,8 @@
 _reiserconv_options() {
     local left=' ' i
     case ${COMP_WORDS[1]} in
-        convert) left=' --nodesize --no-inline --no-datasum --csum --label --copy-label --uuid --verbose ' ;;
-        inspect) left=' --nodesize --no-inline --no-datasum --csum --verbose ' ;;
+        convert) left=' --nodesize --no-inline --no-datasum --csum --features --label --copy-label --uuid --verbose ' ;;
+        inspect) left=' --nodesize --no-inline --no-datasum --csum --features --verbose ' ;;
         *) [ "$COMP_CWORD" != 2 ] || left=' --verbose ' ;;
     esac
     # alone behind the command
@@ -18,7 +18,7 @@ _reiserconv_options() {
         esac
         case ${COMP_WORDS[i]} in
             # the next word is its value
-            --nodesize | --csum | --label | --uuid) i=$((i + 1)) ;;
+            --nodesize | --csum | --features | --label | --uuid) i=$((i + 1)) ;;
         esac
     done
     echo "$left"
@@ -34,6 +34,8 @@ _reiserconv() {
         words='4096 8192 16384 32768 65536'
     elif [ "$before" = --csum ]; then
         words='crc32c sha256'
+    elif [ "$before" = --features ]; then
+        words='free-space-tree'
     elif [ "$before" = --uuid ]; then
         words='new copy'
     elif [ "$before" = --label ]; then

@@ -36,6 +36,23 @@ goes_back 'convert: with SHA-256'
 # (reiserfsck has written the superblock and the journal's header)
 cp /dev/vda /dev/vdb
 
+# with a free space tree, mounted without the option that makes one, and back
+run convert --features free-space-tree --nodesize 4096 /dev/vda
+same 'convert: with a free space tree ends with status 0' '0|' "$status|$err"
+same 'convert: the superblock names a free space tree' '0x3' "$(btrfs inspect-internal dump-super /dev/vda | sed -n 's/^compat_ro_flags[[:space:]]*//p')"
+checked 'convert: btrfs check finds nothing with a free space tree'
+mount -t btrfs -o noatime /dev/vda /mnt
+said 'convert: with a free space tree mounts for writing' $?
+same 'convert: Linux uses the free space tree' 1 "$(grep -c ' /mnt btrfs .*space_cache=v2' /proc/mounts)"
+(cd /mnt && mkdir more && for i in $(seq 500); do echo "$i" >"more/$i" || exit; done && cp -r sizes more/ && rm -r more/sizes && sync)
+said 'convert: with a free space tree takes files' $?
+scrubbed 'convert: scrub finds nothing with a free space tree'
+umount /mnt
+checked 'convert: btrfs check finds nothing with a free space tree behind the files'
+quiet 'convert: the kernel complains of nothing with a free space tree'
+goes_back 'convert: with a free space tree'
+cp /dev/vda /dev/vdb
+
 run convert --copy-label /dev/vda
 same 'convert: ends with status 0' '0|' "$status|$err"
 sed 's/^/# convert: /' /tmp/out

@@ -77,6 +77,8 @@ convert_words() {
     ends 'a label of 256 bytes' 2 "$usage" convert --label "$(printf '%0256d' 0)" volume
     ends 'a kind of checksum that is not made' 2 "$usage" convert --csum xxhash volume
     ends 'a kind of checksum without a name' 2 "$usage" convert --csum volume
+    ends 'a feature that can not be chosen' 2 "$usage" convert --features raid56 volume
+    ends 'a feature without a name' 2 "$usage" convert --features volume
     ends 'convert of a path that is not there' 3 'device fault' convert "$work/nothing"
 }
 

@@ -103,6 +103,7 @@ rolled_back_samples() {
     makes 12400 --old 7 12299
     there_and_back 'a volume of an odd length with old items' made --no-datasum
     there_and_back 'a volume of an odd length for the second time' made --csum sha256 --copy-label
+    there_and_back 'a volume of an odd length with a free space tree' made --features free-space-tree
 }
 
 rolled_back_linux_volumes() {

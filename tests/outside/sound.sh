@@ -29,6 +29,8 @@ sound_conversions() {
     done
     sound_converted 'a volume without checksums of data' "$top/samples/tiny.img" --no-datasum
     sound_converted 'a volume with checksums by SHA-256' "$top/samples/tiny.img" --csum sha256
+    sound_converted 'a volume with a free space tree' "$top/samples/tiny.img" --features free-space-tree
+    sound_converted 'a volume with a free space tree and nodes of 4096 bytes' "$top/samples/tiny.img" --features free-space-tree --nodesize 4096
     makes 12299 7 12299
     sound_converted 'a volume of an odd length' made
     for name in attrs collide empty-mounted; do

@@ -260,6 +260,10 @@ convert --uuid foo x|'foo' is no UUID: '--uuid' takes 'new', 'copy' or one in th
 convert --csum xxhash x|This program makes no checksums by 'xxhash': '--csum' takes crc32c or sha256.
 convert --csum SHA-256 x|'SHA-256' is written 'sha256': write '--csum sha256'.
 inspect --csum 5 x|'5' is no kind of checksum: '--csum' takes crc32c or sha256.
+convert --features fst x|'fst' is written 'free-space-tree': write '--features free-space-tree'.
+inspect --features raid56 x|'raid56' is no feature: '--features' takes free-space-tree.
+convert --features|A value is missing behind '--features'
+convert -O free-space-tree x|'-O' is '--features' here, with free-space-tree behind a space.
 convert -n x|There is no '-n' here: a volume with extended attributes is refused, so that none gets lost. Leave it out.
 convert -i x|'-i' is '--no-inline' here.
 convert -d x|'-d' is '--no-datasum' here.

@@ -356,13 +356,14 @@ package() {
     same 'the installed program runs' '0|format reiserfs' "$status|${out%%$'\n'*}"
     packaged_documents
     suggests 'a command' convert con
-    suggests 'all options' '--nodesize --no-inline --no-datasum --csum --label --copy-label --uuid --verbose --help' convert -
-    suggests 'no option twice, and one of two that exclude each other' '--nodesize --no-datasum --csum --uuid --verbose' convert --no-inline --label text -
-    suggests 'the options of inspect' '--nodesize --no-datasum --csum' inspect --no-inline --verbose -
+    suggests 'all options' '--nodesize --no-inline --no-datasum --csum --features --label --copy-label --uuid --verbose --help' convert -
+    suggests 'no option twice, and one of two that exclude each other' '--nodesize --no-datasum --csum --features --uuid --verbose' convert --no-inline --label text -
+    suggests 'the options of inspect' '--nodesize --no-datasum --csum --features' inspect --no-inline --verbose -
     suggests 'the option of a command without others' '--verbose --help' list -
     suggests 'the number of a trial behind its option' '100 1000' trial --verbose 10
     suggests 'the value of an option' copy convert --copy-label --uuid c
     suggests 'the kinds of checksum' 'crc32c sha256' inspect --csum ''
+    suggests 'the feature' free-space-tree convert --features ''
     one_version "$made"
     kept dpkg "--root=$root" --force-not-root --force-script-chrootless --log=/dev/null --purge reiserconv
     same 'the package is removed without a rest' '0|' "$status|$(find "$root/usr" -type f 2>/dev/null)"

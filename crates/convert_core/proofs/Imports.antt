@@ -21,7 +21,7 @@ pub use Rattle.convert_steps.specs.Making.{IsMaking, Making, chunk_slots, label_
 pub use Rattle.convert_steps.specs.Moved.{CanMove, HasOwner, HoldMoved, IsMovedPlace, IsMovedTo}
 pub use Rattle.convert_steps.specs.Prepared.{HasPlanFor, IsPrepareAnswer, IsPrepared, RefusesConversion}
 pub use Rattle.convert_steps.specs.Source.{HasPieces}
-pub use Rattle.convert_steps.specs.Standing.{AllFit, IsFor, SameVolume, TreeRoots, TreesStand, extents_from, form, items_of, nodes_from, placed_trees, root_from, root_tree_items, roots_told, sum_tree_items}
+pub use Rattle.convert_steps.specs.Standing.{AllFit, IsFor, SameVolume, TreeRoots, TreesStand, chunk_tree_nodes, extents_from, form, free_from, items_of, nodes_from, nodes_of_free, placed_trees, root_from, root_tree_items, roots_told, space_tree_items, sum_tree_items}
 pub use Rattle.convert_steps.specs.Superblock.{is_system_role, new_super, record_bytes}
 pub use Rattle.convert_steps.specs.Switch.{HasCopies, IsHalfSwitched, IsLeftBySwitch, IsMirror, IsMirrorOf, IsSwitchPart, IsSwitched}
 pub use Rattle.convert_steps.specs.command_answers.declared.answer.Answer.{Answer}

@@ -122,7 +122,7 @@ module _ (image : Image) (o : Options) (ids : Ids) (p : Prepared) (is : IsPrepar
 
     -- its superblock, by what is told of the trees
     abbrev bytes_by : NewRoots → Ids → List ℕ → List ℕ
-    bytes_by t new label = super_bytes (new_super new p.volume.sup.blocks o.nodesize o.sums label chunks t)
+    bytes_by t new label = super_bytes (new_super new p.volume.sup.blocks o.nodesize o.sums o.free_tree label chunks t)
 
     module _ (size : IsNodeSize o.nodesize) (h₀ h₁ h₂ h₃ : History) (told : reads h₀ ≡ image) (first : WritesOnly (λ b _. IsMovedPlace p.pieces.items.items b) h₀ h₁)
         (then : WritesOnly (λ b _. InSystem o.nodesize p.plan b ⊎ InMetadata o.nodesize p.plan b) h₁ h₂) (last : reads h₃ ≡ reads h₂) where

@@ -1,6 +1,7 @@
 -- What stands on a disk goes on standing while none of its blocks is written.
-use Rattle.convert_core.proofs.Imports.{◌≡◌, ◌∙◌, ◌⊎◌, inl, inr, ℕ, ◌+◌, ◌-◌, ◌<◌, ◌≤◌, List, [], ◌++◌, length, take, drop, sym, ap, arith, length-drop, ◌∷◌, refl, Contains, if◌then◌else◌, CHUNK_TREE, EXTENT_TREE, ROOT_TREE, Image, block_at, Item, IsInSlots, Making, new_ids, chunk_slots, slots, HoldMoved, chunk_items, TreeNode, Piece, StandsConverted, TreeRoots, TreesStand, extents_from, form, items_of, nodes_from, placed_trees, root_from, root_tree_items, sum_tree_items, get_or-drop}
+use Rattle.convert_core.proofs.Imports.{◌≡◌, ◌∙◌, ◌⊎◌, inl, inr, ℕ, ◌+◌, ◌-◌, ◌<◌, ◌≤◌, List, [], ◌++◌, length, take, drop, sym, ap, arith, length-drop, ◌∷◌, refl, true, false, Option, Some, None, Contains, if◌then◌else◌, MatchOption, CHUNK_TREE, EXTENT_TREE, ROOT_TREE, Image, block_at, Item, IsInSlots, Making, new_ids, chunk_slots, slots, HoldMoved, chunk_items, TreeNode, Piece, StandsConverted, TreeRoots, TreesStand, extents_from, form, items_of, nodes_from, placed_trees, root_from, root_tree_items, sum_tree_items, chunk_tree_nodes, free_from, nodes_of_free, space_tree_items, get_or-drop}
 use Rattle.convert_steps.proofs.Row.{nodes_by, stand_by, items_by}
+use Rattle.convert_steps.specs.btr_super.btrfs_format.declared.object.TheConstants.{FREE_SPACE_TREE}
 use Rattle.convert_steps.specs.Row.{StandBehind}
 use Rattle.convert_steps.specs.declared.trees.PlacedTree.{PlacedTree}
 use Rattle.unit_plan.specs.Trees.{tree_number}
@@ -59,6 +60,18 @@ module _ (image old new : Image) (m : Making) where
   row_stays items n [] same stand = stand
   row_stays items n (p ∷ placed) same stand = (later_stays (tree_number p.tree) n (items p.tree) p.root same stand.0, row_stays items (n + p.root.nodes) placed same stand.1)
 
+  -- so does the free space tree, where there is one
+  free_stays : (k : ℕ) (items : List Item) (free : Option Root) → ((b : ℕ) → InNodes m b → block_at new b ≡ block_at old b)
+      → MatchOption free (m.options.free_tree ≡ false) (λ root. (m.options.free_tree ≡ true) × TreeStands old (form m) FREE_SPACE_TREE (take root.nodes (drop k (slots m))) items root)
+      → MatchOption free (m.options.free_tree ≡ false) (λ root. (m.options.free_tree ≡ true) × TreeStands new (form m) FREE_SPACE_TREE (take root.nodes (drop k (slots m))) items root)
+  free_stays k items None same has = has
+  free_stays k items (Some root) same has = (
+    has.0,
+    by_nodes old new (form m) FREE_SPACE_TREE (take root.nodes (drop k (slots m))) items root
+        (λ b h. same b (inr (in_later m.options.nodesize k (slots m) b (in_all m.options.nodesize root.nodes (drop k (slots m)) b (in_all m.options.nodesize root.nodes (take root.nodes (drop k (slots m))) b h)))))
+        has.1,
+  )
+
   pub trees_stay : (other : Image) (r : TreeRoots) (nodes : List TreeNode) → ((b : ℕ) → InNodes m b → block_at new b ≡ block_at old b)
       → TreesStand image other old m r nodes → TreesStand image other new m r nodes
   trees_stay other r nodes same has = record {
@@ -72,6 +85,7 @@ module _ (image old new : Image) (m : Making) where
         (in_all m.options.nodesize r.root.nodes (drop (root_from r) (slots m)) b (in_all m.options.nodesize r.root.nodes (take r.root.nodes (drop (root_from r) (slots m))) b h)))))
         has.root;
     nodes_are = has.nodes_are;
+    free = free_stays (free_from r) (space_tree_items m nodes) r.free same has.free;
     extents = later_stays EXTENT_TREE (extents_from r) (extent_items m.chunks m.pieces nodes m.options.nodesize) r.extents same has.extents;
   }
 
@@ -89,11 +103,11 @@ other_sums image mid third new m r nodes same has = record {
     is =
         has.nodes_are.is
         ∙ ap (λ (ns : List TreeNode). merged_nodes
-        (merged_nodes (ns ++ nodes_from m ROOT_TREE (root_from r) (root_tree_items m r))
-        (nodes_of_tree CHUNK_TREE m.options.nodesize (lengths_of (chunk_items (new_ids m) m.volume.sup.blocks m.chunks)) (chunk_slots m)))
+        (merged_nodes ((ns ++ nodes_from m ROOT_TREE (root_from r) (root_tree_items m r)) ++ nodes_of_free m r) (chunk_tree_nodes m))
         (nodes_from m EXTENT_TREE (extents_from r) (extent_items m.chunks m.pieces nodes m.options.nodesize)))
         (nodes_by m.options.nodesize (slots m) (items_of image mid m) (items_of image third m) (items_same image mid third m same) 0 (placed_trees r));
   };
+  free = has.free;
   extents = has.extents;
 }
 

@@ -84,7 +84,7 @@ IsTaken plan b = is_chosen plan.system plan.metadata plan.data_ (b / 256) ≡ tr
 abbrev pub superblock_of : Making → TreeRoots → List TreeNode → List ℕ
 superblock_of m r nodes =
     super_bytes
-    (new_super (new_ids m) m.volume.sup.blocks m.options.nodesize m.options.sums (label_field (label_by m.volume.sup m.options.label)) m.chunks (roots_told m r nodes))
+    (new_super (new_ids m) m.volume.sup.blocks m.options.nodesize m.options.sums m.options.free_tree (label_field (label_by m.volume.sup m.options.label)) m.chunks (roots_told m r nodes))
 
 -- Its trees stand, and each piece of data holds what it is to hold: blocks of the old volume, or bytes of direct items.
 pub record StandsConverted (image other : Image) (m : Making) (r : TreeRoots) (nodes : List TreeNode) : Type 0 where

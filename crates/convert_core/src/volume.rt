@@ -174,7 +174,7 @@ fn superblock_of(
     requires plan { HasPlanFor prepared.now }
     requires whole { (device : ℕ) × IsWhole prepared.now device }
     ensures bytes { (chunks : List PlannedChunkOf) → AreChunks prepared.now.plan prepared.now.volume.sup.blocks chunks → IfOk result (λ block. block.bytes
-        ≡ super_bytes (new_super prepared.now.ids prepared.now.volume.sup.blocks options.now.nodesize options.now.sums prepared.now.label chunks roots.now)) }
+        ≡ super_bytes (new_super prepared.now.ids prepared.now.volume.sup.blocks options.now.nodesize options.now.sums options.now.free_tree prepared.now.label chunks roots.now)) }
     ensures answers { IfErr result (λ e. e ≡ Answer.Memory) }
 {
     know_ids(prepared.ids);

@@ -159,7 +159,7 @@ pub use Rattle.convert_core.specs.convert_steps.Making.{IsMaking, Making, chunk_
 pub use Rattle.convert_core.specs.convert_steps.Row.{StandBehind, nodes_behind, slot_behind}
 pub use Rattle.convert_core.specs.convert_steps.Source.{ComesFrom, HasExtents, HasPieces, HoldFiles, in_piece, made_from}
 pub use Rattle.convert_core.specs.convert_steps.Standing.{NamedTree, TreeRoots, TreesStand, extents_from, file_tree_items, form, image_tree_items, named, named_extents, named_in, named_trees, nodes_from, nodes_of_others, placed_in, placed_trees, root_from, root_tree_items, rooted_trees, sum_tree_items, used_bytes}
-pub use Rattle.convert_core.specs.convert_steps.Superblock.{boot_bytes, features, is_system_role, record_bytes}
+pub use Rattle.convert_core.specs.convert_steps.Superblock.{boot_bytes, features, features_to_write, is_system_role, record_bytes}
 unfoldable pub use Rattle.convert_core.specs.convert_steps.Superblock.{new_super}
 pub use Rattle.convert_core.specs.convert_steps.declared.trees.PlacedTree.{PlacedTree}
 pub use Rattle.convert_core.specs.extent_pieces.Files.{FileAt, file_at, owner, tails}

@@ -2,7 +2,7 @@
 use Rattle.convert_options.proofs.Imports.{◌≡◌, ◌∙◌, ◌≤◌, ℕ, Bool, true, false, not, ◌&&◌, ◌||◌, cond, List, [], ◌∷◌, ◌-◌, length, map, get_or, take, drop, refl, sym, ap, arith, String, string_bytes, Option, Some, None, option_map, option_and_then, IsNodeSize, Options, alone, valued, before, settings, same_kind, are_apart, with_setting, with_settings, plain, options, HasNodeSize, first_setting, has, with_given, none_given, Given, Setting}
 use Rattle.std.specs.List.{list_any, list_all}
 use Rattle.std.proofs.lemmas.List.{take_rest}
-use Rattle.convert_options.specs.declared.setting.Setting.TheVariants.{Nodesize, NoInline, NoDatasum, Label, Uuid, Csum}
+use Rattle.convert_options.specs.declared.setting.Setting.TheVariants.{Nodesize, NoInline, NoDatasum, Label, Uuid, Csum, FreeTree}
 
 -- ---- the first setting of some words, and the others
 
@@ -36,36 +36,49 @@ has_more g (Nodesize n) NoDatasum = refl
 has_more g (Nodesize n) (Label l) = refl
 has_more g (Nodesize n) (Uuid u) = refl
 has_more g (Nodesize n) (Csum l) = refl
+has_more g (Nodesize n) FreeTree = refl
 has_more g NoInline (Nodesize m) = refl
 has_more g NoInline NoInline = refl
 has_more g NoInline NoDatasum = refl
 has_more g NoInline (Label l) = refl
 has_more g NoInline (Uuid u) = refl
 has_more g NoInline (Csum l) = refl
+has_more g NoInline FreeTree = refl
 has_more g NoDatasum (Nodesize m) = refl
 has_more g NoDatasum NoInline = refl
 has_more g NoDatasum NoDatasum = refl
 has_more g NoDatasum (Label l) = refl
 has_more g NoDatasum (Uuid u) = refl
 has_more g NoDatasum (Csum l) = refl
+has_more g NoDatasum FreeTree = refl
 has_more g (Label k) (Nodesize m) = refl
 has_more g (Label k) NoInline = refl
 has_more g (Label k) NoDatasum = refl
 has_more g (Label k) (Label l) = refl
 has_more g (Label k) (Uuid u) = refl
 has_more g (Label k) (Csum l) = refl
+has_more g (Label k) FreeTree = refl
 has_more g (Uuid v) (Nodesize m) = refl
 has_more g (Uuid v) NoInline = refl
 has_more g (Uuid v) NoDatasum = refl
 has_more g (Uuid v) (Label l) = refl
 has_more g (Uuid v) (Uuid u) = refl
 has_more g (Uuid v) (Csum l) = refl
+has_more g (Uuid v) FreeTree = refl
 has_more g (Csum k) (Nodesize m) = refl
 has_more g (Csum k) NoInline = refl
 has_more g (Csum k) NoDatasum = refl
 has_more g (Csum k) (Label l) = refl
 has_more g (Csum k) (Uuid u) = refl
 has_more g (Csum k) (Csum l) = refl
+has_more g (Csum k) FreeTree = refl
+has_more g FreeTree (Nodesize m) = refl
+has_more g FreeTree NoInline = refl
+has_more g FreeTree NoDatasum = refl
+has_more g FreeTree (Label l) = refl
+has_more g FreeTree (Uuid u) = refl
+has_more g FreeTree (Csum l) = refl
+has_more g FreeTree FreeTree = refl
 
 -- none of these kinds was there
 unfoldable pub new_to : Given → List Setting → Bool
@@ -106,6 +119,7 @@ none_was NoDatasum = refl
 none_was (Label l) = refl
 none_was (Uuid u) = refl
 none_was (Csum k) = refl
+none_was FreeTree = refl
 
 all_new : (ss : List Setting) → new_to none_given ss ≡ true
 unfolding new_to
@@ -161,6 +175,7 @@ sized o NoDatasum old size = old
 sized o (Label l) old size = old
 sized o (Uuid u) old size = old
 sized o (Csum k) old size = old
+sized o FreeTree old size = old
 
 -- ---- the words as the loop has them
 

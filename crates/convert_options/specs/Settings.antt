@@ -11,7 +11,7 @@ use Rattle.convert_options.specs.declared.options.Options.{Options}
 use Rattle.convert_options.specs.declared.options.UuidChoice.TheVariants as uuids
 use Rattle.uuid.specs.Text.{parsed_hyphenated}
 use Rattle.convert_options.specs.declared.setting.Setting.{Setting}
-use Rattle.convert_options.specs.declared.setting.Setting.TheVariants.{Nodesize, NoInline, NoDatasum, Label, Uuid, Csum}
+use Rattle.convert_options.specs.declared.setting.Setting.TheVariants.{Nodesize, NoInline, NoDatasum, Label, Uuid, Csum, FreeTree}
 
 -- ---- one setting
 
@@ -37,6 +37,10 @@ csum_of value =
     if bytes_eq value (codes "crc32c") then Some (Csum Crc32c)
     else (if bytes_eq value (codes "sha256") then Some (Csum Sha256) else None)
 
+-- a feature, by the name that the tools of Btrfs give it
+abbrev pub feature_of : List ℕ → Option Setting
+feature_of value = if bytes_eq value (codes "free-space-tree") then Some FreeTree else None
+
 -- any text that a label may be
 abbrev pub label_of : List ℕ → Option Setting
 label_of value = if is_label value then Some (Label (labels.Text value)) else None
@@ -60,7 +64,8 @@ valued word value =
     if bytes_eq word (codes "--nodesize") then nodesize_of value
     else (if bytes_eq word (codes "--label") then label_of value
     else (if bytes_eq word (codes "--uuid") then uuid_of value
-    else (if bytes_eq word (codes "--csum") then csum_of value else None)))
+    else (if bytes_eq word (codes "--csum") then csum_of value
+    else (if bytes_eq word (codes "--features") then feature_of value else None))))
 
 -- ---- the settings of words
 
@@ -84,6 +89,7 @@ same_kind NoDatasum NoDatasum = true
 same_kind (Label l) (Label m) = true
 same_kind (Uuid u) (Uuid v) = true
 same_kind (Csum k) (Csum l) = true
+same_kind FreeTree FreeTree = true
 same_kind s t = false
 
 -- no two of them set the same
@@ -98,6 +104,7 @@ with_setting o NoDatasum = record o { datasum = false }
 with_setting o (Label l) = record o { label = l }
 with_setting o (Uuid u) = record o { uuid = u }
 with_setting o (Csum k) = record o { sums = k }
+with_setting o FreeTree = record o { free_tree = true }
 
 abbrev pub with_settings : Options → List Setting → Options
 with_settings o [] = o
@@ -105,7 +112,7 @@ with_settings o (s ∷ ss) = with_settings (with_setting o s) ss
 
 -- a conversion for which nothing is asked
 abbrev pub plain : Options
-plain = record { nodesize = 16384; inline = true; datasum = true; label = labels.Empty; uuid = uuids.New; sums = Crc32c }
+plain = record { nodesize = 16384; inline = true; datasum = true; label = labels.Empty; uuid = uuids.New; sums = Crc32c; free_tree = false }
 
 -- the options of settings of which no two set the same
 abbrev pub options_by : List Setting → Option Options
@@ -122,3 +129,4 @@ HasNodeSize NoDatasum = Unit {0}
 HasNodeSize (Label l) = Unit {0}
 HasNodeSize (Uuid u) = Unit {0}
 HasNodeSize (Csum k) = Unit {0}
+HasNodeSize FreeTree = Unit {0}

@@ -12,6 +12,7 @@ pub struct Given {
     pub label: bool,
     pub uuid: bool,
     pub csum: bool,
+    pub free_tree: bool,
 }
 
 impl Given {
@@ -26,6 +27,7 @@ impl Given {
             label: false,
             uuid: false,
             csum: false,
+            free_tree: false,
         }
     }
 
@@ -40,6 +42,7 @@ impl Given {
             Setting::Label(_) => self.label,
             Setting::Uuid(_) => self.uuid,
             Setting::Csum(_) => self.csum,
+            Setting::FreeTree => self.free_tree,
         }
     }
 
@@ -54,6 +57,7 @@ impl Given {
             Setting::Label(_) => self.label = true,
             Setting::Uuid(_) => self.uuid = true,
             Setting::Csum(_) => self.csum = true,
+            Setting::FreeTree => self.free_tree = true,
         }
     }
 }

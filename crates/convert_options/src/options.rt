@@ -1,4 +1,4 @@
-ghost use Rattle.std.specs.Prelude.{◌≡◌, true};
+ghost use Rattle.std.specs.Prelude.{◌≡◌, false, true};
 ghost use Rattle.convert_options.specs.Identifier.{is_nil};
 
 use crate::Label;
@@ -41,12 +41,14 @@ pub struct Options {
     pub uuid: UuidChoice,
     /// The kind of all checksums.
     pub sums: SumKind,
+    /// Whether there is a free space tree.
+    pub free_tree: bool,
 }
 
 impl Options {
     /// A conversion for which nothing is asked.
     pub fn plain() -> Options
-        ensures { result ≡ record { nodesize = 16384; inline = true; datasum = true; label = LabelChoice.Empty; uuid = UuidChoice.New; sums = SumKind.Crc32c } }
+        ensures { result ≡ record { nodesize = 16384; inline = true; datasum = true; label = LabelChoice.Empty; uuid = UuidChoice.New; sums = SumKind.Crc32c; free_tree = false } }
     {
         Options {
             nodesize: 16384,
@@ -55,6 +57,7 @@ impl Options {
             label: LabelChoice::Empty,
             uuid: UuidChoice::New,
             sums: SumKind::Crc32c,
+            free_tree: false,
         }
     }
 }

@@ -18,6 +18,7 @@ use crate::{Options, Setting};
 /// | `--copy-label` | that the volume keeps its label; not beside `--label` |
 /// | `--uuid SPEC` | the identifier: `new`, `copy` for that of the volume, or one in the form of 36 bytes with hyphens that is not nil |
 /// | `--csum NAME` | the kind of all checksums: `crc32c` or `sha256` |
+/// | `--features NAME` | what the volume has besides: `free-space-tree` |
 ///
 /// Without words it is [`Options::plain`].
 pub fn read_options(words: &[String]) -> Option<Options>

@@ -19,6 +19,8 @@ pub enum Setting {
     Uuid(UuidChoice),
     /// The kind of all checksums.
     Csum(SumKind),
+    /// That there is a free space tree.
+    FreeTree,
 }
 
 impl Setting {
@@ -33,6 +35,7 @@ impl Setting {
             Setting::Label(label) => options.label = label,
             Setting::Uuid(uuid) => options.uuid = uuid,
             Setting::Csum(kind) => options.sums = kind,
+            Setting::FreeTree => options.free_tree = true,
         }
     }
 }

@@ -1,5 +1,5 @@
 ghost use Rattle.std.specs.Prelude.{◌≡◌, IfSome};
-ghost use Rattle.convert_options.specs.Settings.{alone, valued, nodesize_of, label_of, uuid_of, csum_of, given_uuid, given_by, HasNodeSize};
+ghost use Rattle.convert_options.specs.Settings.{alone, valued, nodesize_of, label_of, uuid_of, csum_of, feature_of, given_uuid, given_by, HasNodeSize};
 
 use crate::{Label, LabelChoice, Setting, UuidChoice, is_nil};
 use btr_node::SumKind;
@@ -28,6 +28,7 @@ pub fn valued(word: &str, value: &str) -> Option<Setting>
         "--label" => label_of(value),
         "--uuid" => uuid_of(value),
         "--csum" => csum_of(value),
+        "--features" => feature_of(value),
         _ => None,
     }
 }
@@ -55,6 +56,17 @@ fn csum_of(value: &str) -> Option<Setting>
     match value {
         "crc32c" => Some(Setting::Csum(SumKind::Crc32c)),
         "sha256" => Some(Setting::Csum(SumKind::Sha256)),
+        _ => None,
+    }
+}
+
+/// A feature, by the name that the tools of Btrfs give it.
+fn feature_of(value: &str) -> Option<Setting>
+    ensures set { result ≡ feature_of value.now }
+    ensures size { IfSome result HasNodeSize }
+{
+    match value {
+        "free-space-tree" => Some(Setting::FreeTree),
         _ => None,
     }
 }

@@ -61,6 +61,9 @@ fn words_that_are_no_options(rt: HostRuntime) -> Result<(), Fail> {
         &["--csum", "xxhash"],
         &["--csum", "SHA256"],
         &["--csum", "crc32c", "--csum", "sha256"],
+        &["--features"],
+        &["--features", "raid56"],
+        &["--features", "free-space-tree", "--features", "free-space-tree"],
         &["--no-inline", "x"],
     ] {
         refused(&rt, words)?;
@@ -104,6 +107,15 @@ fn words_that_are_options(rt: HostRuntime) -> Result<(), Fail> {
             },
         )?;
     }
+    reads(
+        &rt,
+        &["--features", "free-space-tree", "--no-inline"],
+        Options {
+            inline: false,
+            free_tree: true,
+            ..Options::plain()
+        },
+    )?;
     let Some(label) = Label::new(b"--no-inline") else {
         return Ok(());
     };
@@ -141,6 +153,7 @@ fn inspect_has_the_options_that_change_the_space(rt: HostRuntime) -> Result<(), 
         &["--nodesize", "--verbose", "4096"],
         &["--csum", "--verbose", "sha256"],
         &["--csum", "xxhash"],
+        &["--features", "raid56"],
     ] {
         inspect_reads(&rt, words, None)?;
     }
@@ -152,6 +165,8 @@ fn inspect_has_the_options_that_change_the_space(rt: HostRuntime) -> Result<(), 
             "--verbose",
             "--csum",
             "sha256",
+            "--features",
+            "free-space-tree",
             "--no-inline",
         ],
         Some(AskedOptions {
@@ -159,6 +174,7 @@ fn inspect_has_the_options_that_change_the_space(rt: HostRuntime) -> Result<(), 
                 nodesize: 4096,
                 inline: false,
                 sums: SumKind::Sha256,
+                free_tree: true,
                 ..Options::plain()
             },
             verbose: true,

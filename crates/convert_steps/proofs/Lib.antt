@@ -22,4 +22,5 @@ pub mod Phases
 mod Placed
 pub mod Preparing
 pub mod Row
+pub mod Slots
 pub mod Turning

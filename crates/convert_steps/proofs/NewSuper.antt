@@ -1,5 +1,5 @@
 -- The fields of a new superblock.
-use Rattle.convert_steps.proofs.Imports.{◌≡◌, ℕ, ◌*◌, ◌-◌, ◌++◌, List, length, replicate, ◌∙◌, ap, SUPER_INFO_OFFSET, device_body, PlannedChunk, Ids, boot_bytes, features, new_super, ROOT_TREE_DIR_OBJECTID}
+use Rattle.convert_steps.proofs.Imports.{◌≡◌, ℕ, ◌*◌, ◌-◌, ◌++◌, List, length, replicate, ◌∙◌, ap, Bool, SUPER_INFO_OFFSET, device_body, PlannedChunk, Ids, boot_bytes, features, features_to_write, new_super, ROOT_TREE_DIR_OBJECTID}
 use Rattle.btr_super.specs.btrfs_format.declared.flag.TheConstants.{HEADER_FLAG_WRITTEN}
 use Rattle.btr_super.specs.btrfs_format.declared.size.TheConstants.{SYSTEM_CHUNK_ARRAY_SIZE}
 use Rattle.btr_tree_writer.specs.btr_space_items.declared.device.Device.{Device}
@@ -8,10 +8,10 @@ use Rattle.btr_super.specs.Sums.{csum_number}
 use Rattle.btr_tree.specs.csum_kinds.declared.kind.SumKind.{SumKind}
 use Rattle.convert_steps.specs.declared.fields.NewRoots.{NewRoots}
 
-module _ (ids : Ids) (blocks nodesize : ℕ) (sums : SumKind) (label : List ℕ) (roots : NewRoots) where
+module _ (ids : Ids) (blocks nodesize : ℕ) (sums : SumKind) (free_tree : Bool) (label : List ℕ) (roots : NewRoots) where
   -- with what is computed for it
-  abbrev pub by_parts : List ℕ → ℕ → ℕ → ℕ → Device → Super
-  by_parts array size incompat kind device = record {
+  abbrev pub by_parts : List ℕ → ℕ → ℕ → ℕ → ℕ → Device → Super
+  by_parts array size compat_ro incompat kind device = record {
     fsid = ids.fsid;
     bytenr = SUPER_INFO_OFFSET;
     flags = HEADER_FLAG_WRITTEN;
@@ -31,7 +31,7 @@ module _ (ids : Ids) (blocks nodesize : ℕ) (sums : SumKind) (label : List ℕ)
     sys_chunk_array_size = size;
     chunk_root_generation = 1;
     compat = 0;
-    compat_ro = 0;
+    compat_ro = compat_ro;
     incompat = incompat;
     csum_type = kind;
     root_level = roots.root.level;
@@ -46,15 +46,16 @@ module _ (ids : Ids) (blocks nodesize : ℕ) (sums : SumKind) (label : List ℕ)
     backup_roots = replicate 672 0;
   }
 
-  pub fields_are : (chunks list : List PlannedChunk) (array : List ℕ) (size incompat kind : ℕ) (device : Device) → chunks ≡ list
+  pub fields_are : (chunks list : List PlannedChunk) (array : List ℕ) (size compat_ro incompat kind : ℕ) (device : Device) → chunks ≡ list
       → array ≡ boot_bytes ids chunks ++ replicate (SYSTEM_CHUNK_ARRAY_SIZE - length (boot_bytes ids chunks)) 0 → size ≡ length (boot_bytes ids chunks)
-      → incompat ≡ features nodesize → kind ≡ csum_number sums → device ≡ device_body ids blocks chunks
-      → by_parts array size incompat kind device ≡ new_super ids blocks nodesize sums label list roots
+      → compat_ro ≡ features_to_write free_tree → incompat ≡ features nodesize → kind ≡ csum_number sums → device ≡ device_body ids blocks chunks
+      → by_parts array size compat_ro incompat kind device ≡ new_super ids blocks nodesize sums free_tree label list roots
   unfolding new_super
-  fields_are chunks list array size incompat kind device same array_is size_is incompat_is kind_is device_is =
-      ap (λ (a : List ℕ). by_parts a size incompat kind device) array_is
-      ∙ (ap (λ (n : ℕ). by_parts (boot_bytes ids chunks ++ replicate (SYSTEM_CHUNK_ARRAY_SIZE - length (boot_bytes ids chunks)) 0) n incompat kind device) size_is
-      ∙ (ap (λ (n : ℕ). by_parts (boot_bytes ids chunks ++ replicate (SYSTEM_CHUNK_ARRAY_SIZE - length (boot_bytes ids chunks)) 0) (length (boot_bytes ids chunks)) n kind device) incompat_is
-      ∙ (ap (λ (n : ℕ). by_parts (boot_bytes ids chunks ++ replicate (SYSTEM_CHUNK_ARRAY_SIZE - length (boot_bytes ids chunks)) 0) (length (boot_bytes ids chunks)) (features nodesize) n device) kind_is
-      ∙ (ap (λ (d : Device). by_parts (boot_bytes ids chunks ++ replicate (SYSTEM_CHUNK_ARRAY_SIZE - length (boot_bytes ids chunks)) 0) (length (boot_bytes ids chunks)) (features nodesize) (csum_number sums) d) device_is
-      ∙ ap (λ (cs : List PlannedChunk). new_super ids blocks nodesize sums label cs roots) same))))
+  fields_are chunks list array size compat_ro incompat kind device same array_is size_is written_is incompat_is kind_is device_is =
+      ap (λ (a : List ℕ). by_parts a size compat_ro incompat kind device) array_is
+      ∙ (ap (λ (n : ℕ). by_parts (boot_bytes ids chunks ++ replicate (SYSTEM_CHUNK_ARRAY_SIZE - length (boot_bytes ids chunks)) 0) n compat_ro incompat kind device) size_is
+      ∙ (ap (λ (n : ℕ). by_parts (boot_bytes ids chunks ++ replicate (SYSTEM_CHUNK_ARRAY_SIZE - length (boot_bytes ids chunks)) 0) (length (boot_bytes ids chunks)) n incompat kind device) written_is
+      ∙ (ap (λ (n : ℕ). by_parts (boot_bytes ids chunks ++ replicate (SYSTEM_CHUNK_ARRAY_SIZE - length (boot_bytes ids chunks)) 0) (length (boot_bytes ids chunks)) (features_to_write free_tree) n kind device) incompat_is
+      ∙ (ap (λ (n : ℕ). by_parts (boot_bytes ids chunks ++ replicate (SYSTEM_CHUNK_ARRAY_SIZE - length (boot_bytes ids chunks)) 0) (length (boot_bytes ids chunks)) (features_to_write free_tree) (features nodesize) n device) kind_is
+      ∙ (ap (λ (d : Device). by_parts (boot_bytes ids chunks ++ replicate (SYSTEM_CHUNK_ARRAY_SIZE - length (boot_bytes ids chunks)) 0) (length (boot_bytes ids chunks)) (features_to_write free_tree) (features nodesize) (csum_number sums) d) device_is
+      ∙ ap (λ (cs : List PlannedChunk). new_super ids blocks nodesize sums free_tree label cs roots) same)))))

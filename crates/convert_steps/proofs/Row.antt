@@ -1,15 +1,14 @@
 -- Trees one behind the other, and lists in the order of numbers.
-use Rattle.convert_steps.proofs.Imports.{◌≡◌, ◌∙◌, ℕ, ◌+◌, ◌≤◌, ◌&&◌, nat_lt, Bool, true, false, not, List, [], ◌∷◌, ◌++◌, append_assoc, drop, if◌then◌else◌, map, refl, sym, ap, ap₂, subst, arith, ◌<◌, length, ◌⊎◌, inl, inr, ⊎_elim, and_parts, All-cons, All-head, All-nil, All-tail, All-map, All-contains, sum_by-cons, All, AllPairs, sum_by, EXTENT_TREE, Image, length-map, Contains, Ids, Options, Volume, PlannedChunk, Piece}
+use Rattle.convert_steps.proofs.Imports.{◌≡◌, ◌∙◌, ℕ, ◌+◌, ◌≤◌, ◌&&◌, nat_lt, Bool, true, false, not, List, [], ◌∷◌, ◌++◌, append_assoc, drop, if◌then◌else◌, map, refl, sym, ap, ap₂, subst, arith, ◌<◌, length, ◌⊎◌, inl, inr, ⊎_elim, Option, None, Some, and_parts, All-cons, All-head, All-nil, All-tail, All-map, All-contains, sum_by-cons, All, AllPairs, sum_by, EXTENT_TREE, FREE_SPACE_TREE, Image, MatchOption, Contains, length-map, Ids, Options, Volume, PlannedChunk, Piece, AllPairs-cons}
 use Rattle.std.proofs.Common.{◌==◌}
 use Rattle.reiser_volume.proofs.reiser_bitmap.Ranges.{contains_cases, contains_head, contains_tail}
 use Rattle.unit_plan.specs.declared.tree.NewTree.TheVariants.{Files, SavedImage, Relocation, Checksums, Devices}
 use Rattle.btr_tree.specs.declared.climb.Root.{Root}
 use Rattle.btr_tree_writer.proofs.btr_item_list.Grouping.{smaller}
 use Rattle.extent_pieces.proofs.Lists.{pairs_head, pairs_tail}
-use Rattle.convert_steps.specs.Standing.{told_root, told_roots, new_tree_items}
+use Rattle.convert_steps.specs.Standing.{of_free, told_root, told_roots, new_tree_items}
 use Rattle.space_items.proofs.Levels.{map-map}
 use Rattle.space_items.specs.declared.node.TreeRoot.{TreeRoot}
-use Rattle.std.proofs.lemmas.List.Kept.{AllPairs-cons}
 use Rattle.btr_tree.specs.btr_node.Leaf.{Item}
 use Rattle.btr_tree.specs.Counting.{tree_nodes}
 use Rattle.btr_tree.specs.Roots.{lengths_of}
@@ -212,22 +211,32 @@ pairs_hold p (x ∷ list) is =
     let both = and_parts (each (p x) list) (pairwise p list) is in
     AllPairs-cons (λ (a b : ℕ). p a b ≡ true) x list (each_holds (p x) list both.0) (pairs_hold p list both.1)
 
+-- the numbers of the trees that have a root item, in their order
+abbrev pub root_numbers : Option Root → List ℕ
+root_numbers free = with_all (λ n. n) (EXTENT_TREE ∷ of_free (λ root. FREE_SPACE_TREE) free) (map tree_number new_trees)
+
 -- no two trees have one number
-pub numbers_apart : AllPairs (λ a b. not (a == b) ≡ true) (EXTENT_TREE ∷ map tree_number new_trees)
-numbers_apart = pairs_hold (λ (a b : ℕ). not (a == b)) (EXTENT_TREE ∷ map tree_number new_trees) refl
+pub numbers_apart : AllPairs (λ a b. not (a == b) ≡ true) (EXTENT_TREE ∷ (FREE_SPACE_TREE ∷ map tree_number new_trees))
+numbers_apart = pairs_hold (λ (a b : ℕ). not (a == b)) (EXTENT_TREE ∷ (FREE_SPACE_TREE ∷ map tree_number new_trees)) refl
 
 -- they ascend in their order
-pub numbers_ascend : AllPairs (λ a b. nat_lt a b ≡ true) (with_all (λ n. n) (EXTENT_TREE ∷ []) (map tree_number new_trees))
-numbers_ascend = pairs_hold nat_lt (with_all (λ (n : ℕ). n) (EXTENT_TREE ∷ []) (map tree_number new_trees)) refl
+pub numbers_ascend : (free : Option Root) → AllPairs (λ a b. nat_lt a b ≡ true) (root_numbers free)
+numbers_ascend None = pairs_hold nat_lt (root_numbers None) refl
+numbers_ascend (Some root) = pairs_hold nat_lt (root_numbers (Some root)) refl
 
 -- ---- the roots that the root tree tells of
 
 -- the numbers of the trees, in their order
-pub numbers_of : (placed : List PlacedTree) (extents : Root) → map (λ p. p.tree) placed ≡ new_trees → map (λ r. r.tree) (told_roots placed extents) ≡ with_all (λ n. n) (EXTENT_TREE ∷ []) (map tree_number new_trees)
-numbers_of placed extents are =
-    map-with_all (λ (r : TreeRoot). r.tree) (λ (r : TreeRoot). r.tree) (λ (n : ℕ). n) (λ r. refl) (record { tree = EXTENT_TREE; root = extents } ∷ []) (map told_root placed)
-    ∙ ap (λ (ns : List ℕ). with_all (λ (n : ℕ). n) (EXTENT_TREE ∷ []) ns)
+numbers_from : (first : List TreeRoot) (placed : List PlacedTree) → map (λ p. p.tree) placed ≡ new_trees
+    → map (λ r. r.tree) (with_all (λ r. r.tree) first (map told_root placed)) ≡ with_all (λ n. n) (map (λ r. r.tree) first) (map tree_number new_trees)
+numbers_from first placed are =
+    map-with_all (λ (r : TreeRoot). r.tree) (λ (r : TreeRoot). r.tree) (λ (n : ℕ). n) (λ r. refl) first (map told_root placed)
+    ∙ ap (λ (ns : List ℕ). with_all (λ (n : ℕ). n) (map (λ (r : TreeRoot). r.tree) first) ns)
     (map-map (λ (r : TreeRoot). r.tree) told_root placed ∙ (sym (map-map tree_number (λ (p : PlacedTree). p.tree) placed) ∙ ap (map tree_number) are))
+
+pub numbers_of : (placed : List PlacedTree) (extents : Root) (free : Option Root) → map (λ p. p.tree) placed ≡ new_trees → map (λ r. r.tree) (told_roots placed extents free) ≡ root_numbers free
+numbers_of placed extents None are = numbers_from (record { tree = EXTENT_TREE; root = extents } ∷ []) placed are
+numbers_of placed extents (Some root) are = numbers_from (record { tree = EXTENT_TREE; root = extents } ∷ (record { tree = FREE_SPACE_TREE; root = root } ∷ [])) placed are
 
 below : {X : Type 0} (number : X → ℕ) (n : ℕ) (list : List X) → All (λ b. nat_lt n b ≡ true) (map number list) → All (λ y. n < number y) list
 below {X} number n [] all = All-nil (λ (y : X). n < number y)
@@ -243,19 +252,34 @@ pairs_of {X} number (x ∷ list) pairs =
     (pairs_of number list (pairs_tail (λ (a b : ℕ). nat_lt a b ≡ true) (number x) (map number list) pairs))
 
 -- the trees ascend by their numbers
-pub ascends : (placed : List PlacedTree) (extents : Root) → map (λ p. p.tree) placed ≡ new_trees → AllPairs (λ r s. r.tree < s.tree) (told_roots placed extents)
-ascends placed extents are = pairs_of (λ (r : TreeRoot). r.tree) (told_roots placed extents) (subst (λ (ns : List ℕ). AllPairs (λ a b. nat_lt a b ≡ true) ns) (sym (numbers_of placed extents are)) numbers_ascend)
+pub ascends : (placed : List PlacedTree) (extents : Root) (free : Option Root) → map (λ p. p.tree) placed ≡ new_trees → AllPairs (λ r s. r.tree < s.tree) (told_roots placed extents free)
+ascends placed extents free are =
+    pairs_of (λ (r : TreeRoot). r.tree) (told_roots placed extents free) (subst (λ (ns : List ℕ). AllPairs (λ a b. nat_lt a b ≡ true) ns) (sym (numbers_of placed extents free are)) (numbers_ascend free))
 
 -- none has more nodes than there is room for
-pub few_told : (placed : List PlacedTree) (extents : Root) (bound : ℕ) → All (λ p. p.root.nodes < bound) placed → extents.nodes < bound → All (λ r. r.root.nodes < bound) (told_roots placed extents)
-few_told placed extents bound few own =
-    all-with_all (λ (r : TreeRoot). r.tree) (λ (r : TreeRoot). r.root.nodes < bound) (record { tree = EXTENT_TREE; root = extents } ∷ []) (map told_root placed)
-    (All-cons (λ (r : TreeRoot). r.root.nodes < bound) (record { tree = EXTENT_TREE; root = extents }) [] own (All-nil (λ (r : TreeRoot). r.root.nodes < bound)))
+few_from : (first : List TreeRoot) (placed : List PlacedTree) (bound : ℕ) → All (λ p. p.root.nodes < bound) placed → All (λ r. r.root.nodes < bound) first → All (λ r. r.root.nodes < bound) (with_all (λ r. r.tree) first (map told_root placed))
+few_from first placed bound few own =
+    all-with_all (λ (r : TreeRoot). r.tree) (λ (r : TreeRoot). r.root.nodes < bound) first (map told_root placed) own
     (All-map (λ (r : TreeRoot). r.root.nodes < bound) told_root placed few)
 
+pub few_told : (placed : List PlacedTree) (extents : Root) (free : Option Root) (bound : ℕ) → All (λ p. p.root.nodes < bound) placed → extents.nodes < bound → MatchOption free (Unit {0}) (λ root. root.nodes < bound)
+    → All (λ r. r.root.nodes < bound) (told_roots placed extents free)
+few_told placed extents None bound few own more =
+    few_from (record { tree = EXTENT_TREE; root = extents } ∷ []) placed bound few
+    (All-cons (λ (r : TreeRoot). r.root.nodes < bound) (record { tree = EXTENT_TREE; root = extents }) [] own (All-nil (λ (r : TreeRoot). r.root.nodes < bound)))
+few_told placed extents (Some root) bound few own more =
+    few_from (record { tree = EXTENT_TREE; root = extents } ∷ (record { tree = FREE_SPACE_TREE; root = root } ∷ [])) placed bound few
+    (All-cons (λ (r : TreeRoot). r.root.nodes < bound) (record { tree = EXTENT_TREE; root = extents }) (record { tree = FREE_SPACE_TREE; root = root } ∷ []) own
+    (All-cons (λ (r : TreeRoot). r.root.nodes < bound) (record { tree = FREE_SPACE_TREE; root = root }) [] more (All-nil (λ (r : TreeRoot). r.root.nodes < bound))))
+
 -- nor are there many
-pub roots_few : (placed : List PlacedTree) (extents : Root) → map (λ p. p.tree) placed ≡ new_trees → length (told_roots placed extents) ≤ 12
-roots_few placed extents are =
-    let long = length-map (told_roots placed extents) (λ (r : TreeRoot). r.tree) in
-    let same = ap (λ (ns : List ℕ). length ns) (numbers_of placed extents are) in
-    omega (arith, long, same)
+numbers_few : (free : Option Root) → length (root_numbers free) ≤ 12
+numbers_few None = omega arith
+numbers_few (Some root) = omega arith
+
+pub roots_few : (placed : List PlacedTree) (extents : Root) (free : Option Root) → map (λ p. p.tree) placed ≡ new_trees → length (told_roots placed extents free) ≤ 12
+roots_few placed extents free are =
+    let long = length-map (told_roots placed extents free) (λ (r : TreeRoot). r.tree) in
+    let same = ap (λ (ns : List ℕ). length ns) (numbers_of placed extents free are) in
+    let few = numbers_few free in
+    omega (arith, long, same, few)

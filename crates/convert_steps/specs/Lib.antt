@@ -6,6 +6,7 @@ pub use Rattle.command_answers.specs as command_answers
 pub use Rattle.unit_plan.specs.convert_options as convert_options
 pub use Rattle.extent_pieces.specs as extent_pieces
 pub use Rattle.file_items.specs as file_items
+pub use Rattle.free_items.specs as free_items
 pub use Rattle.reiser_volume.specs.reiser_bitmap as reiser_bitmap
 pub use Rattle.reiser_volume.specs.reiser_items as reiser_items
 pub use Rattle.reiser_volume.specs.reiser_node as reiser_node
@@ -25,6 +26,7 @@ pub mod Moved
 pub mod Prepared
 pub mod Row
 pub mod Source
+pub mod Space
 pub mod Standing
 pub mod Superblock
 pub mod Switch

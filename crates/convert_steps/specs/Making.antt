@@ -4,6 +4,7 @@ use Rattle.std.specs.List.{take_while}
 use Rattle.command_answers.specs.outside.History.{Image}
 use Rattle.command_answers.specs.vol_block.declared.ids.Ids.{Ids}
 use Rattle.convert_steps.specs.Source.{HasPieces}
+use Rattle.free_items.specs.Places.{places_before_ends}
 use Rattle.reiser_volume.specs.reiser_volume_objects.Keys.{root, same_key}
 use Rattle.reiser_volume.specs.reiser_super.declared.superblock.Super.{Super}
 use Rattle.reiser_volume.specs.Opened.{links_in}
@@ -61,12 +62,17 @@ pub record IsMaking (image : Image) (m : Making) : Type 0 where
 abbrev pub new_ids : Making → Ids
 new_ids m = ids_by m.ids m.volume.sup m.options
 
--- where nodes of the chunk tree may lie, and those of all other trees
+-- where nodes of the chunk tree may lie
 abbrev pub chunk_slots : Making → List ℕ
 chunk_slots m = node_places m.options.nodesize m.plan.system
 
+-- Where those of all other trees may lie. With a free space tree the last place of each chunk stays free: so each chunk
+-- for them has one free run, however many of its places are taken.
+abbrev pub places_for : Options → List PlannedChunk → List ℕ → List ℕ
+places_for o chunks units = if o.free_tree then places_before_ends o.nodesize chunks (node_places o.nodesize units) else node_places o.nodesize units
+
 abbrev pub slots : Making → List ℕ
-slots m = node_places m.options.nodesize m.plan.metadata
+slots m = places_for m.options m.chunks m.plan.metadata
 
 -- The index of the root's entry for the tree of the saved image. It is the root's last; the first entry has index 2.
 abbrev pub saved_index : Making → ℕ

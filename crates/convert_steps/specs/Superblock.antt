@@ -2,7 +2,7 @@
 use Rattle.std.specs.Prelude.{ℕ, ◌*◌, ◌-◌, ◌==◌, List, ◌++◌, length, replicate, if◌then◌else◌, Bool, true, false, filter, ◌+◌}
 use Rattle.std.specs.List.{flat_map}
 use Rattle.btr_super.specs.btrfs_format.declared.block.TheConstants.{SUPER_INFO_OFFSET}
-use Rattle.btr_super.specs.btrfs_format.declared.feature.TheConstants.{BIG_METADATA, EXTENDED_IREF, MIXED_BACKREF, NO_HOLES, SKINNY_METADATA}
+use Rattle.btr_super.specs.btrfs_format.declared.feature.TheConstants.{BIG_METADATA, EXTENDED_IREF, FREE_SPACE_TREE, FREE_SPACE_TREE_VALID, MIXED_BACKREF, NO_HOLES, SKINNY_METADATA}
 use Rattle.btr_super.specs.btrfs_format.declared.flag.TheConstants.{HEADER_FLAG_WRITTEN}
 use Rattle.btr_super.specs.btrfs_format.declared.object.TheConstants.{ROOT_TREE_DIR_OBJECTID}
 use Rattle.btr_super.specs.btrfs_format.declared.size.TheConstants.{SYSTEM_CHUNK_ARRAY_SIZE}
@@ -37,10 +37,14 @@ features nodesize =
     if nodesize == 4096 then MIXED_BACKREF + EXTENDED_IREF + SKINNY_METADATA + NO_HOLES
     else MIXED_BACKREF + EXTENDED_IREF + SKINNY_METADATA + NO_HOLES + BIG_METADATA
 
+-- the features of a volume that is written: a free space tree, and that it is valid
+abbrev pub features_to_write : Bool → ℕ
+features_to_write free_tree = if free_tree then FREE_SPACE_TREE + FREE_SPACE_TREE_VALID else 0
+
 -- The superblock of a volume of so many blocks, with these identifiers, checksums of this kind, this field of a label, and
 -- these chunks.
-unfoldable pub new_super : Ids → ℕ → ℕ → SumKind → List ℕ → List PlannedChunk → NewRoots → Super
-new_super ids blocks nodesize sums label chunks roots = record {
+unfoldable pub new_super : Ids → ℕ → ℕ → SumKind → Bool → List ℕ → List PlannedChunk → NewRoots → Super
+new_super ids blocks nodesize sums free_tree label chunks roots = record {
   fsid = ids.fsid;
   bytenr = SUPER_INFO_OFFSET;
   flags = HEADER_FLAG_WRITTEN;
@@ -60,7 +64,7 @@ new_super ids blocks nodesize sums label chunks roots = record {
   sys_chunk_array_size = length (boot_bytes ids chunks);
   chunk_root_generation = 1;
   compat = 0;
-  compat_ro = 0;
+  compat_ro = features_to_write free_tree;
   incompat = features nodesize;
   csum_type = csum_number sums;
   root_level = roots.root.level;

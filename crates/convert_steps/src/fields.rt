@@ -2,14 +2,15 @@
 ghost use Rattle.std.specs.Prelude.{◌≡◌, ◌≤◌, ◌<◌, ◌+◌, ◌*◌, ◌-◌, ◌^◌, ◌++◌, List, length, take, replicate, All, AllPairs, IfOk};
 ghost use Rattle.std.specs.List.{sum_by};
 ghost use Rattle.btr_super.specs.Super.{super_bytes};
-ghost use Rattle.convert_steps.specs.Superblock.{boot_bytes, features, is_system_role, new_super, record_bytes};
+ghost use Rattle.convert_steps.specs.Superblock.{boot_bytes, features, features_to_write, is_system_role, new_super, record_bytes};
 ghost use Rattle.space_items.specs.Chunks.{chunk_item};
 ghost use Rattle.unit_plan.specs.Chunks.{AreChunks, FitsVolume};
 ghost use Rattle.unit_plan.specs.declared.chunk.PlannedChunk.{PlannedChunk as PlannedChunkOf};
 
 use btr_super::btrfs_format::block::SUPER_INFO_OFFSET;
 use btr_super::btrfs_format::feature::{
-    BIG_METADATA, EXTENDED_IREF, MIXED_BACKREF, NO_HOLES, SKINNY_METADATA,
+    BIG_METADATA, EXTENDED_IREF, FREE_SPACE_TREE, FREE_SPACE_TREE_VALID, MIXED_BACKREF, NO_HOLES,
+    SKINNY_METADATA,
 };
 use btr_super::btrfs_format::flag::HEADER_FLAG_WRITTEN;
 use btr_super::btrfs_format::key::CHUNK_ITEM;
@@ -55,7 +56,7 @@ pub fn superblock(
     requires small { blocks ≤ 2 ^ 29 }
     requires units { FitsVolume plan.now blocks }
     requires boot { (chunks : List PlannedChunkOf) → AreChunks plan.now blocks chunks → length (boot_bytes ids.now chunks) ≤ SYSTEM_CHUNK_ARRAY_SIZE }
-    ensures { (chunks : List PlannedChunkOf) → AreChunks plan.now blocks chunks → IfOk result (λ block. block.bytes ≡ super_bytes (new_super ids.now blocks options.now.nodesize options.now.sums label chunks roots.now)) }
+    ensures { (chunks : List PlannedChunkOf) → AreChunks plan.now blocks chunks → IfOk result (λ block. block.bytes ≡ super_bytes (new_super ids.now blocks options.now.nodesize options.now.sums options.now.free_tree label chunks roots.now)) }
 {
     let chunks = chunks_of(alloc, plan, blocks)?;
     let (array, size) = boot_array(ids, &chunks);
@@ -79,7 +80,7 @@ pub fn superblock(
         sys_chunk_array_size: size as u32,
         chunk_root_generation: 1,
         compat: 0,
-        compat_ro: 0,
+        compat_ro: features_to_write(options.free_tree),
         incompat: features(options.nodesize),
         csum_type: csum_type(options.sums),
         root_level: roots.root.level,
@@ -106,6 +107,17 @@ fn features(nodesize: u32) -> u64
         FEATURES
     } else {
         FEATURES_OF_LARGE_NODES
+    }
+}
+
+/// The features that a volume has which is written. A free space tree is one, and that it is valid.
+fn features_to_write(free_tree: bool) -> u64
+    ensures { result ≡ features_to_write free_tree }
+{
+    if free_tree {
+        FREE_SPACE_TREE | FREE_SPACE_TREE_VALID
+    } else {
+        0
     }
 }
 

@@ -1,5 +1,5 @@
 -- Writes to the slots that are left, tree after tree.
-use Rattle.convert_trees.proofs.Imports.{◌≡◌, ◌∙◌, ℕ, ◌+◌, ◌-◌, ◌≤◌, List, drop, sym, ap, subst, arith, drop-drop, get_or-drop, length-drop, History, WritesOnly, writes_then, writes_weaker, IsInSlots, NodeForm, TreeNode, Trees}
+use Rattle.convert_trees.proofs.Imports.{◌≡◌, ◌∙◌, ℕ, ◌+◌, ◌-◌, ◌≤◌, List, drop, sym, ap, subst, arith, All, Contains, drop-drop, get_or-drop, length-drop, History, WritesOnly, writes_then, writes_weaker, IsInSlots, NodeForm, TreeNode, Trees}
 
 -- a row of slots, some taken
 abbrev pub row_with : NodeForm → List ℕ → ℕ → List TreeNode → Trees
@@ -24,6 +24,12 @@ later_by row later n same taken = record { form = same.0; slots = same.1; more =
 pub in_left : (nodesize taken : ℕ) (slots : List ℕ) (b : ℕ) → IsInSlots nodesize (drop taken slots) b → IsInSlots nodesize slots b
 in_left nodesize taken slots b found =
     (taken + found.0, found.1, omega (arith, found.2, length-drop taken slots), sym (get_or-drop taken slots found.0 found.1) ∙ found.3, found.4)
+
+-- a block of some slots is one of more
+pub in_more : (nodesize : ℕ) (some more : List ℕ) (b : ℕ) → All (Contains more) some → IsInSlots nodesize some b → IsInSlots nodesize more b
+in_more nodesize some more b all found =
+    let there : Contains more found.1 = subst (λ (a : ℕ). Contains more a) found.3 (all found.0 found.1 found.2) in
+    (there.0, found.1, there.1, there.2, found.4)
 
 -- a block of the slots that are left
 abbrev pub IsInRest : Trees → ℕ → Type 0

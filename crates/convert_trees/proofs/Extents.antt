@@ -1,5 +1,6 @@
 -- The extent tree stands behind the others.
-use Rattle.convert_trees.proofs.Imports.{◌≡◌, ◌∙◌, ℕ, ◌+◌, ◌≤◌, ◌++◌, List, [], ◌∷◌, length, map, drop, refl, sym, ap, subst, arith, sum_by, sum_by-cons, EXTENT_TREE, Image, IsNodeSize, tree_nodes, lengths_of, extent_items, used_in, AreNodes, merged_nodes, nodes_of_tree, ArePieces, group_of, TreeNode, roomy, AreWritable, TreeStands, read_form, Trees, AreChunks, PlannedChunk, Piece, Plan, AddsExtents, WrittenExtents}
+use Rattle.convert_trees.proofs.Imports.{◌≡◌, ◌∙◌, ℕ, ◌+◌, ◌≤◌, ◌++◌, List, [], ◌∷◌, length, map, drop, refl, sym, ap, subst, arith, sum_by, sum_by-cons, EXTENT_TREE, Image, IsNodeSize, tree_nodes, lengths_of, extent_items, used_in, AreNodes, merged_nodes, nodes_of_tree, ArePieces, group_of, TreeNode, roomy, AreWritable, TreeStands, read_form, Trees, AreChunks, PlannedChunk, Piece, Plan, AddsExtents}
+use Rattle.convert_trees.specs.declared.last.WrittenExtents.{WrittenExtents}
 use Rattle.space_items.proofs.StreamOrder.{extent_items_fit}
 use Rattle.space_items.specs.declared.groups.Group.{Group}
 

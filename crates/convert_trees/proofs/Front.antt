@@ -1,6 +1,6 @@
 -- The first slots that are left, and those behind them: they share no block.
-use Rattle.convert_trees.proofs.Imports.{◌≡◌, ◌≢◌, ◌∙◌, inl, inr, ℕ, ◌+◌, ◌*◌, ◌%◌, ◌^◌, ◌<◌, ◌≤◌, List, length, take, drop, get_or, sym, subst, arith, All, get_or-drop, get_or-take, get_or_default, length-drop, length-take, All-drop, All-take, History, reads, WritesOnly, writes_weaker, reads_outside, Item, IsNodeSize, AreSlots, IsInNode, IsInSlots, Root, Form, IsSlotRow, TreeStands, NodeForm, Trees, by_nodes, slots_left}
-use Rattle.convert_trees.proofs.Behind.{IsInRest, IsLater, still_in_rest}
+use Rattle.convert_trees.proofs.Imports.{◌≡◌, ◌≢◌, ◌∙◌, inl, inr, ℕ, ◌+◌, ◌*◌, ◌%◌, ◌^◌, ◌<◌, ◌≤◌, List, length, take, drop, get_or, sym, subst, arith, All, drop-drop, get_or-drop, get_or-take, get_or_default, length-drop, length-take, All-drop, All-take, History, reads, WritesOnly, writes_weaker, reads_outside, Item, IsNodeSize, AreSlots, IsInNode, IsInSlots, Root, Form, IsSlotRow, TreeStands, NodeForm, Trees, by_nodes, slots_left}
+use Rattle.convert_trees.proofs.Behind.{IsInRest, IsLater, in_left, still_in_rest}
 
 by_size : (P : ℕ → Type 0) → P 4096 → P 8192 → P 16384 → P 32768 → P 65536 → (n : ℕ) → IsNodeSize n → P n
 by_size P a b c d e n (inl is) = subst P (sym is) a
@@ -72,6 +72,31 @@ stands_behind old new form owner m taken slots items root size are only stands =
     by_nodes (reads old) (reads new) form owner (drop (taken + m) slots) items root
     (λ b inside. reads_outside (IsInSlots form.nodesize (take m (drop taken slots))) old new only b
     (λ front. kept_apart form.nodesize m taken slots are size b front (in_front form.nodesize root.nodes (drop (taken + m) slots) b inside)))
+    stands
+
+-- so does one farther behind
+pub stands_far : (old new : History) (form : Form) (owner m more taken : ℕ) (slots : List ℕ) (items : List Item) (root : Root) → IsNodeSize form.nodesize → AreSlots form.nodesize slots
+    → WritesOnly (λ b _. IsInSlots form.nodesize (take m (drop taken slots)) b) old new
+    → TreeStands (reads old) form owner (drop (taken + m + more) slots) items root → TreeStands (reads new) form owner (drop (taken + m + more) slots) items root
+stands_far old new form owner m more taken slots items root size are only stands =
+    let split : drop more (drop (taken + m) slots) ≡ drop (taken + m + more) slots = drop-drop more (taken + m) slots in
+    by_nodes (reads old) (reads new) form owner (drop (taken + m + more) slots) items root
+    (λ b inside. reads_outside (IsInSlots form.nodesize (take m (drop taken slots))) old new only b
+    (λ front.
+    kept_apart form.nodesize m taken slots are size b front
+    (in_left form.nodesize more (drop (taken + m) slots) b (subst (λ (s : List ℕ). IsInSlots form.nodesize s b) (sym split) (in_front form.nodesize root.nodes (drop (taken + m + more) slots) b inside)))))
+    stands
+
+-- and one at the first of the slots behind
+pub stands_front : (old new : History) (form : Form) (owner first m taken : ℕ) (slots : List ℕ) (items : List Item) (root : Root) → IsNodeSize form.nodesize → AreSlots form.nodesize slots
+    → WritesOnly (λ b _. IsInSlots form.nodesize (take m (drop taken slots)) b) old new
+    → TreeStands (reads old) form owner (take first (drop (taken + m) slots)) items root → TreeStands (reads new) form owner (take first (drop (taken + m) slots)) items root
+stands_front old new form owner first m taken slots items root size are only stands =
+    by_nodes (reads old) (reads new) form owner (take first (drop (taken + m) slots)) items root
+    (λ b inside. reads_outside (IsInSlots form.nodesize (take m (drop taken slots))) old new only b
+    (λ front.
+    kept_apart form.nodesize m taken slots are size b front
+    (in_front form.nodesize first (drop (taken + m) slots) b (in_front form.nodesize root.nodes (take first (drop (taken + m) slots)) b inside))))
     stands
 
 -- writes to slots that are left

@@ -1,5 +1,6 @@
 -- What a conversion gives to the writing of its trees, told of its arguments.
-use Rattle.convert_trees.proofs.Imports.{◌≡◌, ◌∙◌, ℕ, ◌+◌, ◌<◌, ◌≤◌, ◌∷◌, Bool, true, List, [], get_or, length, Some, refl, sym, ap, subst, arith, All, sum_by, Contains, Image, sum_by-cons, tree_nodes, lengths_of, IsMaking, Making, new_ids, slots, AllFit, IsFor, SameVolume, chunk_count, no_trees, nodes_for, root_tree_items, items_of, LiesInUnit, all_at, has, IsOpened, superblock, used_of, Volume, chunk_items, FitLeaves, NodeForm, AreChunks, ArePlaced, node_places, PlannedChunk, Options, Piece, Plan, Ids, first_items, row_count, root_count, saved_in, slots_needed, HasPlacedPieces, new_trees, NewTree, items_by}
+use Rattle.convert_trees.proofs.Imports.{◌≡◌, ◌∙◌, ℕ, ◌+◌, ◌*◌, ◌<◌, ◌≤◌, ◌∷◌, Bool, true, List, [], get_or, length, Some, refl, sym, ap, subst, arith, All, sum_by, Contains, CHUNK_TREE, Image, node_bound, tree_nodes, extent_bytes, nodes_of_tree, TreeNode, free_count, AllFit, IsFor, SameVolume, chunk_count, no_trees, nodes_for, root_tree_items, items_of, free_many, places_for, IsMaking, Making, new_ids, slots, sum_by-cons, lengths_of, LiesInUnit, all_at, has, IsOpened, superblock, used_of, Volume, chunk_items, FitLeaves, NodeForm, AreChunks, ArePlaced, node_places, PlannedChunk, Options, Piece, Plan, Ids, first_items, row_count, root_count, saved_in, slots_needed, HasPlacedPieces, new_trees, NewTree, items_by}
+use Rattle.convert_steps.specs.Space.{SpaceFits}
 use Rattle.convert_steps.proofs.extent_pieces.Apart.{places_are_apart}
 use Rattle.reiser_volume.proofs.Holding.{used_length}
 use Rattle.convert_trees.proofs.Staying.{volume_stays}
@@ -14,6 +15,16 @@ pub counts_by : (f g : NewTree → ℕ) → ((t : NewTree) → f t ≡ g t) → 
 counts_by f g same [] = refl
 counts_by f g same (t ∷ trees) = let one = same t in let more = counts_by f g same trees in let first = sum_by-cons f t trees in let second = sum_by-cons g t trees in omega (arith, one, more, first, second)
 
+-- the nodes of the chunk tree
+abbrev pub chunk_nodes_of : Volume → Options → Ids → Plan → List PlannedChunk → List TreeNode
+chunk_nodes_of volume o ids plan chunks = nodes_of_tree CHUNK_TREE o.nodesize (lengths_of (chunk_items ids volume.sup.blocks chunks)) (node_places o.nodesize plan.system)
+
+-- counts in another order
+in_turn : (x r f p c others n long : ℕ) → x + r + f + (2 * node_bound (extent_bytes p c (x + r + f + others)) n + 16) ≤ long → slots_needed n x (r + f) p c others ≤ long
+in_turn x r f p c others n long few =
+    let same : x + r + f ≡ x + (r + f) = omega arith in
+    subst (λ (k : ℕ). k + (2 * node_bound (extent_bytes p c (k + others)) n + 16) ≤ long) same few
+
 pub record Given (volume : Volume) (o : Options) (ids : Ids) (now : ℕ) (plan : Plan) (pieces : List Piece) (chunks : List PlannedChunk) (image other : Image) : Type 0 where
   pub are : AreChunks plan volume.sup.blocks chunks
   pub opened : IsOpened volume image
@@ -23,8 +34,10 @@ pub record Given (volume : Volume) (o : Options) (ids : Ids) (now : ℕ) (plan :
   pub files_same : files_in volume o pieces other ≡ files_in volume o pieces image
   pub each : All (λ t. FitLeaves (first_items volume pieces o ids now chunks other t)) new_trees
   pub chunk_few : tree_nodes o.nodesize (lengths_of (chunk_items ids volume.sup.blocks chunks)) ≤ length (node_places o.nodesize plan.system)
-  pub few : slots_needed o.nodesize (row_count o.nodesize (first_items volume pieces o ids now chunks other) new_trees) (root_count (node_form o ids) (saved_in volume) now) (length pieces) (length chunks)
-      (tree_nodes o.nodesize (lengths_of (chunk_items ids volume.sup.blocks chunks))) ≤ length (node_places o.nodesize plan.metadata)
+  pub few : slots_needed o.nodesize (row_count o.nodesize (first_items volume pieces o ids now chunks other) new_trees)
+      (root_count (node_form o ids) (saved_in volume) now o.free_tree + free_many o.free_tree chunks pieces o.nodesize (chunk_nodes_of volume o ids plan chunks)) (length pieces) (length chunks)
+      (tree_nodes o.nodesize (lengths_of (chunk_items ids volume.sup.blocks chunks))) ≤ length (places_for o chunks plan.metadata)
+  pub space : o.free_tree ≡ true → SpaceFits chunks pieces o.nodesize (places_for o chunks plan.metadata) (chunk_nodes_of volume o ids plan chunks)
 
 module _ (image other : Image) (m : Making) (is : IsMaking image m) (same : SameVolume image other) (fit : AllFit image other m) where
   there : HasPlacedPieces m.volume m.pieces image
@@ -70,7 +83,9 @@ module _ (image other : Image) (m : Making) (is : IsMaking image m) (same : Same
         few =
             let count : row_count m.options.nodesize (first_items m.volume m.pieces m.options (new_ids m) m.now m.chunks other) new_trees ≡ sum_by (λ t. nodes_for m (items_of image other m t)) new_trees =
             counts_by (λ t. nodes_for m (first_items m.volume m.pieces m.options (new_ids m) m.now m.chunks other t)) (λ t. nodes_for m (items_of image other m t)) (λ t. ap (nodes_for m) (items_are t)) new_trees in
-            subst (λ (n : ℕ). slots_needed m.options.nodesize n (nodes_for m (root_tree_items m no_trees)) (length m.pieces) (length m.chunks) (chunk_count m) ≤ length (slots m)) (sym count) fit.few;
+            subst (λ (n : ℕ). slots_needed m.options.nodesize n (nodes_for m (root_tree_items m (no_trees m.options.free_tree)) + free_count m) (length m.pieces) (length m.chunks) (chunk_count m) ≤ length (slots m)) (sym count)
+            (in_turn _ _ _ _ _ _ _ _ fit.few);
+        space = fit.free;
       }
 
   module _ (volume : Volume) (o : Options) (ids : Ids) (now : ℕ) (plan : Plan) (pieces : List Piece) (for : IsFor m volume o ids now plan pieces) where

@@ -3,11 +3,11 @@ pub use Rattle.std.proofs.Common.{Bool, Err, IfOk, IsTrue, List, None, Ok, Optio
 pub use Rattle.std.proofs.Math.Nat.{le-max_left, le-max_right, min-le_right}
 pub use Rattle.std.proofs.lemmas.Bool.{cases_eq, eq-eqb}
 pub use Rattle.std.proofs.lemmas.List.{append-nil, drop-drop, drop_all, drop_more, get_or-drop, get_or-take, get_or_default, length-drop, length-map, length-take, map-append, take_all, take_more}
-pub use Rattle.std.proofs.lemmas.List.Elements.{All-cons, All-drop, All-head, All-nil, All-tail, All-take, Contains-append_cases, Contains-append_left, Contains-append_right}
+pub use Rattle.std.proofs.lemmas.List.Elements.{All-cons, All-contains_itself, All-drop, All-head, All-nil, All-tail, All-take, Contains-append_cases, Contains-append_left, Contains-append_right}
 pub use Rattle.std.proofs.lemmas.List.Sums.{count_by_more_no, count_by_more_yes, sum_by-cons, sum_by-take-le}
 pub use Rattle.std.proofs.lemmas.Option.{slice_get-get_or, unwrap_or-slice_get}
 pub use Rattle.std.specs.List.{All, AllPairs, flat_map, range_with_len, sum_by}
-pub use Rattle.std.specs.Prelude.{Contains, IfErr, slice_get, unwrap_or}
+pub use Rattle.std.specs.Prelude.{Contains, IfErr, MatchOption, slice_get, unwrap_or}
 pub use Rattle.std.specs.Result.{IsErrAnd, MatchResult}
 pub use Rattle.btr_tree.proofs.outside.Crash.{writes_length, writes_none, writes_then, writes_weaker}
 pub use Rattle.btr_tree.proofs.outside.Phases.{reads_outside}
@@ -21,7 +21,7 @@ pub use Rattle.btr_tree.specs.btr_node.Leaf.{Item}
 pub use Rattle.btr_tree.specs.btr_node.NodeSize.{IsNodeSize}
 pub use Rattle.btr_tree.specs.btr_reader_walk.declared.tree.Form.{Form}
 pub use Rattle.btr_tree.specs.btrfs_format.declared.key.TheConstants.{EXTENT_CSUM, ROOT_ITEM}
-pub use Rattle.btr_tree.specs.btrfs_format.declared.object.TheConstants.{CHUNK_TREE, EXTENT_CSUM_OBJECTID, EXTENT_TREE, ROOT_TREE}
+pub use Rattle.btr_tree.specs.btrfs_format.declared.object.TheConstants.{CHUNK_TREE, EXTENT_CSUM_OBJECTID, EXTENT_TREE, FREE_SPACE_TREE, ROOT_TREE}
 pub use Rattle.btr_tree.specs.declared.climb.Root.{Root}
 pub use Rattle.btr_tree.specs.outside.History.{History, Image, WritesOnly, block_at, reads}
 pub use Rattle.btr_tree.specs.vol_block.declared.ids.Ids.{Ids}
@@ -34,11 +34,12 @@ pub use Rattle.btr_tree_writer.specs.Trees.{AreWritable, TreeStands, read_form}
 pub use Rattle.btr_tree_writer.specs.declared.answer.WriteAnswer.{WriteAnswer}
 pub use Rattle.btr_tree_writer.specs.declared.form.NodeForm.{NodeForm}
 pub use Rattle.btr_tree_writer.specs.declared.trees.Trees.{Trees}
-pub use Rattle.convert_steps.proofs.Row.{ascends, behind-append, behind_each, behind_least, few_told, items_by, nodes-append, nodes_by, numbers_apart, numbers_of, roots_few, row_counted, stand-append, stand_by}
+pub use Rattle.convert_steps.proofs.Row.{ascends, behind-append, behind_each, behind_least, few_told, items_by, nodes-append, nodes_by, numbers_apart, numbers_of, root_numbers, roots_few, row_counted, stand-append, stand_by}
+pub use Rattle.convert_steps.proofs.Slots.{slots_are_places}
 pub use Rattle.convert_steps.proofs.extent_pieces.Lists.{all_at, pairs_head, pairs_tail}
-pub use Rattle.convert_steps.specs.Making.{IsMaking, Making, chunk_slots, new_ids, slots}
+pub use Rattle.convert_steps.specs.Making.{IsMaking, Making, chunk_slots, new_ids, places_for, slots}
 pub use Rattle.convert_steps.specs.Row.{StandBehind, inserted, nodes_behind, slot_behind, with_all}
-pub use Rattle.convert_steps.specs.Standing.{AllFit, IsFor, SameVolume, TreeRoots, TreesStand, chunk_count, form, items_of, no_root, no_trees, nodes_for, placed_trees, root_tree_items, roots_told, told_root, told_roots}
+pub use Rattle.convert_steps.specs.Standing.{AllFit, IsFor, SameVolume, TreeRoots, TreesStand, chunk_count, chunk_tree_nodes, form, free_count, free_lengths, free_nodes, items_of, no_free, no_root, no_trees, nodes_for, placed_trees, root_tree_items, roots_told, space_tree_items, told_root, told_roots}
 pub use Rattle.convert_steps.specs.declared.fields.NewRoots.{NewRoots}
 pub use Rattle.convert_steps.specs.declared.trees.PlacedTree.{PlacedTree}
 pub use Rattle.convert_steps.specs.extent_pieces.Laws.{HasPlan, HoldsUsed, LiesInUnit}
@@ -46,9 +47,10 @@ pub use Rattle.convert_trees.specs.Adding.{Adds, AddsExtents}
 pub use Rattle.convert_trees.specs.First.{AddsRow, FitRow, first_items, row_count}
 pub use Rattle.convert_trees.specs.RootTree.{AddsLast, items_of_root, root_count, saved_in, slots_needed}
 pub use Rattle.convert_trees.specs.Sources.{FitsFiles, FitsSumBlocks, HasPlacedPieces, IsInPieces, IsUsedBlock, ReadsVolume, pieces_end}
-pub use Rattle.convert_trees.specs.declared.last.WrittenExtents.{WrittenExtents}
+pub use Rattle.convert_trees.specs.Space.{AddsSpace, SpaceStands, free_many, has_root, space_nodes}
 pub use Rattle.file_items.specs.Stream.{Comes, FitsBlocks, FitsRestBlocks, StandsNext, ahead}
 pub use Rattle.file_items.specs.declared.items.Items.{Items}
+pub use Rattle.free_items.specs.Used.{free_tree_items}
 pub use Rattle.indexmap.specs.IndexMap.{keys}
 pub use Rattle.reiser_volume.proofs.Unchanged.{opened_same, same_volume}
 pub use Rattle.reiser_volume.proofs.reiser_bitmap.Ranges.{all_from_contains, contains_cases, contains_head, contains_tail, range_contains}

@@ -1,11 +1,18 @@
 -- How long the items of the root tree are goes by no root.
-use Rattle.convert_trees.proofs.Imports.{◌≡◌, ◌∙◌, ℕ, ◌-◌, ◌≤◌, List, [], ◌∷◌, length, length-append, map, refl, sym, ap, ap₂, arith, length-map, length-merge, map-merge, merge, ROOT_ITEM, key_layout, make_key, lengths_of, Root, other_root_items, tree_root_item, root_items, Ids, told_roots, PlacedTree, new_trees, TreeRoot, numbers_of, roots_few}
+use Rattle.convert_trees.proofs.Imports.{◌≡◌, ◌∙◌, ℕ, ◌-◌, ◌≤◌, List, [], ◌∷◌, length, length-append, map, refl, sym, ap, ap₂, arith, Option, None, Some, length-map, length-merge, map-merge, merge, ROOT_ITEM, key_layout, make_key, lengths_of, Root, other_root_items, tree_root_item, root_items, Ids, told_roots, PlacedTree, new_trees, TreeRoot, numbers_of, root_numbers, roots_few, has_root}
 use Rattle.btr_tree.specs.btr_keys.Inode.{inode_layout}
 use Rattle.btr_tree.specs.btr_keys.Stamp.{stamp_layout}
 use Rattle.convert_steps.specs.btr_space_items.RootItem.{root_item_layout}
 use Rattle.space_items.specs.Merging.{item_cmp}
 use Rattle.space_items.proofs.Levels.{map-map}
 use Rattle.space_items.proofs.Shapes.{Shape, shape, shape_cmp}
+
+-- the numbers go by whether there is a free space tree
+numbers_by : (free more : Option Root) → has_root free ≡ has_root more → root_numbers free ≡ root_numbers more
+numbers_by None None same = refl
+numbers_by (Some root) (Some other) same = refl
+numbers_by None (Some other) same = absurd (cc same)
+numbers_by (Some root) None same = absurd (cc same)
 
 abbrev rootless : TreeRoot → TreeRoot
 rootless r = record { tree = r.tree; root = record { address = 0; level = 0; nodes = 0 } }
@@ -42,15 +49,16 @@ module _ (index : ℕ) (ids : Ids) (now nodesize : ℕ) where
       number_shape n = root_shape (record { tree = n; root = record { address = 0; level = 0; nodes = 0 } })
 
   -- the items are as long wherever the trees begin
-  pub root_lengths : (placed others : List PlacedTree) (one other : Root) → map (λ p. p.tree) placed ≡ new_trees → map (λ p. p.tree) others ≡ new_trees
-      → lengths_of (root_items (told_roots placed one) index ids now nodesize) ≡ lengths_of (root_items (told_roots others other) index ids now nodesize)
-  root_lengths placed others one other are also = lengths_alike (told_roots placed one) (told_roots others other) (numbers_of placed one are ∙ sym (numbers_of others other also))
+  pub root_lengths : (placed others : List PlacedTree) (one other : Root) (free more : Option Root) → map (λ p. p.tree) placed ≡ new_trees → map (λ p. p.tree) others ≡ new_trees → has_root free ≡ has_root more
+      → lengths_of (root_items (told_roots placed one free) index ids now nodesize) ≡ lengths_of (root_items (told_roots others other more) index ids now nodesize)
+  root_lengths placed others one other free more are also same =
+      lengths_alike (told_roots placed one free) (told_roots others other more) (numbers_of placed one free are ∙ (numbers_by free more same ∙ sym (numbers_of others other more also)))
 
   -- there are seventeen at most
-  pub root_items_few : (placed : List PlacedTree) (extents : Root) → map (λ p. p.tree) placed ≡ new_trees → length (root_items (told_roots placed extents) index ids now nodesize) ≤ 17
-  root_items_few placed extents are =
-      let list : List TreeRoot = told_roots placed extents in
+  pub root_items_few : (placed : List PlacedTree) (extents : Root) (free : Option Root) → map (λ p. p.tree) placed ≡ new_trees → length (root_items (told_roots placed extents free) index ids now nodesize) ≤ 17
+  root_items_few placed extents free are =
+      let list : List TreeRoot = told_roots placed extents free in
       let many = length-merge item_cmp (map (tree_root_item ids nodesize) list) (other_root_items index now) in
       let long = length-map list (tree_root_item ids nodesize) in
-      let few = roots_few placed extents are in
+      let few = roots_few placed extents free are in
       omega (arith, many, long, few)

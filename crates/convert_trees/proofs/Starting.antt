@@ -1,7 +1,7 @@
 -- What the trees need is there when the writing begins.
-use Rattle.convert_trees.proofs.Imports.{◌≡◌, ◌∙◌, ℕ, ◌+◌, ◌≤◌, ◌++◌, List, [], drop, get_or, length, map, sym, ap, ap₂, subst, arith, All, Contains, Image, History, reads, Item, IsNodeSize, tree_nodes, lengths_of, all_at, IsFreeUnit, Volume, FitTree, FitLeaves, roomy, IsSlotRow, LieApart, AreWritable, read_form, TreeNode, NodeForm, Trees, AreUnitsApart, IsSoundPlan, node_places, PlannedChunk, Options, Piece, Plan, Ids, first_items, AddsRow, FitRow, row_count, HasPlacedPieces, IsInPieces, IsUsedBlock, new_trees, NewTree, nodes_by, row_counted, stand_by, slot_behind, PlacedTree}
+use Rattle.convert_trees.proofs.Imports.{◌≡◌, ◌∙◌, ℕ, ◌+◌, ◌≤◌, ◌++◌, List, [], drop, get_or, length, map, sym, ap, ap₂, subst, arith, All, Contains, Image, History, reads, Item, IsNodeSize, tree_nodes, lengths_of, all_at, IsFreeUnit, Volume, FitTree, FitLeaves, roomy, IsSlotRow, LieApart, AreWritable, read_form, TreeNode, NodeForm, Trees, AreUnitsApart, IsSoundPlan, All-contains_itself, places_for, node_places, PlannedChunk, Options, Piece, Plan, Ids, first_items, AddsRow, FitRow, row_count, HasPlacedPieces, IsInPieces, IsUsedBlock, new_trees, NewTree, nodes_by, row_counted, stand_by, slot_behind, PlacedTree, slots_are_places}
 use Rattle.unit_plan.specs.declared.need.Need.{Need}
-use Rattle.convert_trees.proofs.Behind.{row_with}
+use Rattle.convert_trees.proofs.Behind.{in_more, row_with}
 use Rattle.convert_trees.proofs.Going.{Goes}
 use Rattle.convert_trees.proofs.Opening.{Begins, has_still, items_still}
 use Rattle.convert_trees.proofs.Given.{Given, counts_by, node_form}
@@ -41,22 +41,22 @@ counted_by row form end placed image items same none are adds =
 
 module _ (volume : Volume) (o : Options) (ids : Ids) (now : ℕ) (plan : Plan) (pieces : List Piece) (chunks : List PlannedChunk) (image other : Image) (given : Given volume o ids now plan pieces chunks image other) (size : IsNodeSize o.nodesize) where
   -- slots of units that are free, and not for data
-  pub begins : (units : List ℕ) (row : Trees) (h : History) → All (IsFreeUnit volume.bitmap) units → AreUnitsApart units plan.data_ → row ≡ row_with (node_form o ids) (node_places o.nodesize units) 0 [] → IsSlotRow row → reads h ≡ other
-      → Begins volume pieces row other h
-  begins units row h free apart fresh is_row is = record {
+  pub begins : (units places : List ℕ) (row : Trees) (h : History) → All (IsFreeUnit volume.bitmap) units → AreUnitsApart units plan.data_ → All (Contains (node_places o.nodesize units)) places → row ≡ row_with (node_form o ids) places 0 [] → IsSlotRow row
+      → reads h ≡ other → Begins volume pieces row other h
+  begins units places row h free apart among_units fresh is_row is = record {
     is_row = is_row;
     blocks = is;
     there = given.volume_there;
-    used = subst (λ (x : Trees). LieApart (IsUsedBlock volume) x.form.nodesize x.slots) (sym fresh) (units_unused volume.bitmap o.nodesize units size all_free);
+    used = subst (λ (x : Trees). LieApart (IsUsedBlock volume) x.form.nodesize x.slots) (sym fresh) (λ b needed inside. units_unused volume.bitmap o.nodesize units size all_free b needed (in_more o.nodesize places (node_places o.nodesize units) b among_units inside));
     placed =
         subst (λ (x : Trees). LieApart (IsInPieces pieces) x.form.nodesize x.slots) (sym fresh)
-        (pieces_apart volume.bitmap o.nodesize units plan.data_ pieces size all_free apart given.moved given.stay);
+        (λ b needed inside. pieces_apart volume.bitmap o.nodesize units plan.data_ pieces size all_free apart given.moved given.stay b needed (in_more o.nodesize places (node_places o.nodesize units) b among_units inside));
   }
     where
       all_free : (u : ℕ) → Contains units u → IsFreeUnit volume.bitmap u
       all_free u among = all_at (IsFreeUnit volume.bitmap) units u free among
 
-  pub first_fit : (row : Trees) → row ≡ row_with (node_form o ids) (node_places o.nodesize plan.metadata) 0 [] → FitRow row (first_items volume pieces o ids now chunks other) new_trees
+  pub first_fit : (row : Trees) → row ≡ row_with (node_form o ids) (places_for o chunks plan.metadata) 0 [] → FitRow row (first_items volume pieces o ids now chunks other) new_trees
   first_fit row fresh =
       subst (λ (x : Trees). FitRow x (first_items volume pieces o ids now chunks other) new_trees) (sym fresh) (record {
         each = given.each;
@@ -73,10 +73,10 @@ module _ (volume : Volume) (o : Options) (ids : Ids) (now : ℕ) (plan : Plan) (
 
   pub ready : (need : Need) (chunk_row chunk_end row : Trees) (n : ℕ) (start h : History) → IsSoundPlan volume.bitmap need plan → reads start ≡ other
       → chunk_row ≡ row_with (node_form o ids) (node_places o.nodesize plan.system) 0 [] → IsSlotRow chunk_row → Goes chunk_row chunk_end n start h
-      → row ≡ row_with (node_form o ids) (node_places o.nodesize plan.metadata) 0 [] → IsSlotRow row → Ready row h
+      → row ≡ row_with (node_form o ids) (places_for o chunks plan.metadata) 0 [] → IsSlotRow row → Ready row h
   ready need chunk_row chunk_end row n start h sound is chunk_fresh chunk_is goes fresh row_is =
-      let chunk_begins = begins plan.system chunk_row start sound.system.free sound.system_data chunk_fresh chunk_is is in
-      let starts = begins plan.metadata row start sound.metadata.free sound.metadata_data fresh row_is is in
+      let chunk_begins = begins plan.system (node_places o.nodesize plan.system) chunk_row start sound.system.free sound.system_data (All-contains_itself (node_places o.nodesize plan.system)) chunk_fresh chunk_is is in
+      let starts = begins plan.metadata (places_for o chunks plan.metadata) row start sound.metadata.free sound.metadata_data (slots_are_places o chunks plan.metadata) fresh row_is is in
       let same = items_still volume pieces chunk_row other start chunk_begins chunk_end n h goes o ids now chunks in
       record {
         there = has_still volume pieces chunk_row other start chunk_begins chunk_end n h goes;

@@ -22,7 +22,6 @@ pub record Adds (image : Image) (old new : Trees) (owner : ℕ) (items : List It
 
 -- The extent tree stands there, which tells of all nodes, its own among them, and the bytes of all extents are told.
 pub record AddsExtents (image : Image) (old new : Trees) (chunks : List PlannedChunk) (pieces : List Piece) (others : List TreeNode) (x : WrittenExtents) : Type 0 where
-  pub nodes : List TreeNode
-  pub adds : Adds image old new EXTENT_TREE (extent_items chunks pieces nodes old.form.nodesize) x.root
-  pub are_all : nodes ≡ merged_nodes (merged_nodes old.nodes others) (nodes_of_tree EXTENT_TREE old.form.nodesize (lengths_of (extent_items chunks pieces nodes old.form.nodesize)) (drop old.taken old.slots))
-  pub used : x.used ≡ sum_by (used_in pieces nodes old.form.nodesize) chunks
+  pub adds : Adds image old new EXTENT_TREE (extent_items chunks pieces x.nodes old.form.nodesize) x.root
+  pub are_all : x.nodes ≡ merged_nodes (merged_nodes old.nodes others) (nodes_of_tree EXTENT_TREE old.form.nodesize (lengths_of (extent_items chunks pieces x.nodes old.form.nodesize)) (drop old.taken old.slots))
+  pub used : x.used ≡ sum_by (used_in pieces x.nodes old.form.nodesize) chunks

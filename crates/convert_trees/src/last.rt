@@ -28,9 +28,11 @@ use unit_plan::item_bytes::{BLOCK_GROUP_BYTES, EXTENT_BYTES, NODE_BYTES};
 use unit_plan::{PieceList, chunks_of};
 
 /// The extent tree that was written.
-#[derive(Clone, Copy)]
+#[derive(Drop)]
 pub struct WrittenExtents {
     pub root: Root,
+    /// All nodes of all trees.
+    pub nodes: NodeList,
     /// The bytes of all extents and nodes.
     pub used: u64,
 }
@@ -108,6 +110,9 @@ pub fn write_extents<D: Disk, P: PieceList>(
     ensures row { OnOk result (IsSlotRow row.new) }
     ensures same { (row.new.form ≡ row.old.form) × (row.new.slots ≡ row.old.slots) }
     ensures taken { IfOk result (λ x. row.new.taken ≡ row.old.taken + x.root.nodes) }
+    ensures nodes { IfOk result (λ x. AreNodes x.nodes) }
+    ensures all { (chunks : List PlannedChunkOf) → AreChunks w.now.plan.now w.now.volume.now.sup.blocks chunks → IfOk result (λ x. x.nodes ≡ merged_nodes (merged_nodes row.old.nodes chunk_nodes.now)
+        (nodes_of_tree EXTENT_TREE w.now.form.nodesize (lengths_of (extent_items chunks (P.pieces w.now.pieces.now) x.nodes w.now.form.nodesize)) (drop row.old.taken row.old.slots))) }
     ensures tree { IsTrue D.tells → (chunks : List PlannedChunkOf) → AreChunks w.now.plan.now w.now.volume.now.sup.blocks chunks
         → own_bound chunks (P.pieces w.now.pieces.now) (merged_nodes row.old.nodes chunk_nodes.now) w.now.form.nodesize ≤ length row.old.slots - row.old.taken
         → MatchResult result (λ x. AddsExtents (reads (D.history disk.new)) row.old row.new chunks (P.pieces w.now.pieces.now) chunk_nodes.now x) IsFailure }
@@ -127,5 +132,5 @@ pub fn write_extents<D: Disk, P: PieceList>(
         nodes: &nodes,
     };
     let root = row.write(w.alloc, disk, EXTENT_TREE, &mut items)?;
-    Ok(WrittenExtents { root, used })
+    Ok(WrittenExtents { root, nodes, used })
 }

@@ -3,10 +3,12 @@
 #![tactic(auto)]
 
 mod first;
+mod keep;
 mod last;
 mod root_tree;
 mod roots;
 mod sources;
+mod space;
 mod write;
 mod writing;
 

@@ -1,5 +1,5 @@
 // The root tree, which tells where each tree begins, and the slots that are kept for it.
-ghost use Rattle.std.specs.Prelude.{◌≡◌, ◌≤◌, ◌<◌, ◌+◌, ◌*◌, ◌^◌, ◌⊎◌, ◌++◌, List, Some, All, drop, length, map, take, IsTrue, IfOk, IfErr, OnOk};
+ghost use Rattle.std.specs.Prelude.{◌≡◌, ◌≤◌, ◌<◌, ◌+◌, ◌*◌, ◌^◌, ◌⊎◌, ◌++◌, List, Option, Some, true, All, drop, length, map, take, IsTrue, IfOk, IfErr, OnOk};
 ghost use Rattle.std.specs.Result.{MatchResult};
 ghost use Rattle.btr_tree.specs.outside.Fault.{HasCauseOf};
 ghost use Rattle.btr_tree.specs.outside.History.{Image, reads, WritesOnly};
@@ -16,22 +16,24 @@ ghost use Rattle.btr_tree_writer.specs.Answers.{IsFailure};
 ghost use Rattle.btr_tree_writer.specs.Row.{IsSlotRow};
 ghost use Rattle.unit_plan.specs.Chunks.{AreChunks, FitsVolume};
 ghost use Rattle.unit_plan.specs.declared.chunk.PlannedChunk.{PlannedChunk as PlannedChunkOf};
+ghost use Rattle.convert_steps.specs.Space.{SpaceFits};
 ghost use Rattle.convert_trees.specs.RootTree.{AddsLast, root_count, saved_in, slots_needed};
+ghost use Rattle.convert_trees.specs.Space.{AreLow, free_many, has_root};
 ghost use Rattle.unit_plan.specs.Trees.{new_trees};
 ghost use Rattle.convert_steps.specs.Standing.{told_roots};
 
-use crate::last::write_extents;
+use crate::keep::keep;
 use crate::roots::{counted, root_list, saved_index};
+use crate::space::write_space;
 use crate::writing::Writing;
 use btr_tree::btrfs_format::object::ROOT_TREE;
-use btr_tree::{Access, Disk, Memory, Root, Slots};
+use btr_tree::{Access, Disk, Root, Slots};
 use btr_tree_writer::{ListItems, Trees, WriteAnswer, write_tree};
 use convert_steps::{NewRoots, PlacedTrees};
 use space_items::NodeList;
-use std::alloc::Global;
 use unit_plan::PieceList;
 
-/// Keeps slots for the root tree, writes the extent tree behind them, and then the root tree.
+/// Keeps slots for the root tree, writes the trees that tell of space behind them, and then the root tree.
 pub fn write_last<D: Disk, P: PieceList>(
     row: &mut Trees,
     disk: &mut D,
@@ -50,13 +52,15 @@ pub fn write_last<D: Disk, P: PieceList>(
     requires units { FitsVolume w.now.plan.now w.now.volume.now.sup.blocks }
     requires pieces { ArePieces (P.pieces w.now.pieces.now) }
     requires nodes { AreNodes chunk_nodes.now }
-    requires few { length chunk_nodes.now < 2 ^ 43 }
     requires placed { map (λ p. p.tree) placed.now ≡ new_trees }
     requires roots { All (λ p. p.root.nodes < 2 ^ 43) placed.now }
+    requires low { AreLow row.old.form.nodesize row.old.slots }
+    requires nodes_low { AreLow w.now.form.nodesize (map (λ n. n.address) chunk_nodes.now) }
     ensures same { IfOk result (λ t. t.chunk ≡ chunk) }
     ensures trees { IsTrue D.tells → (opened : Image) → IsOpened w.now.volume.now opened → (chunks : List PlannedChunkOf) → AreChunks w.now.plan.now w.now.volume.now.sup.blocks chunks
-        → slots_needed row.old.form.nodesize row.old.taken (root_count row.old.form (saved_in w.now.volume.now) w.now.time) (length (P.pieces w.now.pieces.now)) (length chunks) (length chunk_nodes.now) ≤ length row.old.slots
-        → MatchResult result (AddsLast (reads (D.history disk.new)) row.old (saved_in w.now.volume.now) w.now.time chunks (P.pieces w.now.pieces.now) chunk_nodes.now placed.now) IsFailure }
+        → (w.now.options.now.free_tree ≡ true → SpaceFits chunks (P.pieces w.now.pieces.now) row.old.form.nodesize row.old.slots chunk_nodes.now)
+        → slots_needed row.old.form.nodesize row.old.taken (root_count row.old.form (saved_in w.now.volume.now) w.now.time w.now.options.now.free_tree + free_many w.now.options.now.free_tree chunks (P.pieces w.now.pieces.now) row.old.form.nodesize chunk_nodes.now) (length (P.pieces w.now.pieces.now)) (length chunks) (length chunk_nodes.now) ≤ length row.old.slots
+        → MatchResult result (AddsLast (reads (D.history disk.new)) row.old (saved_in w.now.volume.now) w.now.time w.now.options.now.free_tree chunks (P.pieces w.now.pieces.now) chunk_nodes.now placed.now) IsFailure }
     ensures open { D.opened disk.new ≡ D.opened disk.old }
     ensures size { D.size disk.new ≡ D.size disk.old }
     ensures borrow { D.borrow disk.new ≡ D.borrow disk.old }
@@ -65,8 +69,8 @@ pub fn write_last<D: Disk, P: PieceList>(
 {
     let index = saved_index(w.volume);
     let slots = keep_roots(row, w, placed, index)?;
-    let written = write_extents(row, disk, w, chunk_nodes)?;
-    let list = root_list(w, placed, written.root, index)?;
+    let written = write_space(row, disk, w, chunk_nodes)?;
+    let list = root_list(w, placed, written.extents, written.free, index)?;
     let tree = write_tree(
         w.alloc,
         disk,
@@ -97,32 +101,22 @@ fn keep_roots<P: PieceList>(
     requires few { All (λ p. p.root.nodes < 2 ^ 43) placed.now }
     ensures row { OnOk result (IsSlotRow row.new) }
     ensures same { (row.new.form ≡ row.old.form) × (row.new.slots ≡ row.old.slots) }
-    ensures slots { (extents : RootOf) → IfOk result (λ slots. slots ≡ take (tree_nodes w.now.form.nodesize (lengths_of (root_items (told_roots placed.now extents) index w.now.form.ids w.now.time w.now.form.nodesize))) (drop row.old.taken row.old.slots)) }
+    ensures slots { (extents : RootOf) (free : Option RootOf) → has_root free ≡ w.now.options.now.free_tree → IfOk result (λ slots. slots ≡ take (tree_nodes w.now.form.nodesize (lengths_of (root_items (told_roots placed.now extents free) index w.now.form.ids w.now.time w.now.form.nodesize))) (drop row.old.taken row.old.slots)) }
     ensures taken { IfOk result (λ slots. row.new.taken ≡ row.old.taken + length slots) }
-    ensures nodes { (extents : RootOf) → OnOk result (row.new.nodes ≡ row.old.nodes ++ nodes_of_tree ROOT_TREE w.now.form.nodesize (lengths_of (root_items (told_roots placed.now extents) index w.now.form.ids w.now.time w.now.form.nodesize)) (drop row.old.taken row.old.slots)) }
+    ensures nodes { (extents : RootOf) (free : Option RootOf) → has_root free ≡ w.now.options.now.free_tree → OnOk result (row.new.nodes ≡ row.old.nodes ++ nodes_of_tree ROOT_TREE w.now.form.nodesize (lengths_of (root_items (told_roots placed.now extents free) index w.now.form.ids w.now.time w.now.form.nodesize)) (drop row.old.taken row.old.slots)) }
     ensures answers { IfErr result (λ e. (e ≡ WriteAnswer.Misfit) ⊎ (e ≡ WriteAnswer.Memory)) }
-    ensures misfit { (extents : RootOf) → row.old.taken + tree_nodes w.now.form.nodesize (lengths_of (root_items (told_roots placed.now extents) index w.now.form.ids w.now.time w.now.form.nodesize)) ≤ length row.old.slots → IfErr result (λ e. e ≡ WriteAnswer.Memory) }
+    ensures misfit { (extents : RootOf) (free : Option RootOf) → has_root free ≡ w.now.options.now.free_tree → row.old.taken + tree_nodes w.now.form.nodesize (lengths_of (root_items (told_roots placed.now extents free) index w.now.form.ids w.now.time w.now.form.nodesize)) ≤ length row.old.slots → IfErr result (λ e. e ≡ WriteAnswer.Memory) }
 {
     let none = Root {
         address: 0,
         level: 0,
         nodes: 0,
     };
-    let list = root_list(w, placed, none, index)?;
-    let from = row.taken();
-    row.take(&counted(&list, w.form.nodesize), ROOT_TREE)?;
-    let rest = row.slots_from(w.alloc, from)?;
-    Ok(first_slots(w.alloc, &rest, row.taken() - from)?)
-}
-
-/// The first slots of a list, so many.
-fn first_slots(alloc: Global, slots: &Slots, count: usize) -> Result<Slots, Memory>
-    requires { count ≤ length slots.now }
-    ensures { IfOk result (λ first. first ≡ take count slots.now) }
-{
-    let mut first = Slots::new(alloc);
-    for &slot in &slots.as_slice()[..count] {
-        first.add(slot)?;
-    }
-    Ok(first)
+    let free = if w.options.free_tree {
+        Some(none)
+    } else {
+        None
+    };
+    let list = root_list(w, placed, none, free, index)?;
+    keep(w.alloc, row, &counted(&list, w.form.nodesize), ROOT_TREE)
 }

@@ -10,12 +10,12 @@ ghost use Rattle.space_items.specs.Roots.{root_items};
 ghost use Rattle.space_items.specs.declared.node.TreeRoot.{TreeRoot as TreeRootOf};
 ghost use Rattle.unit_plan.specs.Trees.{new_trees};
 ghost use Rattle.convert_steps.specs.Row.{inserted};
-ghost use Rattle.convert_steps.specs.Standing.{told_roots};
+ghost use Rattle.convert_steps.specs.Standing.{of_free, told_roots};
 ghost use Rattle.convert_trees.specs.Roots.{AreFew};
 
 use crate::writing::Writing;
 use btr_item_list::ItemList;
-use btr_tree::btrfs_format::object::EXTENT_TREE;
+use btr_tree::btrfs_format::object::{EXTENT_TREE, FREE_SPACE_TREE};
 use btr_tree::{Counter, Memory, Root};
 use convert_steps::{PlacedTree, PlacedTrees};
 use reiser_volume::{InodeNumbers, Volume};
@@ -23,38 +23,58 @@ use space_items::{RootList, TreeRoot, roots};
 use std::alloc::Global;
 use unit_plan::PieceList;
 
-/// The items of the root tree, where the extent tree begins at this root.
+/// The items of the root tree, where the extent tree begins at this root, and the free space tree at that one, where there is one.
 pub fn root_list<P: PieceList>(
     w: &Writing<'_, P>,
     placed: &PlacedTrees,
     extents: Root,
+    free: Option<Root>,
     index: u64,
 ) -> Result<ItemList, Memory>
     requires moment { w.now.time < 2 ^ 63 }
     requires size { IsNodeSize w.now.form.nodesize }
     requires trees { map (λ p. p.tree) placed.now ≡ new_trees }
-    requires few { AreFew placed.now extents }
-    ensures { IfOk result (λ items. items ≡ root_items (told_roots placed.now extents) index w.now.form.ids w.now.time w.now.form.nodesize) }
+    requires few { AreFew placed.now extents free }
+    ensures { IfOk result (λ items. items ≡ root_items (told_roots placed.now extents free) index w.now.form.ids w.now.time w.now.form.nodesize) }
 {
-    let list = told_roots(w.alloc, placed.as_slice(), extents)?;
+    let list = told_roots(w.alloc, placed.as_slice(), extents, free)?;
     roots(w.alloc, &list, index, &w.form.ids, w.time, w.form.nodesize)
 }
 
-/// The extent tree and these trees, by their numbers.
-fn told_roots(alloc: Global, placed: &[PlacedTree], extents: Root) -> Result<RootList, Memory>
-    ensures { IfOk result (λ list. list ≡ told_roots placed.now extents) }
+/// The extent tree, the free space tree and these trees, by their numbers.
+fn told_roots(
+    alloc: Global,
+    placed: &[PlacedTree],
+    extents: Root,
+    free: Option<Root>,
+) -> Result<RootList, Memory>
+    ensures { IfOk result (λ list. list ≡ told_roots placed.now extents free) }
 {
-    let mut list = RootList::new(alloc);
-    list.add(TreeRoot {
-        tree: EXTENT_TREE,
-        root: extents,
-    })?;
+    let mut list = space_roots(alloc, extents, free)?;
     for one in placed {
         let root = TreeRoot {
             tree: one.tree.number(),
             root: one.root,
         };
         list = with_root(alloc, list.as_slice(), root)?;
+    }
+    Ok(list)
+}
+
+/// The extent tree and the free space tree.
+fn space_roots(alloc: Global, extents: Root, free: Option<Root>) -> Result<RootList, Memory>
+    ensures { IfOk result (λ list. list ≡ record { tree = EXTENT_TREE; root = extents } ∷ of_free (λ root. record { tree = FREE_SPACE_TREE; root = root }) free) }
+{
+    let mut list = RootList::new(alloc);
+    list.add(TreeRoot {
+        tree: EXTENT_TREE,
+        root: extents,
+    })?;
+    if let Some(root) = free {
+        list.add(TreeRoot {
+            tree: FREE_SPACE_TREE,
+            root,
+        })?;
     }
     Ok(list)
 }

@@ -1,10 +1,10 @@
-ghost use Rattle.std.specs.Prelude.{◌≡◌, ◌≤◌, ◌<◌, ◌+◌, ◌*◌, ◌^◌, ◌⊎◌, [], List, Some, All, AllPairs, drop, length, map, IsTrue, IfOk, IfErr, OnOk};
+ghost use Rattle.std.specs.Prelude.{◌≡◌, ◌≤◌, ◌<◌, ◌+◌, ◌*◌, ◌^◌, ◌⊎◌, [], List, Some, All, AllPairs, Contains, drop, length, map, IsTrue, IfOk, IfErr, OnOk};
 ghost use Rattle.std.specs.Result.{MatchResult};
 ghost use Rattle.btr_tree.specs.outside.Fault.{HasCauseOf};
 ghost use Rattle.btr_tree.specs.outside.History.{Image, reads, OverTold, WritesOnly};
 ghost use Rattle.btr_tree.specs.btr_node.NodeSize.{IsNodeSize};
 ghost use Rattle.btr_tree.specs.Writing.{IsInSlots};
-ghost use Rattle.convert_steps.specs.Making.{IsMaking, Making as MakingOf};
+ghost use Rattle.convert_steps.specs.Making.{IsMaking, Making as MakingOf, places_for};
 ghost use Rattle.space_items.specs.Laws.{AreIds};
 ghost use Rattle.space_items.specs.Stream.{ArePieces};
 ghost use Rattle.space_items.specs.declared.node.TreeNode.{TreeNode as NodeOf};
@@ -27,10 +27,11 @@ use crate::writing::Writing;
 use btr_tree::{Access, Disk, Ids};
 use btr_tree_writer::{NodeForm, Trees, WriteAnswer};
 use convert_steps::{NewRoots, PlacedTree, PlacedTrees};
+use free_items::slots_before_ends;
 use reiser_volume::Volume;
 use std::alloc::Global;
 use unit_plan::convert_options::Options;
-use unit_plan::{NewTree, PieceList, Plan, Units, new_trees, slots_of};
+use unit_plan::{NewTree, PieceList, Plan, Units, chunks_of, new_trees, slots_of};
 
 /// Writes all trees of a converted volume: the chunk tree to the plan's units for it, and all others to those for metadata.
 /// `ids` are those of the new volume, and `now` is the time of the conversion in seconds since the start of 1970, below 2^63.
@@ -84,7 +85,7 @@ pub fn write_trees<D: Disk, P: PieceList>(
     };
     let mut chunk_row = row_of(&w, &plan.system)?;
     let chunk = write_chunks(&mut chunk_row, disk, &w)?;
-    let mut row = row_of(&w, &plan.metadata)?;
+    let mut row = row_of_trees(&w)?;
     let placed = write_row(&mut row, disk, &w, &new_trees())?;
     write_last(&mut row, disk, &w, chunk, &placed, chunk_row.nodes())
 }
@@ -108,6 +109,31 @@ fn row_of<P: PieceList>(w: &Writing<'_, P>, units: &Units) -> Result<Trees, Writ
     ensures answers { IfErr result (λ e. e ≡ WriteAnswer.Memory) }
 {
     let slots = slots_of(w.alloc, units, w.form.nodesize)?;
+    Ok(Trees::new(w.alloc, w.form, slots))
+}
+
+/// The slots for all trees but the chunk tree, none taken. Where there is a free space tree, the last one of each chunk is none of
+/// them.
+fn row_of_trees<P: PieceList>(w: &Writing<'_, P>) -> Result<Trees, WriteAnswer>
+    requires size { IsNodeSize w.now.form.nodesize }
+    requires same { w.now.form.nodesize ≡ w.now.options.now.nodesize }
+    requires small { w.now.volume.now.sup.blocks ≤ 2 ^ 29 }
+    requires units { FitsVolume w.now.plan.now w.now.volume.now.sup.blocks }
+    requires ascending { AllPairs (λ u v. u < v) w.now.plan.now.metadata }
+    requires within { All (λ u. 256 * u + 256 ≤ w.now.volume.now.sup.blocks) w.now.plan.now.metadata }
+    ensures row { IfOk result IsSlotRow }
+    ensures fields { IfOk result (λ row. (row.form ≡ w.now.form) × (row.taken ≡ 0) × (row.nodes ≡ [])) }
+    ensures slots { (chunks : List PlannedChunkOf) → AreChunks w.now.plan.now w.now.volume.now.sup.blocks chunks → IfOk result (λ row. row.slots ≡ places_for w.now.options.now chunks w.now.plan.now.metadata) }
+    ensures among { IfOk result (λ row. All (Contains (node_places w.now.form.nodesize w.now.plan.now.metadata)) row.slots) }
+    ensures in_range { IfOk result (λ row. All (λ a. a + w.now.form.nodesize ≤ 4096 * w.now.volume.now.sup.blocks) row.slots) }
+    ensures answers { IfErr result (λ e. e ≡ WriteAnswer.Memory) }
+{
+    let slots = slots_of(w.alloc, &w.plan.metadata, w.form.nodesize)?;
+    if !w.options.free_tree {
+        return Ok(Trees::new(w.alloc, w.form, slots));
+    }
+    let chunks = chunks_of(w.alloc, w.plan, w.volume.sup().blocks)?;
+    let slots = slots_before_ends(w.alloc, &slots, &chunks, w.form.nodesize)?;
     Ok(Trees::new(w.alloc, w.form, slots))
 }
 

@@ -1,37 +1,15 @@
 -- Of the items of each tree a tree can be made.
-use Rattle.convert_trees_laws.proofs.Imports.{◌≤◌, ◌<◌, ℕ, ◌+◌, ◌^◌, Bool, true, false, List, [], get_or, length, Option, Some, None, refl, arith, if◌then◌else◌, All-nil, MatchOption, Image, Item, places_are_apart, chunk_items_fit, IsMaking, Making, new_ids, saved_index, used_of, AreIds, FitTree, sum_items, Piece, NewTree, FileKeysAscend, ImageKeysAscend, ItemsAreShort, rooted_trees, placed_trees, chunk_bound, tree_bytes, AreSmall, checksum_tree_bytes, device_tree_bytes, file_tree_bytes, image_tree_bytes, Counts, FileTreeIsCounted, TreesAreCounted, bytes_in, new_trees, SumKind, Crc32c, Sha256}
+use Rattle.convert_trees_laws.proofs.Imports.{◌≤◌, ◌<◌, ℕ, ◌+◌, ◌^◌, Bool, true, false, List, [], get_or, length, Option, Some, None, refl, arith, if◌then◌else◌, All-nil, MatchOption, Image, Item, places_are_apart, chunk_items_fit, IsMaking, Making, new_ids, saved_index, used_of, AreIds, FitTree, sum_items, Piece, NewTree, FileKeysAscend, ImageKeysAscend, ItemsAreShort, rooted_trees, placed_trees, chunk_bound, tree_bytes, AreSmall, checksum_tree_bytes, device_tree_bytes, file_tree_bytes, image_tree_bytes, Counts, FileTreeIsCounted, TreesAreCounted, bytes_in, new_trees, SumKind, Crc32c, Sha256, ArePieces, FitLeaves, ArePlaced}
 use Rattle.convert_steps.specs.Standing.{items_of}
 use Rattle.convert_steps.specs.unit_plan.declared.tree.NewTree.TheVariants.{Files, SavedImage, Relocation, Checksums, Devices}
 use Rattle.convert_steps.proofs.space_items.StreamOrder.{sum_items_fit}
-use Rattle.convert_steps.specs.space_items.Stream.{ArePieces}
-use Rattle.convert_steps.specs.space_items.StreamLaws.{FitLeaves}
-use Rattle.convert_steps.specs.unit_plan.Pieces.{ArePlaced}
 use Rattle.convert_steps.proofs.Row.{ascends, roots_few}
 use Rattle.convert_trees_laws.proofs.Booting.{used_few}
 use Rattle.convert_trees_laws.proofs.ChunkBytes.{chunks_counted, device_counted, roots_counted}
 use Rattle.convert_trees_laws.proofs.SmallBytes.{image_counted, relocation_counted}
 use Rattle.convert_trees_laws.proofs.SumBytes.{sums_counted}
 use Rattle.convert_trees_laws.proofs.Others.{few_chunks, pieces_few, blocks_few}
-
--- pieces that have their places on a small volume are small
-module _ (blocks : ℕ) (few : blocks ≤ 2 ^ 29) (p : Piece) (some : 1 ≤ p.count) where
-  small_source : (from : Option ℕ) → MatchOption from (Unit {0}) (λ b. b + p.count ≤ blocks) → MatchOption from (Unit {0}) (λ b. b < 2 ^ 29)
-  small_source None h = tt
-  small_source (Some b) h = omega (arith, h, few, some)
-
-  small_owner : (owner : Option (ℕ × ℕ)) → MatchOption owner (Unit {0}) (λ o. o.1 + p.count ≤ 2 ^ 32) → MatchOption owner (Unit {0}) (λ o. o.1 < 2 ^ 32)
-  small_owner None h = tt
-  small_owner (Some o) h = omega (arith, h, some)
-
-pub pieces_small : (blocks : ℕ) (pieces : List Piece) → blocks ≤ 2 ^ 29 → ArePlaced blocks pieces → ArePieces pieces
-pieces_small blocks pieces few are = record {
-  small = λ k d h.
-      let p : Piece = get_or pieces k d in
-      let some = are.some k d h in
-      let inside = are.inside k d h in
-      record { some = some; place = omega (arith, inside, few); from = small_source blocks few p some p.from (are.sources k d h); owner = small_owner blocks few p some p.owner (are.owners k d h) };
-  ascending = are.ascending;
-}
+use Rattle.convert_trees_laws.proofs.Planning.{free_counted, pieces_are}
 
 -- a list of short items
 loose : (items : List Item) → FitTree items → FitLeaves items
@@ -42,8 +20,8 @@ sums_loose true sums image pieces are = sum_items_fit sums image pieces are
 sums_loose false sums image pieces are = record { ascend = refl; short = All-nil (λ (i : Item). length i.1 + 126 ≤ 4096) }
 
 module _ (files_ascend : FileKeysAscend) (small_ascend : ImageKeysAscend) (are_short : ItemsAreShort) (image other : Image) (m : Making) (made : IsMaking image m) (ids : AreIds (new_ids m)) where
-  are_pieces : ArePieces m.pieces
-  are_pieces = pieces_small (length (used_of image)) m.pieces (used_few image m made) (places_are_apart image made.has_pieces.found m.options m.plan m.pieces made.has_pieces.plan_ made.has_pieces.placed).apart
+  abbrev are_pieces : ArePieces m.pieces
+  are_pieces = pieces_are image m made
 
   pub fits : (t : NewTree) → FitLeaves (items_of image other m t)
   fits Files = record {
@@ -100,11 +78,12 @@ tree_counted counted image other m made are Devices =
     device_counted (new_ids m) m.chunks (chunk_bound made.has_pieces.found.counts.runs made.has_pieces.found.counts.blocks) are (few_chunks image m made)
 
 pub trees_counted : FileTreeIsCounted → TreesAreCounted
-trees_counted counted = λ image other m made are.
+trees_counted counted = λ image other m made size are.
     let counts : Counts = made.has_pieces.found.counts in
     record {
       each = λ i d inside. tree_counted counted image other m made are (get_or new_trees i d);
       chunk = chunks_counted (new_ids m) m.volume.sup.blocks m.chunks (chunk_bound counts.runs counts.blocks) are (few_chunks image m made);
       root = λ r.
-          roots_counted (rooted_trees r) (saved_index m) (new_ids m) m.now m.options.nodesize are (ascends (placed_trees r) r.extents refl) (roots_few (placed_trees r) r.extents refl);
+          roots_counted (rooted_trees r) (saved_index m) (new_ids m) m.now m.options.nodesize are (ascends (placed_trees r) r.extents r.free refl) (roots_few (placed_trees r) r.extents r.free refl);
+      free = free_counted image m made size are;
     }

@@ -76,7 +76,7 @@ pub use Rattle.convert_steps.proofs.space_items.OwnBound.{bound_up}
 pub use Rattle.convert_steps.proofs.unit_plan.Sound.{plans_sound}
 pub use Rattle.convert_steps.specs.Making.{IsMaking, Making, chunk_slots, new_ids, saved_index, slots}
 pub use Rattle.convert_steps.specs.Source.{ComesFrom, HasExtents, HasPieces, in_piece, made_from}
-pub use Rattle.convert_steps.specs.Standing.{AllFit, chunk_count, no_trees, nodes_for, other_count, own_count, placed_trees, root_tree_items, rooted_trees}
+pub use Rattle.convert_steps.specs.Standing.{AllFit, TreeRoots, chunk_count, chunk_tree_nodes, free_count, free_lengths, no_trees, nodes_for, other_count, own_count, placed_trees, root_tree_items, rooted_trees}
 pub use Rattle.convert_steps.specs.btr_item_list.Extents.{extent_item, inline_extent, regular_extent}
 pub use Rattle.convert_steps.specs.btr_item_list.Groups.{ascending, grouped, in_group, of_number}
 pub use Rattle.convert_steps.specs.btr_item_list.Inodes.{inode_item, inode_made, ref_item, stamp_of}
@@ -128,12 +128,15 @@ pub use Rattle.convert_steps.specs.reiser_volume_objects.declared.stat.ObjectSta
 pub use Rattle.convert_steps.specs.reiser_walk.Items.{Event, ReiserItem, item_at, item_of}
 pub use Rattle.convert_steps.specs.space_items.Chunks.{chunk_item, chunk_items, dev_extent_item, device_body, device_items}
 pub use Rattle.convert_steps.specs.space_items.Laws.{AreIds, FitTree}
+pub use Rattle.convert_steps.specs.space_items.Stream.{ArePieces}
+pub use Rattle.convert_steps.specs.space_items.StreamLaws.{FitLeaves}
 pub use Rattle.convert_steps.specs.space_items.Sums.{block_sum, run_items, sum_items, sums_item}
 pub use Rattle.convert_steps.specs.unit_plan.Choice.{HasEnoughSpace, IsPlan, is_among, lowest_long}
 pub use Rattle.convert_steps.specs.unit_plan.Chunks.{AreChunks, IsChunk, has_role, role_by, usable_end, use_of}
 unfoldable pub use Rattle.convert_steps.specs.unit_plan.Chunks.{role_of}
-pub use Rattle.convert_steps.specs.unit_plan.Laws.{IsSoundPlan}
-pub use Rattle.convert_steps.specs.unit_plan.Needed.{AreSmall, checksum_tree_bytes, chunk_bound, chunk_nodes, chunk_tree_bytes, device_tree_bytes, extent_nodes, extent_tree_bytes, file_tree_bytes, image_tree_bytes, need, nodes_in_unit, other_nodes, tree_bytes}
+pub use Rattle.convert_steps.specs.unit_plan.Laws.{AreFreeUnits, IsSoundPlan}
+pub use Rattle.convert_steps.specs.unit_plan.Needed.{AreSmall, checksum_tree_bytes, chunk_bound, chunk_nodes, chunk_tree_bytes, device_tree_bytes, extent_nodes, extent_tree_bytes, file_tree_bytes, free_tree_bytes, free_tree_nodes, image_tree_bytes, need, nodes_in_unit, other_nodes, spare_slots, tree_bytes}
+pub use Rattle.convert_steps.specs.unit_plan.Pieces.{ArePlaced}
 pub use Rattle.convert_steps.specs.unit_plan.Trees.{new_trees}
 pub use Rattle.convert_steps.specs.unit_plan.declared.chunk.PlannedChunk.{PlannedChunk}
 pub use Rattle.convert_steps.specs.unit_plan.declared.chunk.Role.{Role}

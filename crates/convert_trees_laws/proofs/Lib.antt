@@ -25,6 +25,7 @@ pub mod NodeCounts
 pub mod Others
 pub mod Paths
 pub mod PlacedSums
+pub mod Planning
 pub mod Rising
 pub mod Rowing
 pub mod Ruling

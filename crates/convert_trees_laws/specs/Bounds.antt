@@ -7,10 +7,10 @@ use Rattle.btr_reader.specs.btr_node.NodeSize.{IsNodeSize}
 use Rattle.convert_steps.specs.btr_tree.Counting.{bytes_of}
 use Rattle.convert_steps.specs.btr_tree.Roots.{lengths_of}
 use Rattle.convert_steps.specs.Making.{IsMaking, Making, new_ids}
-use Rattle.convert_steps.specs.Standing.{AllFit, TreeRoots, file_tree_items, items_of, root_tree_items}
+use Rattle.convert_steps.specs.Standing.{AllFit, TreeRoots, file_tree_items, free_lengths, items_of, root_tree_items}
 use Rattle.convert_steps.specs.space_items.Chunks.{chunk_items}
 use Rattle.convert_steps.specs.space_items.Laws.{AreIds}
-use Rattle.convert_steps.specs.unit_plan.Needed.{chunk_bound, chunk_tree_bytes, file_tree_bytes, tree_bytes}
+use Rattle.convert_steps.specs.unit_plan.Needed.{chunk_bound, chunk_tree_bytes, file_tree_bytes, free_tree_bytes, tree_bytes}
 use Rattle.convert_steps.specs.unit_plan.Trees.{new_trees}
 use Rattle.convert_steps.specs.unit_plan.declared.counts.Counts.{Counts}
 
@@ -27,9 +27,10 @@ pub record AreCounted (image other : Image) (m : Making) (c : Counts) : Type 0 w
   pub each : All (λ t. bytes_in (items_of image other m t) ≤ tree_bytes m.options.sums c t) new_trees
   pub chunk : bytes_in (chunk_items (new_ids m) m.volume.sup.blocks m.chunks) ≤ chunk_tree_bytes (chunk_bound c.runs c.blocks)
   pub root : (r : TreeRoots) → bytes_in (root_tree_items m r) ≤ ROOT_TREE_ROOM
+  pub free : bytes_of (free_lengths m) ≤ free_tree_bytes (chunk_bound c.runs c.blocks) c.pieces
 
 abbrev pub TreesAreCounted : Type 0
-TreesAreCounted = (image other : Image) (m : Making) (made : IsMaking image m) → AreIds (new_ids m) → AreCounted image other m made.has_pieces.found.counts
+TreesAreCounted = (image other : Image) (m : Making) (made : IsMaking image m) → IsNodeSize m.options.nodesize → AreIds (new_ids m) → AreCounted image other m made.has_pieces.found.counts
 
 -- a plan has the slots for all nodes
 abbrev pub PlansSuffice : Type 0

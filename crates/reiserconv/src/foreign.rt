@@ -22,8 +22,8 @@ pub fn of_others(word: &str) -> Option<&'static str> {
         "--no-progress" => Some(
             "There is no '{1}' here: only a terminal is told of the progress. Leave it out.",
         ),
-        "-O" | "--features" => Some(
-            "There is no '{1}' here: the features of the new volume can't be chosen. Leave it out.",
+        "-O" => Some(
+            "'{1}' is '--features' here, with free-space-tree behind a space. No other feature can be chosen.",
         ),
         "--checksum" => Some("'{1}' is '--csum' here, with crc32c or sha256 behind a space."),
         "--dry-run" => Some(

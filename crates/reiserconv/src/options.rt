@@ -13,6 +13,7 @@ pub enum Choice {
     CopyLabel,
     Uuid,
     Csum,
+    Features,
     Verbose,
 }
 
@@ -26,6 +27,7 @@ pub fn option_words() -> &'static [&'static str] {
         "--copy-label",
         "--uuid",
         "--csum",
+        "--features",
         "--verbose",
         "--help",
         "--version",
@@ -43,6 +45,7 @@ impl Choice {
             "--copy-label" => Some(Choice::CopyLabel),
             "--uuid" => Some(Choice::Uuid),
             "--csum" => Some(Choice::Csum),
+            "--features" => Some(Choice::Features),
             "--verbose" => Some(Choice::Verbose),
             _ => None,
         }
@@ -58,6 +61,7 @@ impl Choice {
             Choice::CopyLabel => "--copy-label",
             Choice::Uuid => "--uuid",
             Choice::Csum => "--csum",
+            Choice::Features => "--features",
             Choice::Verbose => "--verbose",
         }
     }
@@ -66,7 +70,7 @@ impl Choice {
     pub fn has_value(self) -> bool {
         matches!(
             self,
-            Choice::Nodesize | Choice::Label | Choice::Uuid | Choice::Csum
+            Choice::Nodesize | Choice::Label | Choice::Uuid | Choice::Csum | Choice::Features
         )
     }
 
@@ -74,9 +78,11 @@ impl Choice {
     pub fn is_of(self, verb: Verb) -> bool {
         match self {
             Choice::Verbose => true,
-            Choice::Nodesize | Choice::NoInline | Choice::NoDatasum | Choice::Csum => {
-                matches!(verb, Verb::Inspect | Verb::Convert)
-            }
+            Choice::Nodesize
+            | Choice::NoInline
+            | Choice::NoDatasum
+            | Choice::Csum
+            | Choice::Features => { matches!(verb, Verb::Inspect | Verb::Convert) }
             Choice::Label | Choice::CopyLabel | Choice::Uuid => verb == Verb::Convert,
         }
     }
@@ -98,6 +104,7 @@ impl Choice {
             Choice::Label => wrong_label(alloc, value),
             Choice::Uuid => wrong_uuid(alloc, value),
             Choice::Csum => wrong_csum(alloc, value),
+            Choice::Features => wrong_feature(alloc, value),
             _ => Ok(None),
         }
     }
@@ -204,6 +211,29 @@ fn well_spelled(value: &str) -> Option<&'static str> {
         "CRC32C" | "crc-32c" | "CRC-32C" | "crc32" | "CRC32" => Some("crc32c"),
         "SHA256" | "sha-256" | "SHA-256" | "sha2" | "SHA2" => Some("sha256"),
         _ => None,
+    }
+}
+
+const NO_FEATURE: &str = "A value is missing behind '--features': free-space-tree.";
+
+const FEATURE: &str = "'{1}' is no feature: '--features' takes free-space-tree.";
+
+const FEATURE_SPELLED: &str = "'{1}' is written '{2}': write '--features {2}'.";
+
+/// What is wrong with the name of a feature.
+fn wrong_feature(alloc: Global, value: &str) -> Result<Option<Finding>, AllocError> {
+    if value.starts_with('-') {
+        return found(Finding::new(alloc, NO_FEATURE, "", ""));
+    }
+    match value {
+        "free-space-tree" => Ok(None),
+        "fst" | "free_space_tree" | "space_cache=v2" | "space-cache=v2" => found(Finding::new(
+            alloc,
+            FEATURE_SPELLED,
+            value,
+            "free-space-tree",
+        )),
+        _ => found(Finding::new(alloc, FEATURE, value, "")),
     }
 }
 

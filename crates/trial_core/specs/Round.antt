@@ -19,7 +19,7 @@ use Rattle.trial_core.specs.declared.known_volume.KnownVolume.{KnownVolume}
 
 -- a conversion for which nothing is asked
 abbrev pub plain : Options
-plain = record { nodesize = 16384; inline = true; datasum = true; label = LabelChoice.Empty; uuid = UuidChoice.New; sums = Crc32c }
+plain = record { nodesize = 16384; inline = true; datasum = true; label = LabelChoice.Empty; uuid = UuidChoice.New; sums = Crc32c; free_tree = false }
 
 -- ---- what is compared
 

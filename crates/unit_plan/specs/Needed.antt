@@ -1,9 +1,9 @@
 -- The space that a conversion needs, in units of 1 MiB. The bytes of each tree are an upper bound of what its items take,
 -- by the counts alone.
-use Rattle.std.specs.Prelude.{ℕ, ◌+◌, ◌*◌, ◌/◌, ◌^◌, ◌<◌}
+use Rattle.std.specs.Prelude.{ℕ, ◌+◌, ◌*◌, ◌/◌, ◌^◌, ◌<◌, if◌then◌else◌}
 use Rattle.std.specs.Int.{div_ceil}
 use Rattle.std.specs.List.{sum_by}
-use Rattle.unit_plan.specs.declared.item_bytes.TheConstants.{BLOCK_GROUP_BYTES, CHUNK_BYTES, DEVICE_BYTES, DEV_EXTENT_BYTES, EXTENT_BYTES, FILE_EXTENT_BYTES, HEAD_BYTES, IMAGE_ROOM, INLINE_BYTES, INODE_BYTES, NAME_BYTES, NAME_COPIES, NODE_BYTES, RELOCATION_ROOM, ROOT_DIRECTORY_ROOM, ROOT_TREE_ROOM}
+use Rattle.unit_plan.specs.declared.item_bytes.TheConstants.{BLOCK_GROUP_BYTES, CHUNK_BYTES, DEVICE_BYTES, DEV_EXTENT_BYTES, EXTENT_BYTES, FILE_EXTENT_BYTES, FREE_GROUP_BYTES, HEAD_BYTES, IMAGE_ROOM, INLINE_BYTES, INODE_BYTES, NAME_BYTES, NAME_COPIES, NODE_BYTES, RELOCATION_ROOM, ROOT_DIRECTORY_ROOM, ROOT_TREE_ROOM}
 use Rattle.btr_tree.specs.csum_kinds.declared.kind.SumKind.{SumKind}
 use Rattle.btr_tree.specs.csum_kinds.Kind.{kind_width}
 use Rattle.btr_tree.specs.Counting.{node_bound}
@@ -56,9 +56,20 @@ tree_bytes sums c Relocation = RELOCATION_ROOM
 tree_bytes sums c Checksums = checksum_tree_bytes sums c
 tree_bytes sums c Devices = device_tree_bytes (chunk_bound c.runs c.blocks)
 
+-- a block group of each chunk with one run, and one run more for each piece
+abbrev pub free_tree_bytes : ℕ → ℕ → ℕ
+free_tree_bytes chunks pieces = FREE_GROUP_BYTES * chunks + HEAD_BYTES * pieces
+
+abbrev pub free_tree_nodes : Options → Counts → ℕ
+free_tree_nodes o c = if o.free_tree then node_bound (free_tree_bytes (chunk_bound c.runs c.blocks) c.pieces) o.nodesize else 0
+
+-- the last slot of each chunk for nodes, which stays free where there is a free space tree
+abbrev pub spare_slots : Options → Counts → ℕ
+spare_slots o c = if o.free_tree then chunk_bound c.runs c.blocks else 0
+
 -- the nodes of all trees but the chunk tree and the extent tree
 abbrev pub other_nodes : Options → Counts → ℕ
-other_nodes o c = sum_by (λ t. node_bound (tree_bytes o.sums c t) o.nodesize) new_trees + node_bound ROOT_TREE_ROOM o.nodesize
+other_nodes o c = sum_by (λ t. node_bound (tree_bytes o.sums c t) o.nodesize) new_trees + node_bound ROOT_TREE_ROOM o.nodesize + free_tree_nodes o c
 
 -- an extent for each piece and each node of the other trees, and a block group for each chunk
 abbrev pub extent_tree_bytes : Options → Counts → ℕ
@@ -72,7 +83,7 @@ abbrev pub need : Counts → Options → Need
 need c o =
     record {
       system = div_ceil (chunk_nodes o c) (nodes_in_unit o.nodesize);
-      metadata = div_ceil (other_nodes o c + extent_nodes o c) (nodes_in_unit o.nodesize);
+      metadata = div_ceil (other_nodes o c + extent_nodes o c + spare_slots o c) (nodes_in_unit o.nodesize);
       data_ = div_ceil (c.copies + c.tails) 256;
     }
 

@@ -42,6 +42,12 @@ pub const NODE_BYTES: u64 = (ITEM_SIZE + EXTENT_ITEM_SIZE + INLINE_BLOCK_REF_SIZ
 /// A block group.
 pub const BLOCK_GROUP_BYTES: u64 = (ITEM_SIZE + BLOCK_GROUP_ITEM_SIZE) as u64;
 
+/// A block group in the free space tree, and one free run of it.
+pub const FREE_GROUP_BYTES: u64 = (2 * ITEM_SIZE + FREE_INFO_SIZE) as u64;
+
+/// The body of a block group's item in the free space tree.
+const FREE_INFO_SIZE: usize = 8;
+
 /// Kept in the tree of files for what its root directory has besides: its reference to itself, and the saved volume's name.
 pub const ROOT_DIRECTORY_ROOM: u64 = 400;
 

@@ -16,13 +16,15 @@ ghost use Rattle.unit_plan.specs.Needed.{
   tree_bytes,
   other_nodes,
   extent_nodes,
+  free_tree_nodes,
+  spare_slots,
 };
 
 use crate::Counts;
 use crate::item_bytes::{
     BLOCK_GROUP_BYTES, CHUNK_BYTES, DEV_EXTENT_BYTES, DEVICE_BYTES, EXTENT_BYTES,
-    FILE_EXTENT_BYTES, HEAD_BYTES, IMAGE_ROOM, INLINE_BYTES, INODE_BYTES, NAME_BYTES, NAME_COPIES,
-    NODE_BYTES, RELOCATION_ROOM, ROOT_DIRECTORY_ROOM, ROOT_TREE_ROOM,
+    FILE_EXTENT_BYTES, FREE_GROUP_BYTES, HEAD_BYTES, IMAGE_ROOM, INLINE_BYTES, INODE_BYTES,
+    NAME_BYTES, NAME_COPIES, NODE_BYTES, RELOCATION_ROOM, ROOT_DIRECTORY_ROOM, ROOT_TREE_ROOM,
 };
 use crate::sums::{sum_width, sums_in_item};
 use crate::tree::{NewTree, new_trees};
@@ -67,9 +69,10 @@ pub fn needed(counts: &Counts, options: &Options) -> Need
     let others = other_nodes(counts, options);
     let extents = extent_nodes(counts, options);
     let in_unit = nodes_in_unit(options.nodesize);
+    let spare = spare_slots(counts, options);
     Need {
         system: chunk_nodes(counts, options).div_ceil(in_unit),
-        metadata: (others + extents).div_ceil(in_unit),
+        metadata: (others + extents + spare).div_ceil(in_unit),
         data_: (counts.copies + counts.tails).div_ceil(BLOCKS_IN_UNIT),
     }
 }
@@ -120,7 +123,39 @@ fn other_nodes(counts: &Counts, options: &Options) -> u64
     ensures exact { result ≡ other_nodes options.now counts.now }
     ensures small { result < 2 ^ 53 }
 {
-    nodes_together(&new_trees(), counts, options) + nodes_for(ROOT_TREE_ROOM, options)
+    nodes_together(&new_trees(), counts, options)
+        + nodes_for(ROOT_TREE_ROOM, options)
+        + free_tree_nodes(counts, options)
+}
+
+/// A bound of the nodes of the free space tree, where there is one.
+fn free_tree_nodes(counts: &Counts, options: &Options) -> u64
+    requires counts { AreSmall counts.now }
+    requires size { IsNodeSize options.now.nodesize }
+    ensures exact { result ≡ free_tree_nodes options.now counts.now }
+    ensures small { result < 2 ^ 50 }
+{
+    if !options.free_tree {
+        return 0;
+    }
+    nodes_for(
+        FREE_GROUP_BYTES * chunk_bound(counts) + HEAD_BYTES * counts.pieces,
+        options,
+    )
+}
+
+/// How many slots stay free at the ends of chunks, where there is a free space tree: its own nodes do not change then how many
+/// runs it tells.
+fn spare_slots(counts: &Counts, options: &Options) -> u64
+    requires counts { AreSmall counts.now }
+    ensures exact { result ≡ spare_slots options.now counts.now }
+    ensures small { result < 2 ^ 52 }
+{
+    if options.free_tree {
+        chunk_bound(counts)
+    } else {
+        0
+    }
 }
 
 /// A bound of the nodes of a few trees together.

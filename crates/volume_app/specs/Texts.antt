@@ -27,6 +27,7 @@ help_text =
     ++ codes "  --no-inline    keep no small file in the tree" ++ 10 ∷ []
     ++ codes "  --no-datasum   make no checksums of data" ++ 10 ∷ []
     ++ codes "  --csum NAME    make checksums by crc32c (the default) or sha256" ++ 10 ∷ []
+    ++ codes "  --features free-space-tree  tell what is free in a tree, as space_cache=v2 of Linux does" ++ 10 ∷ []
     ++ codes "Options of convert alone, before the path:" ++ 10 ∷ []
     ++ codes "  --label TEXT   give the new volume this label, of at most 255 bytes" ++ 10 ∷ []
     ++ codes "  --copy-label   keep the label of the volume" ++ 10 ∷ []

@@ -1,5 +1,5 @@
 -- The superblock of a converted volume reads back.
-use Rattle.convert_core_laws.proofs.Imports.{◌≡◌, ◌≤◌, ◌<◌, ℕ, ◌-◌, ◌*◌, ◌%◌, ◌^◌, ◌++◌, ◌&&◌, eqb, Bool, true, false, List, [], ◌∷◌, length, take, drop, replicate, Some, None, Ok, refl, sym, ap, subst, ◌∙◌, ⊎_elim, arith, length-append, length-drop, ◌+◌, if◌then◌else◌, bit_and, sum_by, eq-eqb, le-leb, length-replicate, length-take, All-drop, All-take, SUPER_BLOCK, BIG_METADATA, EXTENDED_IREF, MIXED_BACKREF, NO_HOLES, SKINNY_METADATA, METADATA_UUID, Image, BtrRefusal, Unsupported, DeviceCount, Incompat, NodeSize, SectorSize, Ids, IsNodeSize, device_layout, SumKind, bad_field, failing, field_rules, has_fields, is_node_size, super_of, unread_bits, csum_number, known_kind, super_bytes, super_layout, node_fsid, super_on, log_of, IsMaking, Making, chunk_slots, label_by, label_field, new_ids, slots, TreesStand, form, root_from, root_tree_items, used_bytes, TreeRoots, blocks_few, blocks_inside, blocks_some, boot_bytes, features, is_system_role, new_super, record_bytes, chunk_item, chunk_items, device_body, all_from_contains, AreIds, TreeNode, chunk_blocks_fit, boot_fits, PlannedChunk, Options, ReadsSuperblock, SuperblockReads, IsNewVolume, super_for, known-number, number-small, length_record}
+use Rattle.convert_core_laws.proofs.Imports.{◌≡◌, ◌≤◌, ◌<◌, ℕ, ◌-◌, ◌*◌, ◌%◌, ◌^◌, ◌++◌, ◌&&◌, eqb, Bool, true, false, List, [], ◌∷◌, length, take, drop, replicate, Some, None, Ok, refl, sym, ap, subst, ◌∙◌, ⊎_elim, arith, length-append, length-drop, ◌+◌, if◌then◌else◌, bit_and, sum_by, eq-eqb, le-leb, length-replicate, length-take, All-drop, All-take, SUPER_BLOCK, BIG_METADATA, EXTENDED_IREF, MIXED_BACKREF, NO_HOLES, SKINNY_METADATA, METADATA_UUID, Image, BtrRefusal, Unsupported, DeviceCount, Incompat, NodeSize, SectorSize, Ids, IsNodeSize, device_layout, SumKind, bad_field, failing, field_rules, has_fields, is_node_size, super_of, unread_bits, csum_number, known_kind, super_bytes, super_layout, node_fsid, super_on, log_of, IsMaking, Making, chunk_slots, label_by, label_field, new_ids, slots, TreesStand, form, root_from, root_tree_items, used_bytes, TreeRoots, blocks_few, blocks_inside, blocks_some, boot_bytes, features, features_to_write, is_system_role, new_super, record_bytes, chunk_item, chunk_items, device_body, all_from_contains, AreIds, TreeNode, chunk_blocks_fit, boot_fits, PlannedChunk, Options, ReadsSuperblock, SuperblockReads, IsNewVolume, super_for, known-number, number-small, length_record}
 use Rattle.btr_reader.proofs.btr_super.ReadBack.{supers_read_back}
 use Rattle.convert_core.specs.convert_steps.declared.fields.NewRoots.{NewRoots}
 use Rattle.convert_core_laws.proofs.reading.Mapped.{chunk_slot_small, slot_small}
@@ -32,9 +32,9 @@ record HasRoom (ids : Ids) (blocks nodesize : ℕ) (label : List ℕ) (chunks : 
   used : roots.used < 2 ^ 64
 
 -- the nodes have the identifier of the volume
-nodes_fsid : (ids : Ids) (blocks nodesize : ℕ) (sums : SumKind) (label : List ℕ) (chunks : List PlannedChunk) (roots : NewRoots) → node_fsid (new_super ids blocks nodesize sums label chunks roots) ≡ ids.fsid
+nodes_fsid : (ids : Ids) (blocks nodesize : ℕ) (sums : SumKind) (free_tree : Bool) (label : List ℕ) (chunks : List PlannedChunk) (roots : NewRoots) → node_fsid (new_super ids blocks nodesize sums free_tree label chunks roots) ≡ ids.fsid
 unfolding new_super
-nodes_fsid ids blocks nodesize sums label chunks roots = by (eqb nodesize 4096)
+nodes_fsid ids blocks nodesize sums free_tree label chunks roots = by (eqb nodesize 4096)
   where
     by : (b : Bool)
         → (if eqb (bit_and (if b then MIXED_BACKREF + EXTENDED_IREF + SKINNY_METADATA + NO_HOLES else MIXED_BACKREF + EXTENDED_IREF + SKINNY_METADATA + NO_HOLES + BIG_METADATA) METADATA_UUID) 0 then ids.fsid else replicate 16 0) ≡ ids.fsid
@@ -43,7 +43,7 @@ nodes_fsid ids blocks nodesize sums label chunks roots = by (eqb nodesize 4096)
 
 pub own_fsid : (m : Making) (r : TreeRoots) (nodes : List TreeNode) → node_fsid (super_for m r nodes) ≡ (new_ids m).fsid
 own_fsid m r nodes =
-    nodes_fsid (new_ids m) m.volume.sup.blocks m.options.nodesize m.options.sums (label_field (label_by m.volume.sup m.options.label)) m.chunks (record { chunk = r.chunk; root = r.root; used = used_bytes m nodes })
+    nodes_fsid (new_ids m) m.volume.sup.blocks m.options.nodesize m.options.sums m.options.free_tree (label_field (label_by m.volume.sup m.options.label)) m.chunks (record { chunk = r.chunk; root = r.root; used = used_bytes m nodes })
 
 features_read : (nodesize : ℕ) → (unread_bits (features nodesize) ≡ 0) × (features nodesize < 2 ^ 64)
 features_read nodesize = by (eqb nodesize 4096)
@@ -52,6 +52,10 @@ features_read nodesize = by (eqb nodesize 4096)
     by true = (refl, omega arith)
     by false = (refl, omega arith)
 
+written_small : (free_tree : Bool) → features_to_write free_tree < 2 ^ 64
+written_small true = omega arith
+written_small false = omega arith
+
 sized : (n : ℕ) → IsNodeSize n → is_node_size n ≡ true
 sized n size =
     ⊎_elim (λ (e : n ≡ 4096). at 4096 e refl) (λ rest. ⊎_elim (λ (e : n ≡ 8192). at 8192 e refl) (λ rest'. ⊎_elim (λ (e : n ≡ 16384). at 16384 e refl) (λ rest''. ⊎_elim (λ (e : n ≡ 32768). at 32768 e refl) (λ (e : n ≡ 65536). at 65536 e refl) rest'') rest') rest) size
@@ -59,11 +63,11 @@ sized n size =
     at : (k : ℕ) → n ≡ k → is_node_size k ≡ true → is_node_size n ≡ true
     at k e is = subst (λ (j : ℕ). is_node_size j ≡ true) (sym e) is
 
-module _ (ids : Ids) (blocks nodesize : ℕ) (sums : SumKind) (label : List ℕ) (chunks : List PlannedChunk) (roots : NewRoots) (room : HasRoom ids blocks nodesize label chunks roots) where
+module _ (ids : Ids) (blocks nodesize : ℕ) (sums : SumKind) (free_tree : Bool) (label : List ℕ) (chunks : List PlannedChunk) (roots : NewRoots) (room : HasRoom ids blocks nodesize label chunks roots) where
   array_long : length (boot_bytes ids chunks ++ replicate (2048 - length (boot_bytes ids chunks)) 0) ≡ 2048
   array_long = omega (arith, length-append (boot_bytes ids chunks) (replicate (2048 - length (boot_bytes ids chunks)) 0), length-replicate {A = ℕ} (2048 - length (boot_bytes ids chunks)) 0, room.boot)
 
-  fits : super_layout.fits (new_super ids blocks nodesize sums label chunks roots)
+  fits : super_layout.fits (new_super ids blocks nodesize sums free_tree label chunks roots)
   unfolding super_layout new_super
   fits = (
     (
@@ -97,7 +101,7 @@ module _ (ids : Ids) (blocks nodesize : ℕ) (sums : SumKind) (label : List ℕ)
                               ),
                               omega arith,
                             ),
-                            omega arith,
+                            omega (arith, written_small free_tree),
                           ),
                           omega (arith, (features_read nodesize).1),
                         ),
@@ -130,30 +134,30 @@ module _ (ids : Ids) (blocks nodesize : ℕ) (sums : SumKind) (label : List ℕ)
   eight_hold : (a b c d e f g h : Bool) → a ≡ true → b ≡ true → c ≡ true → d ≡ true → e ≡ true → f ≡ true → g ≡ true → h ≡ true → (a && (b && (c && (d && (e && (f && (g && h))))))) ≡ true
   eight_hold a b c d e f g h i j k l m n o p = rw (i, j, k, l, m, n, o, p) refl
 
-  fields_hold : (device : ℕ) → blocks ≤ device → has_fields (new_super ids blocks nodesize sums label chunks roots) SUPER_BLOCK device ≡ true
+  fields_hold : (device : ℕ) → blocks ≤ device → has_fields (new_super ids blocks nodesize sums free_tree label chunks roots) SUPER_BLOCK device ≡ true
   unfolding new_super
   fields_hold device inside =
       eight_hold _ _ _ _ _ _ _ _ refl (le-leb roots.root.level 7 room.root_low) (le-leb roots.chunk.level 7 room.chunk_low) refl (le-leb (length (boot_bytes ids chunks)) 2048 room.boot)
       (le-leb (4096 * blocks) (4096 * device) (omega (arith, inside))) (le-leb (4096 * blocks) (2 ^ 48) (omega (arith, room.small))) (eq-eqb ((4096 * blocks) % 4096) 0 (omega arith))
 
-  rules_hold : (device : ℕ) → blocks ≤ device → failing (field_rules (new_super ids blocks nodesize sums label chunks roots) SUPER_BLOCK device) ≡ []
+  rules_hold : (device : ℕ) → blocks ≤ device → failing (field_rules (new_super ids blocks nodesize sums free_tree label chunks roots) SUPER_BLOCK device) ≡ []
   unfolding new_super
   rules_hold device inside =
       five_hold _ _ _ _ _ bad_field (Unsupported Incompat (unread_bits (features nodesize))) (Unsupported SectorSize 4096) (Unsupported NodeSize nodesize) (Unsupported DeviceCount 1) (fields_hold device inside) (eq-eqb (unread_bits (features nodesize)) 0 (features_read nodesize).0) refl (sized nodesize room.size) refl
 
-  kind_is : (new_super ids blocks nodesize sums label chunks roots).csum_type ≡ csum_number sums
+  kind_is : (new_super ids blocks nodesize sums free_tree label chunks roots).csum_type ≡ csum_number sums
   unfolding new_super
   kind_is = refl
 
-  log_is : (new_super ids blocks nodesize sums label chunks roots).log_root ≡ 0
+  log_is : (new_super ids blocks nodesize sums free_tree label chunks roots).log_root ≡ 0
   unfolding new_super
   log_is = refl
 
-  reads_back : (device : ℕ) → 16 < device → blocks ≤ device → super_of (super_bytes (new_super ids blocks nodesize sums label chunks roots)) SUPER_BLOCK device ≡ Ok (new_super ids blocks nodesize sums label chunks roots)
+  reads_back : (device : ℕ) → 16 < device → blocks ≤ device → super_of (super_bytes (new_super ids blocks nodesize sums free_tree label chunks roots)) SUPER_BLOCK device ≡ Ok (new_super ids blocks nodesize sums free_tree label chunks roots)
   reads_back device there inside =
-      supers_read_back (new_super ids blocks nodesize sums label chunks roots) sums 16 device fits known there (rules_hold device inside)
+      supers_read_back (new_super ids blocks nodesize sums free_tree label chunks roots) sums 16 device fits known there (rules_hold device inside)
     where
-      known : known_kind (new_super ids blocks nodesize sums label chunks roots).csum_type ≡ Some sums
+      known : known_kind (new_super ids blocks nodesize sums free_tree label chunks roots).csum_type ≡ Some sums
       known = ap known_kind kind_is ∙ known-number sums
 
 -- of a converted volume

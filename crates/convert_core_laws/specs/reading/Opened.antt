@@ -38,7 +38,7 @@ pub record IsNewVolume (o : Options) (ids : Ids) (now : ℕ) (image other : Imag
 -- the fields of its superblock
 abbrev pub super_for : Making → TreeRoots → List TreeNode → Super
 super_for m r nodes =
-    new_super (new_ids m) m.volume.sup.blocks m.options.nodesize m.options.sums (label_field (label_by m.volume.sup m.options.label)) m.chunks (roots_told m r nodes)
+    new_super (new_ids m) m.volume.sup.blocks m.options.nodesize m.options.sums m.options.free_tree (label_field (label_by m.volume.sup m.options.label)) m.chunks (roots_told m r nodes)
 
 -- a chunk, as it is read
 abbrev pub chunk_at : Ids → PlannedChunk → ChunkAt

@@ -1,5 +1,5 @@
 use Rattle.convert_trees.proofs.Imports.{◌≡◌, take}
-use Rattle.convert_trees.proofs.root_tree.first_slots.Given as goal
+use Rattle.convert_trees.proofs.keep.first_slots.Given as goal
 
 abbrev pub invariant-loop-slot : goal.invariant-loop-slot
 invariant-loop-slot l = record {
