@@ -15,11 +15,11 @@ begins_in low end u = nat_le low u.address && nat_lt u.address end
 
 pub gap_few : (at end : ℕ) → length (gap at end) ≤ 1
 gap_few at end =
-    ⊎_elim (λ (some : at < end). let e = ap (λ (t : Bool). length (cond t (record { address = at; length = end - at } ∷ []) [])) (lt-ltb at end some) in omega (arith, e))
-    (λ (none : end ≤ at). let e = ap (λ (t : Bool). length (cond t (record { address = at; length = end - at } ∷ []) [])) (le-ltb at end none) in omega (arith, e)) (cases_lt at end)
+    ⊎_elim (λ (some : at < end). let e = ap (λ (t : Bool). length {A = Range} (cond t (record { address = at; length = end - at } ∷ []) [])) (lt-ltb at end some) in omega (arith, e))
+    (λ (none : end ≤ at). let e = ap (λ (t : Bool). length {A = Range} (cond t (record { address = at; length = end - at } ∷ []) [])) (le-ltb at end none) in omega (arith, e)) (cases_lt at end)
 
 gap_none : (at end : ℕ) → end ≤ at → length (gap at end) ≡ 0
-gap_none at end none = ap (λ (t : Bool). length (cond t (record { address = at; length = end - at } ∷ []) [])) (le-ltb at end none)
+gap_none at end none = ap (λ (t : Bool). length {A = Range} (cond t (record { address = at; length = end - at } ∷ []) [])) (le-ltb at end none)
 
 counted : (p : Range → Bool) (u : Range) (used : List Range) (b : Bool) → p u ≡ b → count_by p (u ∷ used) ≡ cond b 1 0 + count_by p used
 counted p u used b is = sum_by-cons (λ (x : Range). cond (p x) 1 0) u used ∙ ap (λ (t : Bool). cond t 1 0 + count_by p used) is
@@ -70,20 +70,17 @@ none_hit b (g ∷ groups) u up before =
     let rest = none_hit (end_of g + 0) groups u up.2 (omega (arith, up.0, up.1, before)) in
     omega (arith, more, rest)
 
+hit_once : (g : Range) (groups : List Range) (u : Range) → (u.address < end_of g + 0 → hits groups u ≡ 0) → hits groups u ≤ 1 → (t : Bool) → begins_of g u ≡ t → hits (g ∷ groups) u ≤ 1
+hit_once g groups u none once true is =
+    let more = hits_more g groups u true is in
+    let low : u.address < end_of g = grind (arith, is) in
+    let rest = none (omega (arith, low)) in
+    omega (arith, more, rest)
+hit_once g groups u none once false is = let more = hits_more g groups u false is in omega (arith, more, once)
+
 once_hit : (b : ℕ) (groups : List Range) (u : Range) → Up 0 b groups → hits groups u ≤ 1
 once_hit b [] u up = omega arith
-once_hit b (g ∷ groups) u up = by (begins_of g u) refl
-  where
-    by : (t : Bool) → begins_of g u ≡ t → hits (g ∷ groups) u ≤ 1
-    by true is =
-        let more = hits_more g groups u true is in
-        let low : u.address < end_of g = grind (arith, is) in
-        let rest = none_hit (end_of g + 0) groups u up.2 (omega (arith, low)) in
-        omega (arith, more, rest)
-    by false is =
-        let more = hits_more g groups u false is in
-        let rest = once_hit (end_of g + 0) groups u up.2 in
-        omega (arith, more, rest)
+once_hit b (g ∷ groups) u up = hit_once g groups u (none_hit (end_of g + 0) groups u up.2) (once_hit (end_of g + 0) groups u up.2) (begins_of g u) refl
 
 no_counts : (groups : List Range) → sum_by (λ g. count_by (begins_of g) []) groups ≡ 0
 no_counts [] = refl

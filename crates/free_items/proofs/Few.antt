@@ -16,13 +16,13 @@ gaps_passed at end (u ∷ used) =
     (λ (within : u.address < end).
     let cut : length (gaps at end (u ∷ used)) ≡ length (gap at u.address) + length (gaps (max at (end_of u)) end used) =
     ap (λ (t : Bool). length (cond t (gap at u.address ++ gaps (max at (end_of u)) end used) (gap at end))) (lt-ltb u.address end within) ∙ length-append (gap at u.address) (gaps (max at (end_of u)) end used) in
-    let on = ap (λ (t : Bool). length (cond t (behind end used) (u ∷ used))) (lt-ltb u.address end within) in
+    let on = ap (λ (t : Bool). length {A = Range} (cond t (behind end used) (u ∷ used))) (lt-ltb u.address end within) in
     let few = gap_few at u.address in
     let rest = gaps_passed (max at (end_of u)) end used in
     omega (arith, cut, on, few, rest))
     (λ (past : end ≤ u.address).
     let here = ap (λ (t : Bool). length (cond t (gap at u.address ++ gaps (max at (end_of u)) end used) (gap at end))) (le-ltb u.address end past) in
-    let on = ap (λ (t : Bool). length (cond t (behind end used) (u ∷ used))) (le-ltb u.address end past) in
+    let on = ap (λ (t : Bool). length {A = Range} (cond t (behind end used) (u ∷ used))) (le-ltb u.address end past) in
     let few = gap_few at end in
     omega (arith, here, on, few))
     (cases_lt u.address end)

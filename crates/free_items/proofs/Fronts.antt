@@ -21,29 +21,27 @@ pub record IsFront (p : ℕ → Bool) (low many : ℕ) : Type 0 where
   pub within : count ≤ many
   pub exact : (i : ℕ) → i < many → p (low + i) ≡ nat_lt i count
 
+-- one number more
+front_more : (p : ℕ → Bool) (low many : ℕ) → ((i j : ℕ) → i < j → j < suc many → p (low + j) ≡ true → p (low + i) ≡ true) → IsFront p low many → (b : Bool) → p (low + many) ≡ b → IsFront p low (suc many)
+front_more p low many closed before true is = record {
+  count = suc many;
+  within = omega arith;
+  exact = λ i less.
+      let all : p (low + i) ≡ true =
+      ⊎_elim (λ (lower : i < many). closed i many lower (omega arith) is) (λ (last : many ≤ i). subst (λ (k : ℕ). p (low + k) ≡ true) (let e : many ≡ i = omega (arith, last, less) in e) is) (cases_lt i many) in
+      all ∙ sym (lt-ltb i (suc many) less);
+}
+front_more p low many closed before false isnt = record {
+  count = before.count;
+  within = let few = before.within in omega (arith, few);
+  exact = λ i less.
+      ⊎_elim (λ (lower : i < many). before.exact i lower)
+      (λ (last : many ≤ i). subst (λ (k : ℕ). p (low + k) ≡ nat_lt k before.count) (let e : many ≡ i = omega (arith, last, less) in e) (isnt ∙ sym (le-ltb many before.count before.within))) (cases_lt i many);
+}
+
 pub front_of : (p : ℕ → Bool) (low many : ℕ) → ((i j : ℕ) → i < j → j < many → p (low + j) ≡ true → p (low + i) ≡ true) → IsFront p low many
 front_of p low zero closed = record { count = 0; within = omega arith; exact = λ i less. absurd (omega (arith, less)) }
-front_of p low (suc many) closed = by (p (low + many)) refl
-  where
-    before : IsFront p low many
-    before = front_of p low many (λ i j less inside. closed i j less (omega (arith, inside)))
-
-    by : (b : Bool) → p (low + many) ≡ b → IsFront p low (suc many)
-    by true is = record {
-      count = suc many;
-      within = omega arith;
-      exact = λ i less.
-          let all : p (low + i) ≡ true =
-          ⊎_elim (λ (lower : i < many). closed i many lower (omega arith) is) (λ (last : many ≤ i). subst (λ (k : ℕ). p (low + k) ≡ true) (let e : many ≡ i = omega (arith, last, less) in e) is) (cases_lt i many) in
-          all ∙ sym (lt-ltb i (suc many) less);
-    }
-    by false isnt = record {
-      count = before.count;
-      within = omega (arith, before.within);
-      exact = λ i less.
-          ⊎_elim (λ (lower : i < many). before.exact i lower)
-          (λ (last : many ≤ i). subst (λ (k : ℕ). p (low + k) ≡ nat_lt k before.count) (let e : many ≡ i = omega (arith, last, less) in e) (isnt ∙ sym (le-ltb many before.count before.within))) (cases_lt i many);
-    }
+front_of p low (suc many) closed = front_more p low many closed (front_of p low many (λ i j less inside. closed i j less (omega (arith, inside)))) (p (low + many)) refl
 
 -- ---- lists that ascend
 

@@ -15,24 +15,19 @@ pairs_tail : (x : ℕ) (xs : List ℕ) → AllPairs (λ a b. a < b) (x ∷ xs) �
 pairs_tail x xs up i j d l h = up (suc i) (suc j) d (omega (arith, l)) (omega (arith, h))
 
 -- the places that a chunk ends behind, and the others, are all
+part_more : (p : ℕ → Bool) (x : ℕ) (xs : List ℕ) → length (filter (λ a. not (p a)) xs) + count_by p xs ≡ length xs → (b : Bool) → p x ≡ b → length (filter (λ a. not (p a)) (x ∷ xs)) + count_by p (x ∷ xs) ≡ length (x ∷ xs)
+part_more p x xs rest true is =
+    let kept = ap (λ (t : Bool). length {A = ℕ} (cond (not t) (x ∷ filter (λ a. not (p a)) xs) (filter (λ a. not (p a)) xs))) is in
+    let one = sum_by-cons (λ (a : ℕ). cond (p a) 1 0) x xs ∙ ap (λ (t : Bool). cond t 1 0 + count_by p xs) is in
+    omega (arith, kept, one, rest)
+part_more p x xs rest false is =
+    let kept = ap (λ (t : Bool). length {A = ℕ} (cond (not t) (x ∷ filter (λ a. not (p a)) xs) (filter (λ a. not (p a)) xs))) is in
+    let one = sum_by-cons (λ (a : ℕ). cond (p a) 1 0) x xs ∙ ap (λ (t : Bool). cond t 1 0 + count_by p xs) is in
+    omega (arith, kept, one, rest)
+
 parts : (p : ℕ → Bool) (xs : List ℕ) → length (filter (λ a. not (p a)) xs) + count_by p xs ≡ length xs
 parts p [] = refl
-parts p (x ∷ xs) = by (p x) refl
-  where
-    rest = parts p xs
-
-    count : count_by p (x ∷ xs) ≡ cond (p x) 1 0 + count_by p xs
-    count = sum_by-cons (λ (a : ℕ). cond (p a) 1 0) x xs
-
-    by : (b : Bool) → p x ≡ b → length (filter (λ a. not (p a)) (x ∷ xs)) + count_by p (x ∷ xs) ≡ length (x ∷ xs)
-    by true is =
-        let kept = ap (λ (t : Bool). length (cond (not t) (x ∷ filter (λ a. not (p a)) xs) (filter (λ a. not (p a)) xs))) is in
-        let one = count ∙ ap (λ (t : Bool). cond t 1 0 + count_by p xs) is in
-        omega (arith, kept, one, rest)
-    by false is =
-        let kept = ap (λ (t : Bool). length (cond (not t) (x ∷ filter (λ a. not (p a)) xs) (filter (λ a. not (p a)) xs))) is in
-        let one = count ∙ ap (λ (t : Bool). cond t 1 0 + count_by p xs) is in
-        omega (arith, kept, one, rest)
+parts p (x ∷ xs) = part_more p x xs (parts p xs) (p x) refl
 
 none_at : (x n : ℕ) (places : List ℕ) → All (λ a. x < a + n) places → count_by (λ a. x == a + n) places ≡ 0
 none_at x n [] low = refl
@@ -43,23 +38,19 @@ none_at x n (a ∷ places) low =
     omega (arith, one, rest)
 
 -- an address is the end of one place at most
+once_more : (x n a : ℕ) (places : List ℕ) → AllPairs (λ b c. b < c) (a ∷ places) → count_by (λ b. x == b + n) places ≤ 1 → (t : Bool) → (x == a + n) ≡ t → count_by (λ b. x == b + n) (a ∷ places) ≤ 1
+once_more x n a places up rest true is =
+    let at = eqb-true x (a + n) is in
+    let none = none_at x n places (λ k d h. let more = pairs_head a places up k d h in omega (arith, at, more)) in
+    let one = sum_by-cons (λ (b : ℕ). cond (x == b + n) 1 0) a places ∙ ap (λ (t : Bool). cond t 1 0 + count_by (λ b. x == b + n) places) is in
+    omega (arith, one, none)
+once_more x n a places up rest false is =
+    let one = sum_by-cons (λ (b : ℕ). cond (x == b + n) 1 0) a places ∙ ap (λ (t : Bool). cond t 1 0 + count_by (λ b. x == b + n) places) is in
+    omega (arith, one, rest)
+
 once_at : (x n : ℕ) (places : List ℕ) → AllPairs (λ a b. a < b) places → count_by (λ a. x == a + n) places ≤ 1
 once_at x n [] up = omega arith
-once_at x n (a ∷ places) up = by (x == a + n) refl
-  where
-    count : count_by (λ b. x == b + n) (a ∷ places) ≡ cond (x == a + n) 1 0 + count_by (λ b. x == b + n) places
-    count = sum_by-cons (λ (b : ℕ). cond (x == b + n) 1 0) a places
-
-    by : (t : Bool) → (x == a + n) ≡ t → count_by (λ b. x == b + n) (a ∷ places) ≤ 1
-    by true is =
-        let at = eqb-true x (a + n) is in
-        let none = none_at x n places (λ k d h. let more = pairs_head a places up k d h in omega (arith, at, more)) in
-        let one = count ∙ ap (λ (t : Bool). cond t 1 0 + count_by (λ b. x == b + n) places) is in
-        omega (arith, one, none)
-    by false is =
-        let rest = once_at x n places (pairs_tail a places up) in
-        let one = count ∙ ap (λ (t : Bool). cond t 1 0 + count_by (λ b. x == b + n) places) is in
-        omega (arith, one, rest)
+once_at x n (a ∷ places) up = once_more x n a places up (once_at x n places (pairs_tail a places up)) (x == a + n) refl
 
 either : (p q : ℕ → Bool) (xs : List ℕ) → count_by (λ a. p a || q a) xs ≤ count_by p xs + count_by q xs
 either p q [] = omega arith

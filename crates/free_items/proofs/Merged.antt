@@ -8,7 +8,7 @@ use Rattle.free_space.specs.declared.range.Range.{Range}
 use Rattle.free_items.specs.Used.{merged_ranges}
 use Rattle.space_items.proofs.Merges.{merge-equal, merge-greater, merge-less, merge-nil, nat_greater, nat_less}
 use Rattle.std.specs.Ordering.{nat_cmp}
-use Rattle.core.specs.declared.cmp.Ordering.{Ordering}
+use Rattle.std.specs.declared.cmp.Ordering.{Ordering}
 
 abbrev pub range_cmp : Range → Range → Ordering
 range_cmp r s = nat_cmp r.address s.address

@@ -3,9 +3,11 @@ use Rattle.std.proofs.Common.{◌≡◌, ◌∙◌, ℕ, suc, zero, ◌+◌, ◌
 use Rattle.std.specs.Option.{option_map}
 use Rattle.std.proofs.lemmas.Bool.{cases_eq, cases_lt, le-leb, lt-leb}
 use Rattle.free_space.specs.declared.range.Range.{Range}
-use Rattle.free_items.specs.Used.{is_due, merged_ranges}
+use Rattle.free_items.specs.Used.{is_due, merged_ranges, node_range, piece_range, used_left}
 use Rattle.free_items.proofs.Merged.{greater_merge, less_merge, range_cmp}
 use Rattle.space_items.proofs.Merges.{merge-equal, merge-nil, nat_equal}
+use Rattle.space_items.specs.declared.node.TreeNode.{TreeNode}
+use Rattle.unit_plan.specs.declared.piece.Piece.{Piece}
 
 pub head_of : {A : Type 0} (f : A → Range) (xs : List A) (i : ℕ) → slice_get (map f (drop i xs)) 0 ≡ option_map f (slice_get xs i)
 head_of f [] zero = refl
@@ -70,3 +72,21 @@ rest_due (r ∷ ranges) (s ∷ others) next more a b c d = by (order r s)
     by (before le ge less) = ap₂ merged_ranges (a le) (d ge) ∙ ap (λ (l : List Range). drop 1 l) (sym (less_merge r ranges s others less))
     by (level le ge same) = ap₂ merged_ranges (a le) (c ge) ∙ ap (λ (l : List Range). drop 1 l) (sym (level_merge r ranges s others same))
     by (behind le ge less) = ap₂ merged_ranges (b le) (c ge) ∙ ap (λ (l : List Range). drop 1 l) (sym (greater_merge r ranges s others less))
+
+-- ---- of nodes and pieces
+
+module _ (pieces : List Piece) (nodes : List TreeNode) (n piece node : ℕ) (one other : Option Range) (one_is : one ≡ option_map (node_range n) (slice_get nodes node)) (other_is : other ≡ option_map piece_range (slice_get pieces piece)) where
+  node_at : one ≡ slice_get (map (node_range n) (drop node nodes)) 0
+  node_at = one_is ∙ sym (head_of (node_range n) nodes node)
+
+  piece_at : other ≡ slice_get (map piece_range (drop piece pieces)) 0
+  piece_at = other_is ∙ sym (head_of piece_range pieces piece)
+
+  due_is : is_due one other ≡ is_due (slice_get (map (node_range n) (drop node nodes)) 0) (slice_get (map piece_range (drop piece pieces)) 0)
+  due_is = ap₂ is_due node_at piece_at
+
+  pub node_first : is_due one other ≡ true → one ≡ slice_get (used_left pieces nodes n piece node) 0
+  node_first due = node_at ∙ first_due (map (node_range n) (drop node nodes)) (map piece_range (drop piece pieces)) (sym due_is ∙ due)
+
+  pub piece_first : is_due one other ≡ false → other ≡ slice_get (used_left pieces nodes n piece node) 0
+  piece_first due = piece_at ∙ second_due (map (node_range n) (drop node nodes)) (map piece_range (drop piece pieces)) (sym due_is ∙ due)

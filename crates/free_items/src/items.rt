@@ -25,7 +25,7 @@ impl<'a, P: PieceList> FreeItems<'a, P> {
         requires small { All (λ g. end_of g < 2 ^ 64) groups.now }
         ensures fits { FitsItems (P.pieces result.items.rest.used.pieces.now) result.items.rest.used.nodes.now result.items.rest.used.nodesize result.items.rest.used.piece result.items.rest.used.node result.items.groups.now result.items.item }
         ensures all { items_left (P.pieces result.items.rest.used.pieces.now) result.items.rest.used.nodes.now result.items.rest.used.nodesize result.items.rest.used.piece result.items.rest.used.node result.items.rest.at result.items.rest.end result.items.groups.now
-            ≡ free_items groups.now (used_left (P.pieces used.pieces.now) used.nodes.now used.nodesize used.piece used.node) }
+            ≡ free_items groups.now (used_left (P.pieces used.entry.pieces.now) used.entry.nodes.now used.entry.nodesize used.entry.piece used.entry.node) }
     {
         FreeItems {
             items: FreeStream::new(groups, used),

@@ -1,4 +1,4 @@
-ghost use Rattle.std.specs.Prelude.{◌≡◌, ◌<◌, ◌+◌, ◌^◌, slice_get, IfSome};
+ghost use Rattle.std.specs.Prelude.{◌≡◌, ◌<◌, ◌+◌, ◌^◌, true, if◌then◌else◌, slice_get, IfSome};
 ghost use Rattle.std.specs.List.{All};
 ghost use Rattle.std.specs.Option.{option_map};
 ghost use Rattle.free_items.specs.Used.{is_due, node_range, piece_range};
@@ -90,6 +90,14 @@ fn is_due(one: Option<Range>, other: Option<Range>) -> bool
     }
 }
 
+/// The place behind one that is due.
+fn passed(place: usize, due: bool) -> usize
+    requires small { due ≡ true → place + 1 < 2 ^ 64 }
+    ensures { result ≡ (if due then place + 1 else place) }
+{
+    if due { place + 1 } else { place }
+}
+
 impl<'a, P: PieceList> UsedRanges for UsedSpace<'a, P> {
     ghost use Rattle.free_items.specs.Used.{FitsUsed, used_left};
 
@@ -106,11 +114,7 @@ impl<'a, P: PieceList> UsedRanges for UsedSpace<'a, P> {
     fn pass(&mut self) {
         let node = self.next_node();
         let piece = self.next_piece();
-        if is_due(node, piece) {
-            self.node += 1;
-        }
-        if is_due(piece, node) {
-            self.piece += 1;
-        }
+        self.node = passed(self.node, is_due(node, piece));
+        self.piece = passed(self.piece, is_due(piece, node));
     }
 }
