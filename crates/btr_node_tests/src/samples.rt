@@ -14,11 +14,11 @@ const SUMS: [(u64, [u8; 4]); 4] = [
 #[test]
 fn checksums(rt: HostRuntime) -> Result<(), Fail> {
     let disk = Sample::PLAIN.disk(rt.alloc())?;
-    for (n, sum) in SUMS {
-        assert!(rt; n < 12288);
+    for (n, sum) in &SUMS {
+        assert!(rt; *n < 12288);
         let mut block = Block::zero();
-        disk.block(n, &mut block);
-        assert_eq!(rt; &block.bytes[..4], sum.as_slice(), "of block {n}");
+        disk.block(*n, &mut block);
+        assert!(rt; block.bytes.starts_with(sum), "of block {n}");
     }
     Ok(())
 }

@@ -1,12 +1,12 @@
 // Bytes of volumes that stock tools made, beside the values that `btrfs inspect-internal dump-tree` prints of them. All but
 // the chunk of two stripes stand on one volume that Linux 6.1 wrote.
+use crate::bytes::{behind, front};
 use btr_keys::{Inode, Key, Stamp};
 use btr_space_items::{
     BlockGroup, Chunk, DevExtent, Device, ExtentHead, InlineRef, InlineRefs, RootItem, RootRef,
     Stripe, extent_body_size, write_extent_body,
 };
 use btrfs_format::object::{CHUNK_TREE, FIRST_CHUNK_TREE_OBJECTID};
-use std::test::Fail;
 
 /// The root item of a subvolume.
 const ROOT_ITEM: [u8; 439] = [
@@ -40,11 +40,21 @@ const ROOT_ITEM: [u8; 439] = [
     0x00, 0x00, 0x00, 0x00, 0x00, 0x00, 0x00,
 ];
 
+/// Its bytes, of which proofs are told nothing.
+fn root_item_body() -> &'static [u8] {
+    &ROOT_ITEM
+}
+
 /// Where the subvolume stands.
 const ROOT_REF: [u8; 21] = [
     0x00, 0x01, 0x00, 0x00, 0x00, 0x00, 0x00, 0x00, 0x09, 0x00, 0x00, 0x00, 0x00, 0x00, 0x00, 0x00,
     0x03, 0x00, 0x73, 0x75, 0x62,
 ];
+
+/// Its bytes, likewise.
+fn root_ref_body() -> &'static [u8] {
+    &ROOT_REF
+}
 
 /// An extent that two files share.
 const EXTENT: [u8; 82] = [
@@ -56,12 +66,22 @@ const EXTENT: [u8; 82] = [
     0x00, 0x00,
 ];
 
+/// Its bytes, likewise.
+fn extent_body() -> &'static [u8] {
+    &EXTENT
+}
+
 /// A node of the chunk tree.
 const METADATA: [u8; 33] = [
     0x01, 0x00, 0x00, 0x00, 0x00, 0x00, 0x00, 0x00, 0x05, 0x00, 0x00, 0x00, 0x00, 0x00, 0x00, 0x00,
     0x02, 0x00, 0x00, 0x00, 0x00, 0x00, 0x00, 0x00, 0xb0, 0x03, 0x00, 0x00, 0x00, 0x00, 0x00, 0x00,
     0x00,
 ];
+
+/// Its bytes, likewise.
+fn metadata_body() -> &'static [u8] {
+    &METADATA
+}
 
 /// The item of an extent of two references by parents, a node and a leaf, as the structures of Linux have them.
 const SHARED: [u8; 46] = [
@@ -76,12 +96,22 @@ const BLOCK_GROUP: [u8; 24] = [
     0x01, 0x00, 0x00, 0x00, 0x00, 0x00, 0x00, 0x00,
 ];
 
+/// Its bytes, likewise.
+fn block_group_body() -> &'static [u8] {
+    &BLOCK_GROUP
+}
+
 /// The device extent of its chunk.
 const DEV_EXTENT: [u8; 48] = [
     0x03, 0x00, 0x00, 0x00, 0x00, 0x00, 0x00, 0x00, 0x00, 0x01, 0x00, 0x00, 0x00, 0x00, 0x00, 0x00,
     0x00, 0x00, 0xd0, 0x00, 0x00, 0x00, 0x00, 0x00, 0x00, 0x00, 0x80, 0x00, 0x00, 0x00, 0x00, 0x00,
     0xce, 0xc9, 0x05, 0x7b, 0x6c, 0x70, 0x45, 0x65, 0x98, 0x93, 0xad, 0xd4, 0xe2, 0x7a, 0x82, 0xd6,
 ];
+
+/// Its bytes, likewise.
+fn dev_extent_body() -> &'static [u8] {
+    &DEV_EXTENT
+}
 
 /// The device.
 const DEVICE: [u8; 98] = [
@@ -94,6 +124,11 @@ const DEVICE: [u8; 98] = [
     0xac, 0x7e,
 ];
 
+/// Its bytes, likewise.
+fn device_body() -> &'static [u8] {
+    &DEVICE
+}
+
 /// A chunk of data.
 const CHUNK: [u8; 80] = [
     0x00, 0x00, 0x80, 0x00, 0x00, 0x00, 0x00, 0x00, 0x02, 0x00, 0x00, 0x00, 0x00, 0x00, 0x00, 0x00,
@@ -102,6 +137,11 @@ const CHUNK: [u8; 80] = [
     0x01, 0x00, 0x00, 0x00, 0x00, 0x00, 0x00, 0x00, 0x00, 0x00, 0xd0, 0x00, 0x00, 0x00, 0x00, 0x00,
     0x09, 0xf4, 0x4f, 0x0b, 0x7c, 0xe4, 0x44, 0xd8, 0xae, 0xcd, 0x44, 0x68, 0x16, 0x33, 0x79, 0x7d,
 ];
+
+/// Its bytes, likewise.
+fn chunk_body() -> &'static [u8] {
+    &CHUNK
+}
 
 /// A chunk of system metadata with two stripes, made by `mkfs.btrfs -m dup`.
 const TWO_STRIPES: [u8; 112] = [
@@ -114,14 +154,20 @@ const TWO_STRIPES: [u8; 112] = [
     0x69, 0x58, 0x73, 0x32, 0xd4, 0x87, 0x47, 0x2b, 0x98, 0xb1, 0x78, 0x52, 0xd4, 0xa5, 0xa8, 0xba,
 ];
 
+/// Its bytes, likewise.
+fn two_stripes_body() -> &'static [u8] {
+    &TWO_STRIPES
+}
+
 const DEVICE_UUID: [u8; 16] = [
     0x09, 0xf4, 0x4f, 0x0b, 0x7c, 0xe4, 0x44, 0xd8, 0xae, 0xcd, 0x44, 0x68, 0x16, 0x33, 0x79, 0x7d,
 ];
 
-#[test]
-fn root_item(rt: HostRuntime) {
-    let none = Stamp { sec: 0, nsec: 0 };
-    let inode = Inode {
+const NEVER: Stamp = Stamp { sec: 0, nsec: 0 };
+
+/// What the root item tells.
+const ROOT: RootItem = RootItem {
+    inode: Inode {
         generation: 1,
         transid: 0,
         size: 3,
@@ -134,208 +180,298 @@ fn root_item(rt: HostRuntime) {
         rdev: 0,
         flags: 0x8000_0000,
         sequence: 0,
-        atime: none,
-        ctime: none,
-        mtime: none,
-        otime: none,
-    };
-    let wanted = RootItem {
-        inode,
-        generation: 9,
-        root_dirid: 256,
-        bytenr: 6520832,
-        byte_limit: 0,
-        bytes_used: 16384,
-        last_snapshot: 0,
-        flags: 0,
-        refs: 1,
-        drop_progress: Key {
-            objectid: 0,
-            kind: 0,
-            offset: 0,
-        },
-        drop_level: 0,
-        level: 0,
-        generation_v2: 9,
-        uuid: [
-            0x6d, 0x4b, 0x1a, 0x77, 0x94, 0xb3, 0xed, 0x46, 0xa4, 0xb9, 0x5a, 0xbf, 0x6b, 0xf3,
-            0x78, 0xd6,
-        ],
-        parent_uuid: [0; 16],
-        received_uuid: [0; 16],
-        ctransid: 9,
-        otransid: 8,
-        stransid: 0,
-        rtransid: 0,
-        ctime: Stamp {
-            sec: 1795739695,
-            nsec: 250872609,
-        },
-        otime: Stamp {
-            sec: 1795739695,
-            nsec: 134848467,
-        },
-        stime: none,
-        rtime: none,
-    };
-    assert_eq!(rt; RootItem::read(&ROOT_ITEM), Some(wanted));
-    assert_eq!(rt; RootItem::read(&ROOT_ITEM[..438]), None);
+        atime: NEVER,
+        ctime: NEVER,
+        mtime: NEVER,
+        otime: NEVER,
+    },
+    generation: 9,
+    root_dirid: 256,
+    bytenr: 6520832,
+    byte_limit: 0,
+    bytes_used: 16384,
+    last_snapshot: 0,
+    flags: 0,
+    refs: 1,
+    drop_progress: Key {
+        objectid: 0,
+        kind: 0,
+        offset: 0,
+    },
+    drop_level: 0,
+    level: 0,
+    generation_v2: 9,
+    uuid: [
+        0x6d, 0x4b, 0x1a, 0x77, 0x94, 0xb3, 0xed, 0x46, 0xa4, 0xb9, 0x5a, 0xbf, 0x6b, 0xf3, 0x78,
+        0xd6,
+    ],
+    parent_uuid: [0; 16],
+    received_uuid: [0; 16],
+    ctransid: 9,
+    otransid: 8,
+    stransid: 0,
+    rtransid: 0,
+    ctime: Stamp {
+        sec: 1795739695,
+        nsec: 250872609,
+    },
+    otime: Stamp {
+        sec: 1795739695,
+        nsec: 134848467,
+    },
+    stime: NEVER,
+    rtime: NEVER,
+};
+
+#[test]
+fn root_item(rt: HostRuntime) {
+    let found = [
+        RootItem::read(front(root_item_body(), 439)),
+        RootItem::read(front(root_item_body(), 438)),
+    ];
+    assert!(rt; found == [Some(ROOT), None]);
     let mut written = [0; 439];
-    wanted.write(&mut written);
-    assert_eq!(rt; written, ROOT_ITEM);
+    ROOT.write(&mut written);
+    assert!(rt; written.as_slice() == root_item_body());
+}
+
+/// The directory, the sequence and the name in the body of a root ref, if it is one.
+fn root_ref_in(body: &[u8]) -> Option<(u64, u64, &[u8])> {
+    let found = RootRef::read(body)?;
+    Some((found.dirid, found.sequence, found.name))
+}
+
+/// Whether a reference is written so.
+fn is_root_ref_written(found: &RootRef<'_>, wanted: &[u8]) -> bool {
+    let mut written = [0; 64];
+    if found.name.len() > 46 {
+        return false;
+    }
+    let length = 18 + found.name.len();
+    found.write(&mut written[..length]);
+    &written[..length] == wanted
 }
 
 #[test]
-fn root_ref(rt: HostRuntime) -> Result<(), Fail> {
-    let found = RootRef::read(&ROOT_REF).ok_or("a root ref")?;
-    assert_eq!(rt; (found.dirid, found.sequence), (256, 9));
-    assert_eq!(rt; found.name, b"sub".as_slice());
-    let mut written = [0; 21];
-    found.write(&mut written);
-    assert_eq!(rt; written, ROOT_REF);
-    assert!(rt; RootRef::read(&ROOT_REF[..20]).is_none());
-    Ok(())
+fn root_ref(rt: HostRuntime) {
+    let body = front(root_ref_body(), 21);
+    let wanted = Some((256, 9, b"sub".as_slice()));
+    assert!(rt; [root_ref_in(body), root_ref_in(front(body, 20))] == [wanted, None]);
+    let found = RootRef {
+        dirid: 256,
+        sequence: 9,
+        name: b"sub",
+    };
+    assert!(rt; is_root_ref_written(&found, body));
 }
 
 #[test]
-fn data_extent(rt: HostRuntime) -> Result<(), Fail> {
+fn extent_head(rt: HostRuntime) {
     let head = ExtentHead {
         refs: 4,
         generation: 8,
         flags: 1,
     };
-    assert_eq!(rt; ExtentHead::read(&EXTENT), Some(head));
-    assert_eq!(rt; head.to_bytes().as_slice(), &EXTENT[..24]);
-    let refs = InlineRefs::read(&EXTENT[24..]).ok_or("references")?;
-    assert_eq!(rt; refs.len(), 2);
-    let second = InlineRef::DataRef {
-        root: 5,
-        objectid: 580,
-        offset: 0,
-        count: 2,
-    };
-    assert_eq!(rt; refs.get(1), second);
-    let mut written = [0; 29];
-    second.write(&mut written);
-    assert_eq!(rt; written.as_slice(), &EXTENT[53..]);
-    assert!(rt; InlineRefs::read(&EXTENT[24..81]).is_none());
-    Ok(())
+    assert!(rt; ExtentHead::read(front(extent_body(), 82)) == Some(head));
+    assert!(rt; head.to_bytes().as_slice() == front(extent_body(), 24));
+}
+
+/// Reference `i` behind the head of an extent's item, if there are references and so many.
+fn inline_ref(body: &[u8], i: usize) -> Option<InlineRef> {
+    match InlineRefs::read(behind(body, 24)) {
+        Some(refs) if i < refs.len() => Some(refs.get(i)),
+        _ => None,
+    }
+}
+
+/// The second reference of the extent.
+const SECOND: InlineRef = InlineRef::DataRef {
+    root: 5,
+    objectid: 580,
+    offset: 0,
+    count: 2,
+};
+
+/// The reference of the node.
+const NODE: InlineRef = InlineRef::TreeBlock { root: 3 };
+
+/// The references by parents.
+const BLOCK_PARENT: InlineRef = InlineRef::SharedBlock { parent: 30572544 };
+
+const DATA_PARENT: InlineRef = InlineRef::SharedData {
+    parent: 30408704,
+    count: 3,
+};
+
+/// References in the first bytes of those items: the count of the bytes, and the number of the reference.
+const REFS: &[(&[u8], usize, usize, Option<InlineRef>)] = &[
+    (&EXTENT, 82, 1, Some(SECOND)),
+    (&EXTENT, 82, 2, None),
+    (&EXTENT, 81, 0, None),
+    (&METADATA, 33, 0, Some(NODE)),
+    (&METADATA, 33, 1, None),
+    (&SHARED, 46, 0, Some(BLOCK_PARENT)),
+    (&SHARED, 46, 1, Some(DATA_PARENT)),
+    (&SHARED, 46, 2, None),
+    (&SHARED, 45, 0, None),
+];
+
+fn refs() -> &'static [(&'static [u8], usize, usize, Option<InlineRef>)] {
+    REFS
 }
 
 #[test]
-fn metadata_extent(rt: HostRuntime) -> Result<(), Fail> {
-    let refs = InlineRefs::read(&METADATA[24..]).ok_or("a reference")?;
-    assert_eq!(rt; refs.len(), 1);
-    let tree = InlineRef::TreeBlock { root: 3 };
-    assert_eq!(rt; refs.get(0), tree);
-    let mut written = [0; 9];
-    tree.write(&mut written);
-    assert_eq!(rt; written.as_slice(), &METADATA[24..]);
-    let none = InlineRefs::read(&[]).ok_or("no reference")?;
-    assert!(rt; none.is_empty());
-    Ok(())
+fn inline_refs(rt: HostRuntime) {
+    for (body, count, i, wanted) in refs() {
+        assert!(rt; inline_ref(front(*body, *count), *i) == *wanted);
+    }
+}
+
+/// Whether a reference is written so.
+fn is_written(found: &InlineRef, wanted: &[u8]) -> bool {
+    let mut written = [0; 64];
+    let length = found.size();
+    if length > 64 {
+        return false;
+    }
+    found.write(&mut written[..length]);
+    &written[..length] == wanted
 }
 
 #[test]
-fn shared_references(rt: HostRuntime) -> Result<(), Fail> {
-    let refs = [
-        InlineRef::SharedBlock { parent: 30572544 },
-        InlineRef::SharedData {
-            parent: 30408704,
-            count: 3,
-        },
-    ];
+fn inline_refs_are_written(rt: HostRuntime) {
+    assert!(rt; is_written(&SECOND, behind(extent_body(), 53)));
+    assert!(rt; is_written(&NODE, behind(metadata_body(), 24)));
+}
+
+/// Whether a body of references has none.
+fn has_none(body: &[u8]) -> bool {
+    match InlineRefs::read(body) {
+        Some(refs) => refs.is_empty(),
+        None => false,
+    }
+}
+
+#[test]
+fn no_bytes_are_no_references(rt: HostRuntime) {
+    assert!(rt; has_none(front(extent_body(), 0)));
+}
+
+/// The item of an extent with these references, of generation 9.
+fn item_of(refs: &[InlineRef; 2]) -> [u8; 46] {
     let mut body = [0; 46];
-    assert_eq!(rt; extent_body_size(&refs), body.len());
-    write_extent_body(9, 1, &refs, &mut body);
-    assert_eq!(rt; body, SHARED);
-    let found = InlineRefs::read(&body[24..]).ok_or("references")?;
-    assert_eq!(rt; found.len(), 2);
-    assert_eq!(rt; found.get(0), refs[0]);
-    assert_eq!(rt; found.get(1), refs[1]);
-    assert!(rt; InlineRefs::read(&body[24..45]).is_none());
-    Ok(())
+    if extent_body_size(refs) == body.len() {
+        write_extent_body(9, 1, refs, &mut body);
+    }
+    body
 }
+
+#[test]
+fn shared_references(rt: HostRuntime) {
+    assert!(rt; item_of(&[BLOCK_PARENT, DATA_PARENT]) == SHARED);
+}
+
+/// What the block group tells.
+const GROUP: BlockGroup = BlockGroup {
+    used: 3698688,
+    chunk_objectid: FIRST_CHUNK_TREE_OBJECTID,
+    flags: 1,
+};
 
 #[test]
 fn block_group(rt: HostRuntime) {
-    let wanted = BlockGroup {
-        used: 3698688,
-        chunk_objectid: FIRST_CHUNK_TREE_OBJECTID,
-        flags: 1,
-    };
-    assert_eq!(rt; BlockGroup::read(&BLOCK_GROUP), Some(wanted));
-    assert_eq!(rt; BlockGroup::read(&BLOCK_GROUP[..23]), None);
-    assert_eq!(rt; wanted.to_bytes(), BLOCK_GROUP);
+    let found = [
+        BlockGroup::read(front(block_group_body(), 24)),
+        BlockGroup::read(front(block_group_body(), 23)),
+    ];
+    assert!(rt; found == [Some(GROUP), None]);
+    assert!(rt; GROUP.to_bytes().as_slice() == block_group_body());
 }
+
+/// What the device tells.
+const DEVICE_TOLD: Device = Device {
+    devid: 1,
+    total_bytes: 268435456,
+    bytes_used: 20971520,
+    io_align: 4096,
+    io_width: 4096,
+    sector_size: 4096,
+    kind: 0,
+    generation: 0,
+    start_offset: 0,
+    dev_group: 0,
+    seek_speed: 0,
+    bandwidth: 0,
+    uuid: DEVICE_UUID,
+    fsid: [
+        0xbe, 0x40, 0x50, 0x64, 0x40, 0xae, 0x47, 0x2b, 0xb8, 0xc2, 0x8f, 0x6e, 0xea, 0x0f, 0xac,
+        0x7e,
+    ],
+};
 
 #[test]
 fn device(rt: HostRuntime) {
-    let wanted = Device {
-        devid: 1,
-        total_bytes: 268435456,
-        bytes_used: 20971520,
-        io_align: 4096,
-        io_width: 4096,
-        sector_size: 4096,
-        kind: 0,
-        generation: 0,
-        start_offset: 0,
-        dev_group: 0,
-        seek_speed: 0,
-        bandwidth: 0,
-        uuid: DEVICE_UUID,
-        fsid: [
-            0xbe, 0x40, 0x50, 0x64, 0x40, 0xae, 0x47, 0x2b, 0xb8, 0xc2, 0x8f, 0x6e, 0xea, 0x0f,
-            0xac, 0x7e,
-        ],
-    };
-    assert_eq!(rt; Device::read(&DEVICE), Some(wanted));
-    assert_eq!(rt; wanted.to_bytes(), DEVICE);
-    let extent = DevExtent {
-        chunk_tree: CHUNK_TREE,
-        chunk_objectid: FIRST_CHUNK_TREE_OBJECTID,
-        chunk_offset: 13631488,
-        length: 8388608,
-        chunk_tree_uuid: [
-            0xce, 0xc9, 0x05, 0x7b, 0x6c, 0x70, 0x45, 0x65, 0x98, 0x93, 0xad, 0xd4, 0xe2, 0x7a,
-            0x82, 0xd6,
-        ],
-    };
-    assert_eq!(rt; DevExtent::read(&DEV_EXTENT), Some(extent));
-    assert_eq!(rt; extent.to_bytes(), DEV_EXTENT);
+    assert!(rt; Device::read(front(device_body(), 98)) == Some(DEVICE_TOLD));
+    assert!(rt; DEVICE_TOLD.to_bytes().as_slice() == device_body());
 }
 
+/// What the device extent tells.
+const EXTENT_TOLD: DevExtent = DevExtent {
+    chunk_tree: CHUNK_TREE,
+    chunk_objectid: FIRST_CHUNK_TREE_OBJECTID,
+    chunk_offset: 13631488,
+    length: 8388608,
+    chunk_tree_uuid: [
+        0xce, 0xc9, 0x05, 0x7b, 0x6c, 0x70, 0x45, 0x65, 0x98, 0x93, 0xad, 0xd4, 0xe2, 0x7a, 0x82,
+        0xd6,
+    ],
+};
+
 #[test]
-fn chunk(rt: HostRuntime) -> Result<(), Fail> {
-    let stripe = Stripe {
+fn device_extent(rt: HostRuntime) {
+    assert!(rt; DevExtent::read(front(dev_extent_body(), 48)) == Some(EXTENT_TOLD));
+    assert!(rt; EXTENT_TOLD.to_bytes().as_slice() == dev_extent_body());
+}
+
+/// What the chunk of data tells.
+const CHUNK_TOLD: Chunk = Chunk {
+    length: 8388608,
+    owner: 2,
+    stripe_len: 65536,
+    kind: 1,
+    io_align: 65536,
+    io_width: 65536,
+    sector_size: 4096,
+    num_stripes: 1,
+    sub_stripes: 1,
+    stripe: Stripe {
         devid: 1,
         offset: 13631488,
         device_uuid: DEVICE_UUID,
-    };
-    let wanted = Chunk {
-        length: 8388608,
-        owner: 2,
-        stripe_len: 65536,
-        kind: 1,
-        io_align: 65536,
-        io_width: 65536,
-        sector_size: 4096,
-        num_stripes: 1,
-        sub_stripes: 1,
-        stripe,
-    };
-    assert_eq!(rt; Chunk::read(&CHUNK), Some(wanted));
+    },
+};
+
+#[test]
+fn chunk(rt: HostRuntime) {
+    let found = [
+        Chunk::read(front(chunk_body(), 80)),
+        Chunk::read(front(chunk_body(), 79)),
+        Chunk::read(front(chunk_body(), 48)),
+        Chunk::read(front(two_stripes_body(), 80)),
+    ];
+    assert!(rt; found == [Some(CHUNK_TOLD), None, None, None]);
     let mut written = [0; 80];
-    wanted.write(&mut written);
-    assert_eq!(rt; written, CHUNK);
-    assert_eq!(rt; Chunk::read(&CHUNK[..79]), None);
-    assert_eq!(rt; Chunk::read(&CHUNK[..48]), None);
-    let two = Chunk::read(&TWO_STRIPES).ok_or("two stripes")?;
-    assert_eq!(rt;
-        (two.num_stripes, two.kind, two.stripe.offset),
-        (2, 0x22, 22020096)
-    );
-    assert_eq!(rt; Chunk::read(&TWO_STRIPES[..80]), None);
-    Ok(())
+    CHUNK_TOLD.write(&mut written);
+    assert!(rt; written.as_slice() == chunk_body());
+}
+
+/// The number of stripes, the kind and the offset of the first stripe in the body of a chunk, if it is one.
+fn stripes_in(body: &[u8]) -> Option<(u16, u64, u64)> {
+    let found = Chunk::read(body)?;
+    Some((found.num_stripes, found.kind, found.stripe.offset))
+}
+
+#[test]
+fn two_stripes(rt: HostRuntime) {
+    assert!(rt; stripes_in(front(two_stripes_body(), 112)) == Some((2, 0x22, 22020096)));
 }

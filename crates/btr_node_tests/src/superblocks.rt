@@ -1,7 +1,7 @@
 // The superblock of a volume that `mkfs.btrfs -m single -d single --rootdir DIR -L label-of-it` made, beside the values that
 // `btrfs inspect-internal dump-super -f` prints of it.
 use btr_super::{Super, csum_type, mirror, sum_kind};
-use std::test::Fail;
+use std::process::Abort;
 use vol_block::Block;
 
 /// The superblock up to the end of its label; zeros follow.
@@ -67,83 +67,110 @@ fn superblock() -> Block {
     block
 }
 
-#[test]
-fn reads(rt: HostRuntime) -> Result<(), Fail> {
-    let found = Super::read(&superblock(), 16, BLOCKS)
-        .ok()
-        .ok_or("a superblock")?;
-    assert_eq!(rt;
-        (found.bytenr, found.flags, found.generation),
-        (65536, 1, 7)
-    );
-    assert_eq!(rt;
-        (found.root, found.chunk_root, found.log_root),
-        (5373952, 1064960, 0)
-    );
-    assert_eq!(rt; (found.total_bytes, found.bytes_used), (134217728, 147456));
-    assert_eq!(rt; (found.root_dir_objectid, found.num_devices), (6, 1));
-    assert_eq!(rt;
-        (found.sectorsize, found.nodesize, found.leafsize),
-        (4096, 16384, 16384)
-    );
-    assert_eq!(rt; (found.stripesize, found.sys_chunk_array_size), (4096, 97));
-    assert_eq!(rt;
-        (found.chunk_root_generation, found.compat_ro, found.incompat),
-        (5, 3, 0x341)
-    );
-    assert_eq!(rt;
-        (found.csum_type, found.root_level, found.chunk_root_level),
-        (0, 0, 0)
-    );
-    assert!(rt; found.label.starts_with(b"label-of-it\0"));
-    assert_eq!(rt;
-        (found.dev_item.devid, found.dev_item.bytes_used),
-        (1, 20971520)
-    );
-    assert_eq!(rt; found.dev_item.fsid, found.fsid);
-    assert_eq!(rt; &found.fsid[..4], [0x0a, 0x0b, 0x0c, 0x0d].as_slice());
-    Ok(())
+/// What is read of a block at a place.
+fn read(rt: &impl Abort, block: &Block, place: u64) -> Super {
+    Super::read(block, place, BLOCKS).expect(rt, "a superblock")
 }
 
-/// `btrfstune -M` gives the volume another identifier, and keeps that of the nodes behind it.
+/// The bytes of a superblock.
+fn encoded(found: &Super) -> Block {
+    let mut block = Block::zero();
+    found.encode(&mut block);
+    block
+}
+
+/// Addresses, counts and flags.
+fn numbers(found: &Super) -> [u64; 15] {
+    [
+        found.bytenr,
+        found.flags,
+        found.generation,
+        found.root,
+        found.chunk_root,
+        found.log_root,
+        found.total_bytes,
+        found.bytes_used,
+        found.root_dir_objectid,
+        found.num_devices,
+        found.chunk_root_generation,
+        found.compat_ro,
+        found.incompat,
+        found.dev_item.devid,
+        found.dev_item.bytes_used,
+    ]
+}
+
+/// Sizes, and the kind of checksum and the levels of the roots.
+fn sizes(found: &Super) -> [u32; 8] {
+    [
+        found.sectorsize,
+        found.nodesize,
+        found.leafsize,
+        found.stripesize,
+        found.sys_chunk_array_size,
+        found.csum_type as u32,
+        found.root_level as u32,
+        found.chunk_root_level as u32,
+    ]
+}
+
+const NUMBERS: [u64; 15] = [
+    65536, 1, 7, 5373952, 1064960, 0, 134217728, 147456, 6, 1, 5, 3, 0x341, 1, 20971520,
+];
+
+const SIZES: [u32; 8] = [4096, 16384, 16384, 4096, 97, 0, 0, 0];
+
 #[test]
-fn nodes_keep_their_identifier(rt: HostRuntime) -> Result<(), Fail> {
-    let plain = superblock();
-    let found = Super::read(&plain, 16, BLOCKS).ok().ok_or("a superblock")?;
-    assert_eq!(rt; found.node_fsid(), found.fsid);
-    let renamed = Super {
+fn reads(rt: HostRuntime) {
+    let found = read(&rt, &superblock(), 16);
+    assert!(rt; numbers(&found) == NUMBERS);
+    assert!(rt; sizes(&found) == SIZES);
+    assert!(rt; found.label.starts_with(b"label-of-it\0"));
+    assert!(rt; found.dev_item.fsid == found.fsid);
+    assert!(rt; found.fsid.starts_with(&[0x0a, 0x0b, 0x0c, 0x0d]));
+}
+
+/// The superblock of a volume with another identifier, as `btrfstune -M` gives it: that of the nodes stands behind it.
+fn renamed(found: &Super) -> Super {
+    Super {
         fsid: [0x5a; 16],
         incompat: found.incompat | 0x400,
         metadata_uuid: found.fsid,
-        ..found
-    };
-    let mut block = Block::zero();
-    renamed.encode(&mut block);
-    assert_eq!(rt; &block.bytes[571..587], found.fsid.as_slice());
-    let again = Super::read(&block, 16, BLOCKS).ok().ok_or("a superblock")?;
-    assert_eq!(rt; again.node_fsid(), found.fsid);
-    assert_eq!(rt; again.fsid, [0x5a; 16]);
-    Ok(())
+        ..*found
+    }
 }
 
 #[test]
-fn writes(rt: HostRuntime) -> Result<(), Fail> {
+fn nodes_keep_their_identifier(rt: HostRuntime) {
+    let found = read(&rt, &superblock(), 16);
+    let block = encoded(&renamed(&found));
+    assert!(rt; &block.bytes[571..587] == found.fsid.as_slice());
+    let again = read(&rt, &block, 16);
+    assert!(rt; again.fsid == [0x5a; 16]);
+    assert!(rt; [found.node_fsid(), again.node_fsid()] == [found.fsid, found.fsid]);
+}
+
+/// The number of the kind of checksum that has this number, if one has it.
+fn kind_again(number: u16) -> Option<u16> {
+    match sum_kind(number) {
+        Some(kind) => Some(csum_type(kind)),
+        None => None,
+    }
+}
+
+#[test]
+fn writes(rt: HostRuntime) {
     let block = superblock();
-    let found = Super::read(&block, 16, BLOCKS).ok().ok_or("a superblock")?;
-    let mut written = Block::zero();
-    found.encode(&mut written);
-    assert!(rt; written == block);
-    let kind = sum_kind(found.csum_type).ok_or("a kind of checksum")?;
-    assert_eq!(rt; csum_type(kind), 0);
-    Ok(())
+    let found = read(&rt, &block, 16);
+    assert!(rt; encoded(&found) == block);
+    assert!(rt; kind_again(found.csum_type) == Some(0));
 }
 
 /// The copy that mkfs wrote at 64 MiB differs in the four bytes of its sum and in its address.
 #[test]
 fn copies(rt: HostRuntime) {
-    let block = superblock();
     let mut copy = Block::zero();
-    mirror(&block, 16384, &mut copy);
+    mirror(&superblock(), 16384, &mut copy);
     let mut wanted = superblock();
     wanted.bytes[..4].copy_from_slice(&[0xdf, 0x8f, 0xc2, 0xf5]);
     wanted.bytes[48..56].copy_from_slice(&[0, 0, 0, 4, 0, 0, 0, 0]);
