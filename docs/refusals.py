@@ -1,5 +1,5 @@
 #!/usr/bin/env python3
-"""Makes of docs/refusals.table what is said of each line on standard error: crates/reiserconv/src/sentences.rt, which the program tells a person at a
+"""Makes of docs/refusals.table what is said of each line on standard error: crates/reiserconv_talk/src/sentences.rt, which the program tells a person at a
 terminal, the parts of docs/REFUSALS.md between `<!-- table: NAME -->` and `<!-- end of table -->`, and the part of docs/reiserconv.8 between
 `.\\" table` and `.\\" end of table`.
 
@@ -13,7 +13,7 @@ import textwrap
 
 TOP = os.path.join(os.path.dirname(os.path.abspath(__file__)), "..")
 TABLE = "docs/refusals.table"
-SENTENCES = "crates/reiserconv/src/sentences.rt"
+SENTENCES = "crates/reiserconv_talk/src/sentences.rt"
 DOCUMENT = "docs/REFUSALS.md"
 MANUAL = "docs/reiserconv.8"
 # the commands of which a refusal may be another matter than of all

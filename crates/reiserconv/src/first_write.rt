@@ -1,7 +1,7 @@
 // What a person is asked and told before a command writes its first block.
 use crate::guarded::Guard;
-use crate::question::Question;
 use host_edge::{Sink, StdSink};
+use reiserconv_talk::Question;
 use std::fs::{File, Files};
 use std::io::Write;
 use std::time::Clock;

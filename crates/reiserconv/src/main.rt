@@ -2,48 +2,29 @@
 //! its status. To a person at a terminal it also tells what the lines of a run mean, and what to do.
 #![tactic(auto)]
 
-ghost use Rattle.std.specs.Prelude.{◌≡◌, None};
-ghost use Rattle.host_edge.specs.FileDisk.{opened_for};
-
-mod advice;
-mod asked;
+mod count_again;
 mod device;
-mod finding;
+mod disks;
 mod first_write;
-mod foreign;
 mod guarded;
-mod nearest;
-mod notices;
-mod options;
-mod paragraph;
-mod question;
-mod recount;
 mod root;
-mod sentences;
-mod shell;
-mod space;
 mod start;
-mod talk;
-mod wanted;
-mod wrong_words;
 
-use asked::{Asked, Verb};
+use count_again::count_again;
 use device::{folder_in, is_device};
-use first_write::FirstWrite;
-use guarded::GuardedDisk;
-use host_edge::{FileDisk, LineSink, Sink, StatusLine, StdSink, csum_type_at, hold_streams};
-use question::Question;
-use recount::Recount;
+use disks::{Person, guarded_disk};
+use host_edge::{LineSink, Sink, StatusLine, StdSink, csum_type_at, hold_streams};
+use reiserconv_talk::reiserconv_words::{Asked, Verb};
+use reiserconv_talk::{Ended, How, Missing, Seen, Talk, tell_start};
 use root::is_root;
-use start::{Missing, Start};
+use start::Start;
 use std::alloc::Global;
 use std::env::Env;
 use std::fs::{File, Files};
-use std::io::{Stderr, Stdin, Write};
+use std::io::Write;
 use std::process::ExitCode;
 use std::random::RandomSource;
 use std::time::Clock;
-use talk::{Ended, How, Seen, Talk, tell_start};
 use volume_app::run;
 
 /// The status where the arguments, the clock or the random source failed.
@@ -74,13 +55,6 @@ fn main(rt: HostRuntime) -> ExitCode {
         }
     };
     ExitCode::from(status)
-}
-
-/// The streams by which a person is asked and answers while a run goes on.
-#[derive(Drop)]
-struct Person {
-    keyboard: Stdin,
-    screen: Stderr,
 }
 
 /// What the run starts with, once no file that is opened can get the number of a standard stream.
@@ -178,7 +152,7 @@ fn look_again<R: Files<File = File> + AllocGlobal + Clock + Copy + Drop, O: Writ
     out: &LineSink<'_, O>,
 ) -> Seen {
     let again = if talk.lacks_space(status, out) {
-        Recount::new(rt, start, shown).ok()
+        count_again(rt, start, shown).ok()
     } else {
         None
     };
@@ -198,43 +172,4 @@ fn look_again<R: Files<File = File> + AllocGlobal + Clock + Copy + Drop, O: Writ
         folder,
         csum_type,
     }
-}
-
-/// The disk of a run. That of a trial is to be overwritten.
-fn disk_for<'a, R: Files<File = File> + AllocGlobal + Clock + Clone + Drop>(
-    files: R,
-    line: &'a StatusLine,
-    asked: &Asked<'_>,
-) -> FileDisk<'a, R>
-    ensures { opened_for result ≡ None }
-{
-    let mut disk = FileDisk::new(files, line);
-    disk.expect(asked.task());
-    if asked.is_trial() {
-        disk.expect_blank();
-    }
-    disk
-}
-
-/// The same disk, behind what a person is asked and told before its first block is written.
-fn guarded_disk<'a, R: Files<File = File> + AllocGlobal + Clock + Copy + Drop>(
-    rt: R,
-    asked: &Asked<'a>,
-    talk: Option<&Talk<'_>>,
-    shown: &'a StatusLine,
-    person: Person,
-) -> GuardedDisk<FileDisk<'a, R>, FirstWrite<'a, R, Stderr>>
-    ensures { opened_for result.disk ≡ None }
-{
-    let notice = match talk {
-        Some(talk) => talk.notice(),
-        None => None,
-    };
-    let first = FirstWrite::new(
-        rt,
-        Question::of(asked, shown, person.keyboard),
-        notice,
-        StdSink::new(person.screen, shown),
-    );
-    GuardedDisk::new(disk_for(rt, shown, asked), Some(first))
 }

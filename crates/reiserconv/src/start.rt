@@ -1,6 +1,7 @@
 ghost use Rattle.std.specs.Prelude.{◌<◌, ◌^◌, IfOk};
 
 use host_edge::Ids;
+use reiserconv_talk::Missing;
 use std::env::Env;
 use std::io::ErrorKind;
 use std::random::RandomSource;
@@ -18,21 +19,6 @@ pub struct Start {
     /// The seconds since 1970.
     pub now: u64,
     ghost bounded: { now < 2 ^ 63 },
-}
-
-/// What could not be had of the system.
-#[derive(Clone, Copy, Debug, PartialEq, Eq)]
-pub enum Missing {
-    /// A file in the place of each standard stream that is closed.
-    Streams,
-    /// A word of the command line as text: it is not in UTF-8.
-    Text,
-    /// Memory for the words.
-    Memory,
-    /// The time.
-    Time,
-    /// Random numbers.
-    Random,
 }
 
 impl Start {

@@ -132,6 +132,3 @@ fn stays(option: Option<Choice>, verb: Verb, change: Option<Change>) -> bool {
         None => true,
     }
 }
-
-#[cfg(test)]
-mod tests;

@@ -207,6 +207,3 @@ fn unopened(word: &str) -> &str {
 fn unstopped(word: &str) -> &str {
     word.trim_end_matches(['.', ',', ':', ';', '?', ')'])
 }
-
-#[cfg(test)]
-mod tests;

@@ -335,6 +335,3 @@ fn is_below_zero(word: &str) -> bool {
 fn has_sign_or_zero(word: &str) -> bool {
     word.starts_with('+') || (word.starts_with('0') && word.len() > 1)
 }
-
-#[cfg(test)]
-mod tests;

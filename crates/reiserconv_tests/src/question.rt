@@ -1,4 +1,4 @@
-use super::is_yes;
+use reiserconv_talk::is_yes;
 
 #[test]
 fn only_yes_is_yes(rt: HostRuntime) {

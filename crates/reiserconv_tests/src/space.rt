@@ -1,8 +1,5 @@
-use super::Space;
-use crate::options::Choice;
-use crate::paragraph::Paragraph;
-use crate::recount::{Counted, Recount};
-use crate::wanted::{Change, Wanted};
+use reiserconv_talk::{Counted, Paragraph, Recount, Space};
+use reiserconv_words::{Change, Choice, Wanted};
 use std::process::Abort;
 use std::test::Fail;
 

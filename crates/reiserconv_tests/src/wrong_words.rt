@@ -1,5 +1,5 @@
-use super::find;
-use crate::paragraph::Paragraph;
+use reiserconv_talk::Paragraph;
+use reiserconv_words::find;
 use std::process::Abort;
 use std::test::Fail;
 

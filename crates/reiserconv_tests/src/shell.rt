@@ -1,4 +1,4 @@
-use super::quoted;
+use reiserconv_words::quoted;
 use std::test::Fail;
 
 #[test]

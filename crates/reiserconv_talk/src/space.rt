@@ -1,9 +1,7 @@
 // Whether the space of a volume suffices for a conversion, and what helps where it does not.
-use crate::asked::Verb;
-use crate::options::Choice;
 use crate::paragraph::Paragraph;
 use crate::recount::{Counted, Recount};
-use crate::wanted::{Change, Wanted};
+use reiserconv_words::{Change, Choice, Verb, Wanted};
 use std::alloc::{AllocError, Global};
 
 /// The free units of 1 MiB of a volume, and those that a conversion takes.
@@ -330,6 +328,3 @@ fn number_behind(text: &str, word: &str) -> Option<u64> {
     }
     None
 }
-
-#[cfg(test)]
-mod tests;

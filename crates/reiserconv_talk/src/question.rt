@@ -1,8 +1,7 @@
 // A rollback of a volume that was written to since the conversion asks a person first.
-use crate::asked::{Asked, Verb};
 use crate::paragraph::Paragraph;
-use crate::shell::quoted;
 use host_edge::{Sink, StatusLine, StdSink, generation_at};
+use reiserconv_words::{Asked, Verb, quoted};
 use std::alloc::{AllocError, Global};
 use std::fs::{File, Files};
 use std::io::{Input, IsTerminal, Stdin, Write};
@@ -86,7 +85,7 @@ impl<'a> Question<'a> {
 }
 
 /// Whether an answer is yes, and nothing else.
-fn is_yes(answer: &str) -> bool {
+pub fn is_yes(answer: &str) -> bool {
     answer.trim().eq_ignore_ascii_case("yes")
 }
 
@@ -98,6 +97,3 @@ fn loss(alloc: Global, path: &str) -> Result<String, AllocError> {
     text.end()?;
     Ok(text.into_text())
 }
-
-#[cfg(test)]
-mod tests;

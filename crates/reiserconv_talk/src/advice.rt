@@ -1,15 +1,13 @@
 // What a person at a terminal is told below the line of a run: what it means, what is safe, and what to do.
-use crate::asked::Verb;
+use crate::missing::Missing;
 use crate::paragraph::Paragraph;
 use crate::sentences::{
     Sentence, of_btrfs_rule, of_command, of_fault, of_feature, of_line, of_refusal, of_rule,
     of_safety, of_start,
 };
 use crate::space::Space;
-use crate::start::Missing;
-use crate::wanted::Wanted;
-use crate::wrong_words::find;
 use host_edge::{Cause, DiskCall, Trouble, Use};
+use reiserconv_words::{Verb, Wanted, find};
 use std::alloc::{AllocError, Global};
 use std::io::ErrorKind;
 use std::str;

@@ -1,10 +1,9 @@
 // What a person is told right before a command writes, and when a command is done.
-use crate::asked::{Asked, Verb};
 use crate::paragraph::Paragraph;
 use crate::recount::Recount;
 use crate::space::Space;
-use crate::wanted::Wanted;
 use outside::btrfs_format::feature::{CSUM_TYPE_CRC32, CSUM_TYPE_SHA256};
+use reiserconv_words::{Asked, Verb, Wanted};
 use std::alloc::{AllocError, Global};
 use std::str;
 

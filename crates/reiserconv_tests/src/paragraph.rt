@@ -1,4 +1,4 @@
-use super::Paragraph;
+use reiserconv_talk::Paragraph;
 use std::test::Fail;
 
 /// What is said with this path and these parts.

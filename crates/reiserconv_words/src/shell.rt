@@ -28,6 +28,3 @@ fn is_plain(c: char) -> bool {
         || !c.is_ascii()
         || matches!(c, '/' | '.' | '_' | '-' | '+' | ',' | ':' | '=' | '@' | '%')
 }
-
-#[cfg(test)]
-mod tests;

@@ -1,12 +1,10 @@
 use crate::advice::{Outcome, advice, start_advice};
-use crate::asked::{Asked, Verb};
+use crate::missing::Missing;
 use crate::notices::{Done, before, behind};
 use crate::recount::Recount;
-use crate::shell::quoted;
 use crate::space::Space;
-use crate::start::Missing;
-use crate::wanted::Wanted;
 use host_edge::{LineSink, StatusLine, Trouble};
+use reiserconv_words::{Asked, Verb, Wanted, quoted};
 use std::alloc::Global;
 use std::io::Write;
 use std::str;

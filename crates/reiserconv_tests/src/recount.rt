@@ -1,7 +1,5 @@
-use super::{Counted, better, changes};
-use crate::options::Choice;
-use crate::space::Space;
-use crate::wanted::{Change, Wanted};
+use reiserconv_talk::{Counted, Recount, Space, changes};
+use reiserconv_words::{Change, Choice, Wanted};
 use std::test::Fail;
 
 /// How many sizes of nodes are looked at for some words, and how many options that are left out.
@@ -44,17 +42,24 @@ fn counted(change: Change, needed: u64) -> Counted {
     }
 }
 
+/// What is kept of these counts.
+fn kept(counts: &[Counted]) -> Recount {
+    let mut found = Recount::new();
+    for count in counts {
+        found.add(*count);
+    }
+    found
+}
+
 #[test]
 fn the_better_count(rt: HostRuntime) {
     let small = Change::Size("4096");
     let large = Change::Size("8192");
-    let first = better(None, counted(small, 7));
-    assert_eq!(rt; first.change, small);
-    assert_eq!(rt; better(Some(first), counted(large, 7)).change, small);
-    assert_eq!(rt; better(Some(first), counted(large, 6)).change, large);
-    let without = Change::Without(Choice::NoInline);
-    assert_eq!(rt;
-        better(Some(counted(small, 4)), counted(without, 3)).change,
-        without
-    );
+    let first = counted(small, 7);
+    assert_eq!(rt; kept(&[first]).sized, Some(first));
+    assert_eq!(rt; kept(&[first, counted(large, 7)]).sized, Some(first));
+    let better = counted(large, 6);
+    assert_eq!(rt; kept(&[first, better]).sized, Some(better));
+    let without = counted(Change::Without(Choice::NoInline), 3);
+    assert_eq!(rt; kept(&[counted(small, 4), without]).without, Some(without));
 }

@@ -1,6 +1,4 @@
-use super::{Change, Wanted};
-use crate::asked::Verb;
-use crate::options::Choice;
+use reiserconv_words::{Change, Choice, Verb, Wanted};
 use std::test::Fail;
 
 /// The command that asks for the same as words with spaces between them, in which a tilde stands for a space of a word.
