@@ -76,38 +76,47 @@ fn item(items: &ItemList, i: usize) -> Option<(Key, &[u8])> {
     }
 }
 
+/// The key of item `i`, and the blocks and the used blocks of the device that it tells of.
+fn device_at(items: &ItemList, i: usize) -> Option<(Key, u64, u64)> {
+    let (key, body) = item(items, i)?;
+    let device = Device::read(body)?;
+    Some((key, device.total_bytes, device.bytes_used))
+}
+
+/// The key of item `i`, and the length and the kind of the chunk that it tells of.
+fn chunk_at(items: &ItemList, i: usize) -> Option<(Key, u64, u64)> {
+    let (key, body) = item(items, i)?;
+    let chunk = Chunk::read(body)?;
+    Some((key, chunk.length, chunk.kind))
+}
+
+fn key(objectid: u64, kind: u8, offset: u64) -> Key {
+    Key {
+        objectid,
+        kind,
+        offset,
+    }
+}
+
+/// The chunks, by the numbers of their items: start, length and kind.
+const CHUNKS: [(usize, u64, u64, u64); 4] = [
+    (1, 1_048_576, 33_554_432, 1),
+    (2, 34_603_008, 1_048_576, 2),
+    (3, 35_651_584, 2_097_152, 4),
+    (4, 37_748_736, 1_048_576, 1),
+];
+
 #[test]
 fn chunks_of_a_sample(rt: HostRuntime) -> Result<(), PlanAnswer> {
     let (chunk_tree, device_tree) = space_lists(rt.alloc())?;
-    let Some((key, body)) = item(&chunk_tree, 0) else {
-        panic!(rt; "no device");
-    };
-    assert_eq!(rt; (key.objectid, key.kind, key.offset), (1, 216, 1));
-    let Some(device) = Device::read(body) else {
-        panic!(rt; "no device");
-    };
-    assert_eq!(rt; device.total_bytes, 50_331_648);
-    assert_eq!(rt; device.bytes_used, 37_748_736);
-    let wanted: [(u64, u64, u64); 4] = [
-        (1_048_576, 33_554_432, 1),
-        (34_603_008, 1_048_576, 2),
-        (35_651_584, 2_097_152, 4),
-        (37_748_736, 1_048_576, 1),
-    ];
-    let mut i = 1;
-    for (start, length, kind) in wanted {
-        let Some((key, body)) = item(&chunk_tree, i) else {
-            panic!(rt; "no chunk");
-        };
-        assert_eq!(rt; (key.objectid, key.kind, key.offset), (256, 228, start));
-        let Some(chunk) = Chunk::read(body) else {
-            panic!(rt; "no chunk");
-        };
-        assert_eq!(rt; (chunk.length, chunk.kind), (length, kind));
-        i = i.wrapping_add(1);
+    let device = (key(1, 216, 1), 50_331_648, 37_748_736);
+    assert!(rt; device_at(&chunk_tree, 0) == Some(device));
+    for (i, start, length, kind) in &CHUNKS {
+        let wanted = (key(256, 228, *start), *length, *kind);
+        assert!(rt; chunk_at(&chunk_tree, *i) == Some(wanted));
     }
-    assert_eq!(rt; (chunk_tree.len(), sum(&chunk_tree)), (5, 3_545_149_433));
-    assert_eq!(rt; (device_tree.len(), sum(&device_tree)), (4, 1_706_817_448));
+    assert!(rt; [chunk_tree.len(), device_tree.len()] == [5, 4]);
+    assert!(rt; [sum(&chunk_tree), sum(&device_tree)] == [3_545_149_433, 1_706_817_448]);
     Ok(())
 }
 
@@ -138,21 +147,19 @@ fn sample_roots(alloc: Global) -> Result<RootList, Memory>
     Ok(list)
 }
 
+/// The key of item `i`, and the directory, the address and the used bytes of the root that it tells of.
+fn root_at(items: &ItemList, i: usize) -> Option<(Key, [u64; 3])> {
+    let (key, body) = item(items, i)?;
+    let root = RootItem::read(body)?;
+    Some((key, [root.root_dirid, root.bytenr, root.bytes_used]))
+}
+
 #[test]
 fn roots_of_a_sample(rt: HostRuntime) -> Result<(), Memory> {
     let list = sample_roots(rt.alloc())?;
     let items = roots(rt.alloc(), &list, 7, &IDS, 1_700_000_000, 16384)?;
-    let Some((key, body)) = item(&items, 8) else {
-        panic!(rt; "no root item");
-    };
-    assert_eq!(rt; (key.objectid, key.kind, key.offset), (256, 132, 0));
-    let Some(root) = RootItem::read(body) else {
-        panic!(rt; "no root item");
-    };
-    assert_eq!(rt;
-        (root.root_dirid, root.bytenr, root.bytes_used),
-        (256, 35_667_968, 16384)
-    );
-    assert_eq!(rt; (items.len(), sum(&items)), (11, 1_760_973_775));
+    let root = (key(256, 132, 0), [256, 35_667_968, 16384]);
+    assert!(rt; root_at(&items, 8) == Some(root));
+    assert!(rt; (items.len(), sum(&items)) == (11, 1_760_973_775));
     Ok(())
 }

@@ -94,9 +94,8 @@ fn nodes_of_two_lists(rt: HostRuntime) -> Result<(), Memory> {
     let high = leaves(rt.alloc(), &row(rt.alloc(), 12288, 2)?)?;
     let all = merged(rt.alloc(), &high, &low)?;
     assert_eq!(rt; all.len(), 4);
-    assert_eq!(rt; node(&all, 0), (4096, 0, 5));
-    assert_eq!(rt; node(&all, 2), (12288, 0, 5));
-    assert_eq!(rt; node(&all, 3), (16384, 0, 5));
+    let found = [node(&all, 0), node(&all, 2), node(&all, 3)];
+    assert!(rt; found == [(4096, 0, 5), (12288, 0, 5), (16384, 0, 5)]);
     Ok(())
 }
 
@@ -118,9 +117,8 @@ fn levels(alloc: Global) -> Result<NodeList, Memory> {
 fn nodes_of_a_tree(rt: HostRuntime) -> Result<(), Memory> {
     let nodes = levels(rt.alloc())?;
     assert_eq!(rt; nodes.len(), 4);
-    assert_eq!(rt; node(&nodes, 0), (12288, 0, 7));
-    assert_eq!(rt; node(&nodes, 2), (20480, 0, 7));
-    assert_eq!(rt; node(&nodes, 3), (24576, 1, 7));
+    let found = [node(&nodes, 0), node(&nodes, 2), node(&nodes, 3)];
+    assert!(rt; found == [(12288, 0, 7), (20480, 0, 7), (24576, 1, 7)]);
     Ok(())
 }
 
@@ -154,14 +152,20 @@ fn own(alloc: Global) -> Result<(u64, NodeList), PlanAnswer> {
     Ok((count, nodes))
 }
 
+/// Nodes of that list, by their numbers.
+const OWN: [(usize, (u64, u8, u64)); 4] = [
+    (199, (41_775_104, 0, 5)),
+    (200, (49_152_000, 0, 2)),
+    (203, (49_164_288, 0, 2)),
+    (204, (49_168_384, 1, 2)),
+];
+
 #[test]
 fn own_nodes_are_counted_again(rt: HostRuntime) -> Result<(), PlanAnswer> {
     let (count, nodes) = own(rt.alloc())?;
-    assert_eq!(rt; count, 5);
-    assert_eq!(rt; nodes.len(), 205);
-    assert_eq!(rt; node(&nodes, 199), (41_775_104, 0, 5));
-    assert_eq!(rt; node(&nodes, 200), (49_152_000, 0, 2));
-    assert_eq!(rt; node(&nodes, 203), (49_164_288, 0, 2));
-    assert_eq!(rt; node(&nodes, 204), (49_168_384, 1, 2));
+    assert!(rt; (count, nodes.len()) == (5, 205));
+    for (i, wanted) in &OWN {
+        assert_eq!(rt; node(&nodes, *i), *wanted);
+    }
     Ok(())
 }

@@ -38,29 +38,25 @@ fn begun(alloc: Global, blocks: u64, used: u64) -> Result<Bitmap, Memory> {
 #[test]
 fn need_of_an_empty_volume(rt: HostRuntime) {
     let need = needed(&EMPTY_VOLUME, &Options::plain());
-    assert_eq!(rt; need.system, 1);
-    assert_eq!(rt; need.metadata, 2);
-    assert_eq!(rt; need.data_, 1);
-    assert_eq!(rt; need.total(), 4);
+    assert!(rt; [need.system, need.metadata, need.data_, need.total()] == [1, 2, 1, 4]);
+}
+
+/// The plan for that volume in so many blocks.
+fn chosen(alloc: Global, blocks: u64) -> Result<Plan, PlanAnswer> {
+    let need = needed(&EMPTY_VOLUME, &Options::plain());
+    let map = begun(alloc, blocks, 8212)?;
+    choose(alloc, &map, &need)
 }
 
 #[test]
-fn three_free_units_are_too_few(rt: HostRuntime) -> Result<(), Memory> {
-    let need = needed(&EMPTY_VOLUME, &Options::plain());
-    let map = begun(rt.alloc(), 9216, 8212)?;
-    let Err(e) = choose(rt.alloc(), &map, &need) else {
-        panic!(rt; "chosen");
+fn three_free_units_are_too_few(rt: HostRuntime) {
+    let refused = PlanAnswer::NoSpace {
+        needed: 4,
+        free: 3,
+        run_needed: 1,
+        longest_run: 3,
     };
-    assert_eq!(rt;
-        e,
-        PlanAnswer::NoSpace {
-            needed: 4,
-            free: 3,
-            run_needed: 1,
-            longest_run: 3
-        }
-    );
-    Ok(())
+    assert!(rt; chosen(rt.alloc(), 9216).err() == Some(refused));
 }
 
 /// Whether a list has the units from one to before another.
@@ -73,27 +69,40 @@ fn is_range(list: &Units, first: u64, end: u64) -> bool {
     first.checked_add(list.len() as u64) == Some(end)
 }
 
+/// Run `i` that stays unallocated, if there are so many.
+fn unallocated(plan: &Plan, i: usize) -> Option<Run> {
+    if i < plan.unallocated.len() {
+        Some(plan.unallocated.get(i))
+    } else {
+        None
+    }
+}
+
+/// Blocks of that volume, how many runs stay unallocated, and the first one. The smaller one has no unit to spare.
+const SIZES: [(u64, usize, Option<Run>); 2] = [
+    (
+        12288,
+        1,
+        Some(Run {
+            first: 37,
+            count: 11,
+        }),
+    ),
+    (9472, 0, None),
+];
+
 #[test]
 fn units_are_chosen(rt: HostRuntime) -> Result<(), PlanAnswer> {
-    let need = needed(&EMPTY_VOLUME, &Options::plain());
-    let map = begun(rt.alloc(), 12288, 8212)?;
-    let plan = choose(rt.alloc(), &map, &need)?;
-    assert!(rt; is_range(&plan.system, 33, 34));
-    assert!(rt; is_range(&plan.metadata, 34, 36));
-    assert!(rt; is_range(&plan.data_, 36, 37));
-    assert!(rt; plan.unallocated.len() == 1);
-    assert_eq!(rt;
-        plan.unallocated.get(0),
-        Run {
-            first: 37,
-            count: 11
-        }
-    );
-    // Without a unit to spare.
-    let map = begun(rt.alloc(), 9472, 8212)?;
-    let plan = choose(rt.alloc(), &map, &need)?;
-    assert!(rt; is_range(&plan.data_, 36, 37));
-    assert!(rt; plan.unallocated.is_empty());
+    for (blocks, count, first) in &SIZES {
+        let plan = chosen(rt.alloc(), *blocks)?;
+        let ranges = [
+            is_range(&plan.system, 33, 34),
+            is_range(&plan.metadata, 34, 36),
+            is_range(&plan.data_, 36, 37),
+        ];
+        assert!(rt; ranges == [true; 3]);
+        assert!(rt; (plan.unallocated.len(), unallocated(&plan, 0)) == (*count, *first));
+    }
     Ok(())
 }
 
@@ -116,46 +125,32 @@ const THREE_UNITS: Need = Need {
     data_: 1,
 };
 
-// The runs without use have 1101, 256, 255 and 255 units. The first one alone has 1024 units and a 64th of all.
-#[test]
-fn runs_of_256_units_stay_unallocated(rt: HostRuntime) -> Result<(), PlanAnswer> {
-    let map = with_used(rt.alloc(), 1874, &[1105, 1362, 1618])?;
-    let plan = choose(rt.alloc(), &map, &THREE_UNITS)?;
-    assert!(rt; plan.unallocated.len() == 2);
-    let long = Run {
-        first: 4,
-        count: 1101,
-    };
-    let just_long = Run {
-        first: 1106,
-        count: 256,
-    };
-    assert_eq!(rt; plan.unallocated.get(0), long);
-    assert_eq!(rt; plan.unallocated.get(1), just_long);
-    Ok(())
+/// The plan for a volume of so many units, a block of each of these units in use.
+fn chosen_beside(alloc: Global, units: u64, used: &[u64]) -> Result<Plan, PlanAnswer> {
+    let map = with_used(alloc, units, used)?;
+    choose(alloc, &map, &THREE_UNITS)
 }
 
-// Seven runs of 205 units: five have 1025 units, which is less than 1024 and a 64th of all 1435, and six have 1230.
-#[test]
-fn of_equal_runs_the_lower_ones_stay(rt: HostRuntime) -> Result<(), PlanAnswer> {
-    let map = with_used(rt.alloc(), 1445, &[209, 415, 621, 827, 1033, 1239])?;
-    let plan = choose(rt.alloc(), &map, &THREE_UNITS)?;
-    assert!(rt; plan.unallocated.len() == 6);
-    let sixth = Run {
-        first: 1034,
-        count: 205,
-    };
-    assert_eq!(rt; plan.unallocated.get(5), sixth);
-    Ok(())
-}
+/// Units of a volume, those of which a block is in use, how many runs stay unallocated, the number of one of them, its first unit
+/// and its units.
+const RUNS: [(u64, &[u64], usize, usize, u64, u64); 4] = [
+    // The runs without use have 1101, 256, 255 and 255 units. The first one alone has 1024 units and a 64th of all.
+    (1874, &[1105, 1362, 1618], 2, 0, 4, 1101),
+    (1874, &[1105, 1362, 1618], 2, 1, 1106, 256),
+    // Seven runs of 205 units: five have 1025 units, which is less than 1024 and a 64th of all 1435, and six have 1230.
+    (1445, &[209, 415, 621, 827, 1033, 1239], 6, 5, 1034, 205),
+    // 1009 units without use, in runs of 1, 2, 3, 4 and 999 units.
+    (1017, &[5, 8, 12, 17], 5, 0, 4, 1),
+];
 
-// 1009 units without use, in runs of 1, 2, 3, 4 and 999 units.
 #[test]
-fn up_to_1024_units_all_stay(rt: HostRuntime) -> Result<(), PlanAnswer> {
-    let map = with_used(rt.alloc(), 1017, &[5, 8, 12, 17])?;
-    let plan = choose(rt.alloc(), &map, &THREE_UNITS)?;
-    assert!(rt; plan.unallocated.len() == 5);
-    assert_eq!(rt; plan.unallocated.get(0), Run { first: 4, count: 1 });
+fn long_runs_and_lower_ones_stay_unallocated(rt: HostRuntime) -> Result<(), PlanAnswer> {
+    for (units, used, runs, i, first, count) in &RUNS {
+        let plan = chosen_beside(rt.alloc(), *units, *used)?;
+        let (first, count) = (*first, *count);
+        let wanted = (*runs, Some(Run { first, count }));
+        assert!(rt; (plan.unallocated.len(), unallocated(&plan, *i)) == wanted);
+    }
     Ok(())
 }
 
@@ -200,7 +195,7 @@ fn pieces_in_a_list(rt: HostRuntime) {
     assert_eq!(rt; blocks_of(&list), 7956);
 }
 
-/// The last chunk of the plan for a volume, and how many there are.
+/// How many chunks the plan for a volume has, and the last one.
 fn chunks(
     alloc: Global,
     map: &Bitmap,
@@ -224,15 +219,13 @@ fn chunks(
 // Units 1 to 32 hold data, 33 is for the chunk tree, 34 and 35 for the other trees, and 36 for copies.
 #[test]
 fn chunks_of_an_empty_volume(rt: HostRuntime) -> Result<(), PlanAnswer> {
-    let need = needed(&EMPTY_VOLUME, &Options::plain());
-    let map = begun(rt.alloc(), 12288, 8212)?;
-    let (count, last) = chunks(rt.alloc(), &map, &need)?;
-    assert_eq!(rt; count, 4);
-    let wanted = PlannedChunk {
+    let last = PlannedChunk {
         start: 9216,
         length: 256,
         role: Role::Data,
     };
-    assert_eq!(rt; last, Some(wanted));
+    let need = needed(&EMPTY_VOLUME, &Options::plain());
+    let map = begun(rt.alloc(), 12288, 8212)?;
+    assert!(rt; chunks(rt.alloc(), &map, &need)? == (4, Some(last)));
     Ok(())
 }

@@ -34,23 +34,23 @@ const FORM: NodeForm = NodeForm {
 const OWNER: u64 = 5;
 
 /// All addresses of a disk of 32 blocks.
-const ALL: [MapRange; 1] = [MapRange {
+const ALL: MapRange = MapRange {
     logical: 0,
     length: 131072,
     physical: 0,
     mirror: None,
-}];
+};
 
 /// How far the logical addresses of the slots elsewhere lie behind their offsets.
 const FURTHER: u64 = 1048576;
 
 /// Blocks 16 to 31 of a disk, at logical addresses of a volume.
-const ELSEWHERE: [MapRange; 1] = [MapRange {
+const ELSEWHERE: MapRange = MapRange {
     logical: 1114112,
     length: 65536,
     physical: 65536,
     mirror: None,
-}];
+};
 
 fn key(objectid: u64) -> Key {
     Key {
@@ -111,14 +111,14 @@ fn has_items<S: BlockSource>(
     }
     let mut walker = TreeWalker::new(alloc, tree_of(root))?;
     for i in 0..list.len() {
-        if !walker.advance(src, &ALL)? {
+        if !walker.advance(src, &[ALL])? {
             return Ok(false);
         }
         if walker.key() != list.key(i) || walker.body() != list.body(i) {
             return Ok(false);
         }
     }
-    let more = walker.advance(src, &ALL)?;
+    let more = walker.advance(src, &[ALL])?;
     Ok(!more)
 }
 
@@ -138,26 +138,51 @@ fn written<D: Disk>(
     write_tree(alloc, disk, OWNER, FORM, slots, &mut ListItems::new(list))
 }
 
-#[test]
-fn one_leaf(rt: HostRuntime) -> Result<(), Fail> {
-    let mut list = ItemList::new(rt.alloc());
-    list.add(key(256), b"one")?;
-    list.add(key(257), b"two")?;
-    let mut disk = MemDisk::new(rt.alloc(), 32)?;
+/// A list of items with these numbers and bodies.
+fn list_of(alloc: Global, items: &[(u64, &[u8])]) -> Result<ItemList, Memory> {
+    let mut list = ItemList::new(alloc);
+    for (number, body) in items {
+        list.add(key(*number), *body)?;
+    }
+    Ok(list)
+}
+
+/// The root of a tree of the items of a list that is written to so many slots, the nodes that it counted, how many blocks were
+/// written, and whether the items are back.
+fn written_back(alloc: Global, count: u64, list: &ItemList) -> Result<(Root, u64, u64, bool), Fail>
+    requires few { count ≤ 16 }
+{
+    let mut disk = MemDisk::new(alloc, 32)?;
     disk.open("", Access::Write)?;
-    let tree = written(rt.alloc(), &mut disk, 1, &list)?;
-    assert_eq!(rt;
-        tree.root,
-        Root {
-            address: SUPER_INFO_OFFSET,
-            level: 0,
-            nodes: 1
-        }
-    );
-    assert_eq!(rt; tree.counter.finish(), 1);
-    assert_eq!(rt; disk.writes(), 1);
-    let is_back = has_items(rt.alloc(), &mut disk, &tree.root, &list)?;
-    assert!(rt; is_back);
+    let tree = written(alloc, &mut disk, count, list)?;
+    let is_back = has_items(alloc, &mut disk, &tree.root, list)?;
+    let nodes = tree.counter.finish();
+    Ok((tree.root, nodes, disk.writes(), is_back))
+}
+
+/// A leaf has room for one of these two items.
+const LARGE: &[(u64, &[u8])] = &[(256, &[7; 3970]), (257, &[8; 3970])];
+
+/// Items, and address, level and nodes of the root of their tree, which takes so many slots.
+const TREES: [(&[(u64, &[u8])], u64, u8, u64); 3] = [
+    (&[(256, b"one"), (257, b"two")], SUPER_INFO_OFFSET, 0, 1),
+    (LARGE, 73728, 1, 3),
+    (&[], SUPER_INFO_OFFSET, 0, 1),
+];
+
+#[test]
+fn trees_are_back(rt: HostRuntime) -> Result<(), Fail> {
+    for (items, address, level, nodes) in &TREES {
+        let (address, level, nodes) = (*address, *level, *nodes);
+        let list = list_of(rt.alloc(), *items)?;
+        let found = written_back(rt.alloc(), nodes.min(16), &list)?;
+        let root = Root {
+            address,
+            level,
+            nodes,
+        };
+        assert!(rt; found == (root, nodes, nodes, true));
+    }
     Ok(())
 }
 
@@ -184,65 +209,137 @@ fn three_nodes<D: Disk>(alloc: Global, disk: &mut D) -> Result<Root, WriteAnswer
     requires size { 32 ≤ D.size disk.old }
     ensures size { D.size disk.new ≡ D.size disk.old }
 {
-    let mut list = ItemList::new(alloc);
-    list.add(key(256), &[7; 3970])?;
-    list.add(key(257), &[8; 3970])?;
+    let list = list_of(alloc, LARGE)?;
     let tree = written(alloc, disk, 3, &list)?;
     Ok(tree.root)
 }
 
-// The root has no parent. A node that is not opened has nothing below it.
-#[test]
-fn nodes_one_by_one(rt: HostRuntime) -> Result<(), Fail> {
-    let alloc = rt.alloc();
-    let mut disk = MemDisk::new(alloc, 32)?;
-    disk.open("", Access::Write)?;
-    let root = three_nodes(alloc, &mut disk)?;
-    if root.level > 7 {
-        return Ok(());
-    }
-    let tree = tree_of(&root);
-    let mut walker = NodeWalker::new(alloc, tree, Owners::Own)?;
-    let top = next_node(&mut walker, &mut disk, &ALL)?;
-    assert_eq!(rt; top, Some((73728, None)));
-    let first = next_node(&mut walker, &mut disk, &ALL)?;
-    assert_eq!(rt; first, Some((65536, Some(key(256)))));
-    let second = next_node(&mut walker, &mut disk, &ALL)?;
-    assert_eq!(rt; second, Some((69632, Some(key(257)))));
-    assert!(rt; walker.take().is_none());
-    let mut skipping = NodeWalker::new(alloc, tree, Owners::Own)?;
-    assert!(rt; skipping.take().is_some());
-    assert!(rt; skipping.take().is_none());
-    Ok(())
+/// A tree of which a node is taken to be the root, and how it is walked.
+#[derive(Clone, Copy)]
+struct Walk {
+    root: Root,
+    owner: u64,
+    generation: u64,
+    owners: Owners,
 }
 
-// A node of another tree is refused, but where trees share nodes, and then it has nothing below it.
-#[test]
-fn nodes_of_others(rt: HostRuntime) -> Result<(), Fail> {
-    let alloc = rt.alloc();
-    let mut disk = MemDisk::new(alloc, 32)?;
-    disk.open("", Access::Write)?;
-    let root = three_nodes(alloc, &mut disk)?;
-    if root.level > 7 {
-        return Ok(());
+impl Walk {
+    fn walker(&self, alloc: Global) -> Result<NodeWalker, BtrAnswer> {
+        if self.root.level > 7 {
+            return Err(BtrAnswer::Memory);
+        }
+        let tree = tree_of(&self.root);
+        let tree = Tree {
+            root: NodePointer {
+                generation: self.generation,
+                ..tree.root
+            },
+            owner: self.owner,
+            ..tree
+        };
+        Ok(NodeWalker::new(alloc, tree, self.owners)?)
     }
-    let other = Tree {
+}
+
+/// The address of a node, and the key that its parent has for it.
+type Visit = Option<(u64, Option<Key>)>;
+
+/// The first four nodes of a walk, by a range of addresses.
+fn visits<S: BlockSource>(
+    alloc: Global,
+    src: &mut S,
+    walk: &Walk,
+    range: MapRange,
+) -> Result<[Visit; 4], BtrAnswer>
+    requires size { 32 ≤ S.size src.old }
+    requires inside { range.physical + range.length ≤ 131072 }
+    ensures size { S.size src.new ≡ S.size src.old }
+{
+    let mut walker = walk.walker(alloc)?;
+    let ranges = [range];
+    let first = next_node(&mut walker, src, &ranges)?;
+    let second = next_node(&mut walker, src, &ranges)?;
+    let third = next_node(&mut walker, src, &ranges)?;
+    let fourth = next_node(&mut walker, src, &ranges)?;
+    Ok([first, second, third, fourth])
+}
+
+/// Why the root of a walk is refused, and whether anything is below it.
+fn refusal<S: BlockSource>(
+    alloc: Global,
+    src: &mut S,
+    walk: &Walk,
+    range: MapRange,
+) -> Result<(Option<BtrAnswer>, bool), BtrAnswer>
+    requires size { 32 ≤ S.size src.old }
+    requires inside { range.physical + range.length ≤ 131072 }
+    ensures size { S.size src.new ≡ S.size src.old }
+{
+    let mut walker = walk.walker(alloc)?;
+    let refused = next_node(&mut walker, src, &[range]).err();
+    Ok((refused, walker.take().is_some()))
+}
+
+/// Whether a walk has two nodes to take, where none is opened.
+fn takes(alloc: Global, walk: &Walk) -> Result<[bool; 2], BtrAnswer> {
+    let mut walker = walk.walker(alloc)?;
+    Ok([walker.take().is_some(), walker.take().is_some()])
+}
+
+/// The nodes of that tree, this far behind: the root has no parent.
+fn nodes(further: u64) -> [Visit; 4]
+    requires { further ≤ 1048576 }
+{
+    [
+        Some((further + 73728, None)),
+        Some((further + 65536, Some(key(256)))),
+        Some((further + 69632, Some(key(257)))),
+        None,
+    ]
+}
+
+/// A root is refused that is there, and nothing is below it.
+fn refused(address: u64) -> (Option<BtrAnswer>, bool) {
+    let rule = BtrRule::NodeHead;
+    let refusal = BtrRefusal::BadBtrfs { address, rule };
+    (Some(BtrAnswer::Refused(refusal)), false)
+}
+
+/// The nodes of a walk over a tree of its own, why the same root is refused to another tree, and the nodes where trees share them.
+fn walked<D: Disk>(
+    alloc: Global,
+    disk: &mut D,
+    walk: &Walk,
+) -> Result<([Visit; 4], (Option<BtrAnswer>, bool), [Visit; 4]), BtrAnswer>
+    requires size { 32 ≤ D.size disk.old }
+{
+    let other = Walk {
         owner: 257,
-        ..tree_of(&root)
+        ..*walk
     };
-    let mut stray = NodeWalker::new(alloc, other, Owners::Own)?;
-    let refused = next_node(&mut stray, &mut disk, &ALL).err();
-    assert_eq!(rt;
-        refused,
-        Some(BtrAnswer::Refused(BtrRefusal::BadBtrfs {
-            address: 73728,
-            rule: BtrRule::NodeHead
-        }))
-    );
-    assert!(rt; stray.take().is_none());
-    let mut shared = NodeWalker::new(alloc, other, Owners::Files)?;
-    let top = next_node(&mut shared, &mut disk, &ALL)?;
-    assert_eq!(rt; top, Some((73728, None)));
+    let shared = Walk {
+        owners: Owners::Files,
+        ..other
+    };
+    let own = visits(alloc, disk, walk, ALL)?;
+    let refused = refusal(alloc, disk, &other, ALL)?;
+    Ok((own, refused, visits(alloc, disk, &shared, ALL)?))
+}
+
+// A node that is not opened has nothing below it. A node of another tree is refused, but where trees share nodes.
+#[test]
+fn nodes_one_by_one(rt: HostRuntime) -> Result<(), Fail> {
+    let mut disk = MemDisk::new(rt.alloc(), 32)?;
+    disk.open("", Access::Write)?;
+    let walk = Walk {
+        root: three_nodes(rt.alloc(), &mut disk)?,
+        owner: OWNER,
+        generation: 1,
+        owners: Owners::Own,
+    };
+    let found = walked(rt.alloc(), &mut disk, &walk)?;
+    assert!(rt; found == (nodes(0), refused(73728), nodes(0)));
+    assert!(rt; takes(rt.alloc(), &walk)? == [true, false]);
     Ok(())
 }
 
@@ -287,107 +384,51 @@ fn written_elsewhere<D: Disk>(
 // The tree is read back by the map that gives the slots at their offsets, and not as one of transaction 1.
 #[test]
 fn nodes_elsewhere(rt: HostRuntime) -> Result<(), Fail> {
-    let alloc = rt.alloc();
-    let mut list = ItemList::new(alloc);
-    list.add(key(256), &[7; 3970])?;
-    list.add(key(257), &[8; 3970])?;
-    let mut disk = MemDisk::new(alloc, 32)?;
+    let list = list_of(rt.alloc(), LARGE)?;
+    let mut disk = MemDisk::new(rt.alloc(), 32)?;
     disk.open("", Access::Write)?;
-    let root = written_elsewhere(alloc, &mut disk, 3, &list)?.root;
-    if root.level > 7 {
-        return Ok(());
-    }
-    let early = tree_of(&root);
-    let tree = Tree {
-        root: NodePointer {
-            generation: 7,
-            ..early.root
-        },
-        ..early
+    let walk = Walk {
+        root: written_elsewhere(rt.alloc(), &mut disk, 3, &list)?.root,
+        owner: OWNER,
+        generation: 7,
+        owners: Owners::Own,
     };
-    let mut walker = NodeWalker::new(alloc, tree, Owners::Own)?;
-    let top = next_node(&mut walker, &mut disk, &ELSEWHERE)?;
-    assert_eq!(rt; top, Some((FURTHER + 73728, None)));
-    let first = next_node(&mut walker, &mut disk, &ELSEWHERE)?;
-    assert_eq!(rt; first, Some((FURTHER + 65536, Some(key(256)))));
-    let second = next_node(&mut walker, &mut disk, &ELSEWHERE)?;
-    assert_eq!(rt; second, Some((FURTHER + 69632, Some(key(257)))));
-    assert!(rt; walker.take().is_none());
-    let mut refusing = NodeWalker::new(alloc, early, Owners::Own)?;
-    let refused = next_node(&mut refusing, &mut disk, &ELSEWHERE).err();
-    assert_eq!(rt;
-        refused,
-        Some(BtrAnswer::Refused(BtrRefusal::BadBtrfs {
-            address: FURTHER + 73728,
-            rule: BtrRule::NodeHead
-        }))
-    );
+    assert!(rt; visits(rt.alloc(), &mut disk, &walk, ELSEWHERE)? == nodes(FURTHER));
+    let early = Walk {
+        generation: 1,
+        ..walk
+    };
+    let found = refusal(rt.alloc(), &mut disk, &early, ELSEWHERE)?;
+    assert!(rt; found == refused(FURTHER + 73728));
     Ok(())
 }
 
-// A leaf has room for one of these items.
-#[test]
-fn two_levels(rt: HostRuntime) -> Result<(), Fail> {
-    let mut list = ItemList::new(rt.alloc());
-    list.add(key(256), &[7; 3970])?;
-    list.add(key(257), &[8; 3970])?;
-    let mut disk = MemDisk::new(rt.alloc(), 32)?;
-    disk.open("", Access::Write)?;
-    let tree = written(rt.alloc(), &mut disk, 3, &list)?;
-    assert_eq!(rt;
-        tree.root,
-        Root {
-            address: 73728,
-            level: 1,
-            nodes: 3
-        }
-    );
-    assert_eq!(rt; disk.writes(), 3);
-    let is_back = has_items(rt.alloc(), &mut disk, &tree.root, &list)?;
-    assert!(rt; is_back);
-    Ok(())
-}
-
-#[test]
-fn no_items(rt: HostRuntime) -> Result<(), Fail> {
-    let list = ItemList::new(rt.alloc());
-    let mut disk = MemDisk::new(rt.alloc(), 32)?;
-    disk.open("", Access::Write)?;
-    let tree = written(rt.alloc(), &mut disk, 1, &list)?;
-    let is_back = has_items(rt.alloc(), &mut disk, &tree.root, &list)?;
-    assert!(rt; is_back);
-    Ok(())
-}
-
-/// What is answered for two items with these keys and bodies of this length, with so many slots.
-fn answer(
-    alloc: Global,
-    first: u64,
-    second: u64,
-    body: &[u8],
-    count: u64,
-) -> Result<Option<WriteAnswer>, Fail>
-    requires few { count ≤ 16 }
-{
-    let mut list = ItemList::new(alloc);
-    list.add(key(first), body)?;
-    list.add(key(second), body)?;
+/// What is answered for a list, with up to 16 slots.
+fn answer(alloc: Global, list: &ItemList, count: u64) -> Result<Option<WriteAnswer>, Fail> {
     let mut disk = MemDisk::new(alloc, 32)?;
     disk.open("", Access::Write)?;
-    Ok(written(alloc, &mut disk, count, &list).err())
+    Ok(written(alloc, &mut disk, count.min(16), list).err())
 }
+
+/// Two items, so many slots, and the answer. They do not fit there by their order, their length or the slots.
+const ANSWERS: [(&[(u64, &[u8])], u64, Option<WriteAnswer>); 7] = [
+    (&[(1, &[7; 3970]), (2, &[7; 3970])], 3, None),
+    (&[(2, &[7; 3970]), (1, &[7; 3970])], 3, MISFIT),
+    (&[(1, &[7; 3970]), (1, &[7; 3970])], 3, MISFIT),
+    (&[(1, &[7; 3971]), (2, &[7; 3971])], 3, MISFIT),
+    (&[(1, &[7; 3970]), (2, &[7; 3970])], 2, MISFIT),
+    (&[(1, &[7; 3970]), (2, &[7; 3970])], 1, MISFIT),
+    (&[(1, b"body"), (2, b"body")], 0, MISFIT),
+];
+
+const MISFIT: Option<WriteAnswer> = Some(WriteAnswer::Misfit);
 
 #[test]
 fn misfits(rt: HostRuntime) -> Result<(), Fail> {
-    let alloc = rt.alloc();
-    let misfit = Some(WriteAnswer::Misfit);
-    assert_eq!(rt; answer(alloc, 1, 2, &[7; 3970], 3)?, None);
-    assert_eq!(rt; answer(alloc, 2, 1, &[7; 3970], 3)?, misfit);
-    assert_eq!(rt; answer(alloc, 1, 1, &[7; 3970], 3)?, misfit);
-    assert_eq!(rt; answer(alloc, 1, 2, &[7; 3971], 3)?, misfit);
-    assert_eq!(rt; answer(alloc, 1, 2, &[7; 3970], 2)?, misfit);
-    assert_eq!(rt; answer(alloc, 1, 2, &[7; 3970], 1)?, misfit);
-    assert_eq!(rt; answer(alloc, 1, 2, b"body", 0)?, misfit);
+    for (items, count, wanted) in &ANSWERS {
+        let list = list_of(rt.alloc(), *items)?;
+        assert!(rt; answer(rt.alloc(), &list, *count)? == *wanted);
+    }
     Ok(())
 }
 
@@ -419,17 +460,14 @@ impl Twice {
 
 #[test]
 fn two_trees(rt: HostRuntime) -> Result<(), Fail> {
-    let mut list = ItemList::new(rt.alloc());
-    list.add(key(256), &[7; 3970])?;
-    list.add(key(257), &[8; 3970])?;
+    let list = list_of(rt.alloc(), LARGE)?;
     let mut disk = MemDisk::new(rt.alloc(), 32)?;
     disk.open("", Access::Write)?;
     let twice = Twice::written(rt.alloc(), &mut disk, &list)?;
     let (first, second) = twice.roots;
-    assert_eq!(rt; (first.address, second.address), (73728, 86016));
-    assert_eq!(rt; (twice.taken, twice.nodes), (6, 6));
-    let first_back = has_items(rt.alloc(), &mut disk, &first, &list)?;
-    let second_back = has_items(rt.alloc(), &mut disk, &second, &list)?;
-    assert!(rt; first_back && second_back);
+    let found = (first.address, second.address, twice.taken, twice.nodes);
+    assert!(rt; found == (73728, 86016, 6, 6));
+    assert!(rt; has_items(rt.alloc(), &mut disk, &first, &list)?);
+    assert!(rt; has_items(rt.alloc(), &mut disk, &second, &list)?);
     Ok(())
 }

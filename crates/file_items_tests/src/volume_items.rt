@@ -74,21 +74,26 @@ impl PieceList for Pieces {
     }
 }
 
-/// All pieces, by their places: blocks 0 to 255 are reserved, and so they are copied.
-fn all_pieces(alloc: Global) -> Result<Pieces, Memory> {
-    let mut items = Vec::new(alloc);
-    for (first, count, inode, block) in KEPT {
+/// Adds the kept pieces.
+fn push_kept(items: &mut Vec<Piece>) -> Result<(), Memory> {
+    for (first, count, inode, block) in &KEPT {
+        let owner = if *inode == 0 {
+            None
+        } else {
+            Some((*inode, *block))
+        };
         items.push(Piece {
-            from: Some(first),
-            count,
-            owner: if inode == 0 {
-                None
-            } else {
-                Some((inode, block))
-            },
-            place: first,
+            from: Some(*first),
+            count: *count,
+            owner,
+            place: *first,
         })?;
     }
+    Ok(())
+}
+
+/// Adds the copies: blocks 0 to 255 are reserved.
+fn push_copies(items: &mut Vec<Piece>) -> Result<(), Memory> {
     for block in 0..256 {
         items.push(Piece {
             from: Some(block),
@@ -97,16 +102,30 @@ fn all_pieces(alloc: Global) -> Result<Pieces, Memory> {
             place: COPIES + block,
         })?;
     }
+    Ok(())
+}
+
+/// Adds the tails, which lie behind the copies.
+fn push_tails(items: &mut Vec<Piece>) -> Result<(), Memory> {
     let mut place = COPIES + 256;
-    for owner in TAILS {
+    for owner in &TAILS {
         items.push(Piece {
             from: None,
             count: 1,
-            owner: Some(owner),
+            owner: Some(*owner),
             place,
         })?;
         place = place.wrapping_add(1);
     }
+    Ok(())
+}
+
+/// All pieces, by their places.
+fn all_pieces(alloc: Global) -> Result<Pieces, Memory> {
+    let mut items = Vec::new(alloc);
+    push_kept(&mut items)?;
+    push_copies(&mut items)?;
+    push_tails(&mut items)?;
     Ok(Pieces { items })
 }
 
@@ -135,29 +154,63 @@ fn sum(
     Ok((count, sum ^ u32::MAX))
 }
 
-#[test]
-fn items_are_those_of_an_independent_program(rt: HostRuntime) -> Result<(), Fail> {
-    let alloc = rt.alloc();
+/// The moment of the conversion.
+const NOW: u64 = 1_700_000_000;
+
+/// The sums of the file tree, of the image's tree and of the relocation tree.
+fn sums(alloc: Global, disk: &mut MemDisk) -> Result<[(u64, u32); 3], VolAnswer> {
+    let volume = Volume::open(alloc, disk)?;
+    let pieces = all_pieces(alloc)?;
+    let files = sum_of_files(alloc, disk, &volume, &pieces)?;
+    let image = sum_of_image(alloc, disk, &volume, &pieces)?;
+    let relocation = sum_of_relocation(alloc, disk, &volume, &pieces)?;
+    Ok([files, image, relocation])
+}
+
+fn sum_of_files(
+    alloc: Global,
+    disk: &mut MemDisk,
+    volume: &Volume,
+    pieces: &Pieces,
+) -> Result<(u64, u32), VolAnswer> {
+    let mut items = Items::tree5(alloc, volume, pieces, &Options::plain(), 0)?;
+    sum(&mut items, disk, volume, pieces)
+}
+
+fn sum_of_image(
+    alloc: Global,
+    disk: &mut MemDisk,
+    volume: &Volume,
+    pieces: &Pieces,
+) -> Result<(u64, u32), VolAnswer> {
+    let mut items = Items::image(alloc, volume, pieces, &Options::plain(), NOW)?;
+    sum(&mut items, disk, volume, pieces)
+}
+
+fn sum_of_relocation(
+    alloc: Global,
+    disk: &mut MemDisk,
+    volume: &Volume,
+    pieces: &Pieces,
+) -> Result<(u64, u32), VolAnswer> {
+    let mut items = Items::relocation(alloc, NOW)?;
+    sum(&mut items, disk, volume, pieces)
+}
+
+/// The sample of number 25, open.
+fn sample(alloc: Global) -> Result<MemDisk, Fail> {
     let mut disk = MemDisk::new(alloc, 12288)?;
     disk.open("", Access::Write)?;
     make(alloc, 25, 12288, &mut disk)?;
-    let volume = Volume::open(alloc, &mut disk)?;
-    let pieces = all_pieces(alloc)?;
-    let options = Options::plain();
-    let mut tree = Items::tree5(alloc, &volume, &pieces, &options, 0)?;
+    Ok(disk)
+}
+
+#[test]
+fn items_are_those_of_an_independent_program(rt: HostRuntime) -> Result<(), Fail> {
+    let mut disk = sample(rt.alloc())?;
     assert_eq!(rt;
-        sum(&mut tree, &mut disk, &volume, &pieces)?,
-        (138, 3996222682)
-    );
-    let mut image = Items::image(alloc, &volume, &pieces, &options, 1_700_000_000)?;
-    assert_eq!(rt;
-        sum(&mut image, &mut disk, &volume, &pieces)?,
-        (285, 1046254154)
-    );
-    let mut relocation = Items::relocation(alloc, 1_700_000_000)?;
-    assert_eq!(rt;
-        sum(&mut relocation, &mut disk, &volume, &pieces)?,
-        (2, 1116823260)
+        sums(rt.alloc(), &mut disk)?,
+        [(138, 3996222682), (285, 1046254154), (2, 1116823260)]
     );
     Ok(())
 }

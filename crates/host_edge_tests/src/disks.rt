@@ -1,134 +1,215 @@
-use crate::folder::Folder;
-use host_edge::{Cause, DiskCall, FileDisk, StatusLine, Trouble};
-use outside::{Access, BlockSource, Disk};
-use std::fs;
-use std::io::ErrorKind;
-use std::process::Abort;
+// Disks over files.
+ghost use Rattle.std.specs.Prelude.{◌≡◌, None};
+ghost use Rattle.host_edge.specs.FileDisk.{opened_for};
+
+use crate::folder::{Entry, Folder};
+use host_edge::{FileDisk, StatusLine, hold_streams};
+use outside::{Access, BlockSource, Disk, Fault};
+use std::fs::OpenOptions;
+use std::os::fd::AsRawFd;
 use std::test::Fail;
+use std::{fs, io};
 use vol_block::Block;
 
-fn filled(byte: u8) -> Block {
-    Block {
-        bytes: [byte; 4096],
+type HostDisk<'a> = FileDisk<'a, &'a HostRuntime>;
+
+/// Two blocks of sevens, and a part of a third.
+const SEVENS: Entry = Entry::File(&[7; 9000]);
+
+/// Files that a disk is opened over: one with a file system on it, volumes that the program knows, and others.
+const FILES: &[(&str, Entry)] = &[
+    ("ext4", Entry::Disk(81920, &[(1080, b"\x53\xef")])),
+    ("reiserfs", Entry::Disk(81920, &[(65588, b"ReIsEr2Fs")])),
+    ("btrfs", Entry::Disk(81920, &[(65600, b"_BHRfS_M")])),
+    ("zeros", Entry::Disk(81920, &[(0, b"\0")])),
+    ("locked", Entry::File(&[7; 8192])),
+    ("short", Entry::File(&[7; 8192])),
+];
+
+/// What is done to a file.
+#[derive(Clone, Copy)]
+enum Done {
+    /// It is opened for reading.
+    Read,
+    /// It is opened for writing.
+    Written,
+    /// It is opened to be overwritten.
+    Overwritten,
+    /// It is opened for writing while it is open for writing.
+    WrittenTwice,
+    /// A block is read of it once it became shorter.
+    ReadShortened,
+}
+
+/// Why a disk over a file does not do it; nothing where it does.
+const TROUBLES: &[(&str, Done, &str)] = &[
+    (
+        "gone",
+        Done::Read,
+        "opening it: No such file or directory (os error 2)",
+    ),
+    // a folder
+    (
+        "",
+        Done::Read,
+        "opening it: it is neither a plain file nor a block device",
+    ),
+    (
+        "ext4",
+        Done::Overwritten,
+        "opening it: it holds an ext2, ext3 or ext4 file system",
+    ),
+    ("ext4", Done::Written, ""),
+    ("reiserfs", Done::Overwritten, ""),
+    ("btrfs", Done::Overwritten, ""),
+    ("zeros", Done::Overwritten, ""),
+    (
+        "locked",
+        Done::WrittenTwice,
+        "opening it: another program has locked it",
+    ),
+    (
+        "short",
+        Done::ReadShortened,
+        "reading block 1: unexpected end of file",
+    ),
+];
+
+/// Why the last failure of a disk came, if its call failed.
+fn trouble_of(
+    rt: &HostRuntime,
+    disk: &HostDisk<'_>,
+    call: Result<(), Fault>,
+) -> io::Result<String> {
+    match (call, disk.trouble()) {
+        (Ok(()), _) => Ok(String::new(rt.alloc())),
+        (Err(_), Some(trouble)) => Ok(format!(in rt.alloc(); "{}", trouble)?),
+        (Err(_), None) => Ok(String::from_str(rt.alloc(), "no trouble")?),
     }
+}
+
+/// Does that with a disk.
+fn call(rt: &HostRuntime, disk: &mut HostDisk<'_>, path: &str, done: Done) -> Result<(), Fault>
+    requires closed { opened_for disk.old ≡ None }
+{
+    match done {
+        Done::Read => disk.open(path, Access::Read),
+        Done::Written => disk.open(path, Access::Write),
+        Done::Overwritten => {
+            disk.expect_blank();
+            disk.open(path, Access::Write)
+        }
+        Done::WrittenTwice => open_beside(rt, disk, path),
+        Done::ReadShortened => read_shortened(rt, disk, path),
+    }
+}
+
+/// Opens a disk while another one is open.
+fn open_beside(rt: &HostRuntime, disk: &mut HostDisk<'_>, path: &str) -> Result<(), Fault>
+    requires closed { opened_for disk.old ≡ None }
+{
+    let line = StatusLine::none();
+    let mut first = FileDisk::new(rt, &line);
+    first.open(path, Access::Write)?;
+    disk.open(path, Access::Write)
+}
+
+/// Reads a block of a file that becomes shorter once it is open.
+fn read_shortened(rt: &HostRuntime, disk: &mut HostDisk<'_>, path: &str) -> Result<(), Fault>
+    requires closed { opened_for disk.old ≡ None }
+{
+    disk.open(path, Access::Read)?;
+    if disk.len() < 2 || fs::write(rt, path, [7; 5000].as_slice()).is_err() {
+        return Ok(());
+    }
+    disk.read(1, &mut Block::zero())
+}
+
+/// Why a disk does not do that; nothing where it does.
+fn trouble(rt: &HostRuntime, path: &str, done: Done) -> io::Result<String> {
+    let line = StatusLine::none();
+    let mut disk = FileDisk::new(rt, &line);
+    let called = call(rt, &mut disk, path, done);
+    trouble_of(rt, &disk, called)
+}
+
+/// Whether that is told of a file of a folder.
+fn is_told(
+    rt: &HostRuntime,
+    folder: &Folder,
+    name: &str,
+    done: Done,
+    text: &str,
+) -> io::Result<bool> {
+    let path = folder.path(rt, name)?;
+    let found = trouble(rt, path.as_str(), done)?;
+    Ok(found.as_str() == text)
+}
+
+#[test]
+fn a_disk_tells_why_it_does_not_do_it(rt: HostRuntime) -> io::Result<()> {
+    let folder = Folder::filled(&rt, "disks", FILES)?;
+    for (name, done, text) in TROUBLES {
+        assert!(rt; is_told(&rt, &folder, *name, *done, *text)?, "of {name}");
+    }
+    folder.remove(&rt)
+}
+
+/// Opens a disk, writes nines to block 1, and gives the lengths of the disk before and behind.
+fn write_nines(disk: &mut HostDisk<'_>, path: &str) -> Result<[u64; 2], Fault>
+    requires closed { opened_for disk.old ≡ None }
+{
+    let before = disk.len();
+    disk.open(path, Access::Write)?;
+    let length = disk.len();
+    if length < 2 {
+        return Err(Fault);
+    }
+    disk.write(1, &Block { bytes: [9; 4096] })?;
+    disk.sync()?;
+    Ok([before, length])
+}
+
+/// Whether a block of a disk has these bytes alone.
+fn has(disk: &mut HostDisk<'_>, n: u64, byte: u8) -> Result<bool, Fault> {
+    if n >= disk.len() {
+        return Err(Fault);
+    }
+    let mut block = Block::zero();
+    disk.read(n, &mut block)?;
+    Ok(block.bytes == [byte; 4096])
+}
+
+/// Whether block 1 has nines, and block 0 sevens.
+fn are_kept(disk: &mut HostDisk<'_>) -> Result<[bool; 2], Fault> {
+    let nines = has(disk, 1, 9)?;
+    let sevens = has(disk, 0, 7)?;
+    Ok([nines, sevens])
+}
+
+/// The lengths of a disk before and behind its opening, how many blocks were written, whether nothing failed, and whether both
+/// blocks are kept.
+fn used(rt: &HostRuntime, path: &str) -> Result<([u64; 2], u64, bool, [bool; 2]), Fault> {
+    let line = StatusLine::none();
+    let mut disk = FileDisk::new(rt, &line);
+    let lengths = write_nines(&mut disk, path)?;
+    let kept = are_kept(&mut disk)?;
+    Ok((lengths, disk.written(), disk.trouble().is_none(), kept))
 }
 
 #[test]
 fn a_file_is_a_disk(rt: HostRuntime) -> Result<(), Fail> {
-    let folder = Folder::new(&rt, "disk")?;
+    let folder = Folder::filled(&rt, "disk", &[("disk", SEVENS)])?;
     let path = folder.path(&rt, "disk")?;
-    // Two blocks and a part of a third.
-    fs::write(&rt, path.as_str(), [7; 9000].as_slice())?;
-    let line = StatusLine::none();
-    let mut disk = FileDisk::new(&rt, &line);
-    assert_eq!(rt; disk.len(), 0);
-    disk.open(path.as_str(), Access::Write)?;
-    assert_eq!(rt; disk.len(), 2);
-    disk.write(1, &filled(9))?;
-    disk.sync()?;
-    assert_eq!(rt; disk.written(), 1);
-    assert!(rt; disk.trouble().is_none());
-    let bytes = fs::read(&rt, path.as_str())?;
-    assert_eq!(rt; bytes.len(), 9000);
-    folder.remove(&rt)?;
-    Ok(())
+    assert!(rt; used(&rt, path.as_str())? == ([0, 2], 1, true, [true; 2]));
+    assert_eq!(rt; fs::read(&rt, path.as_str())?.len(), 9000);
+    Ok(folder.remove(&rt)?)
 }
 
 #[test]
-fn blocks_are_read_at_their_places(rt: HostRuntime) -> Result<(), Fail> {
-    let folder = Folder::new(&rt, "blocks")?;
-    let path = folder.path(&rt, "disk")?;
-    fs::write(&rt, path.as_str(), [7; 9000].as_slice())?;
-    let line = StatusLine::none();
-    let mut disk = FileDisk::new(&rt, &line);
-    disk.open(path.as_str(), Access::Write)?;
-    if disk.len() < 2 {
-        return Err("a disk is too short".into());
-    }
-    disk.write(1, &filled(9))?;
-    let mut block = Block::zero();
-    disk.read(1, &mut block)?;
-    assert!(rt; block == filled(9));
-    disk.read(0, &mut block)?;
-    assert!(rt; block == filled(7));
-    folder.remove(&rt)?;
-    Ok(())
-}
-
-#[test]
-fn one_disk_at_a_time_is_opened_for_writing(rt: HostRuntime) -> Result<(), Fail> {
-    let folder = Folder::new(&rt, "lock")?;
-    let path = folder.path(&rt, "disk")?;
-    fs::write(&rt, path.as_str(), [7; 8192].as_slice())?;
-    let line = StatusLine::none();
-    let mut disk = FileDisk::new(&rt, &line);
-    disk.open(path.as_str(), Access::Write)?;
-    let mut second = FileDisk::new(&rt, &line);
-    assert!(rt; second.open(path.as_str(), Access::Write).is_err());
-    tells(
-        &rt,
-        second.trouble(),
-        "opening it: another program has locked it",
-    )?;
-    folder.remove(&rt)?;
-    Ok(())
-}
-
-/// Why a call failed is told so.
-fn tells(
-    rt: &(impl Abort + AllocGlobal),
-    trouble: Option<Trouble>,
-    text: &str,
-) -> Result<(), Fail> {
-    let trouble = format!(in rt.alloc(); "{}", trouble.ok_or("no trouble")?)?;
-    assert_eq!(rt; trouble.as_str(), text);
-    Ok(())
-}
-
-#[test]
-fn a_file_that_is_not_there_is_told(rt: HostRuntime) -> Result<(), Fail> {
-    let folder = Folder::new(&rt, "gone")?;
-    let path = folder.path(&rt, "disk")?;
-    let line = StatusLine::none();
-    let mut gone = FileDisk::new(&rt, &line);
-    assert!(rt; gone.open(path.as_str(), Access::Read).is_err());
-    let trouble = gone.trouble().ok_or("no trouble")?;
-    assert!(rt; trouble.call == DiskCall::Open);
-    assert!(rt; matches!(&trouble.cause, Cause::System(e) if e.kind() == ErrorKind::NotFound));
-    folder.remove(&rt)?;
-    Ok(())
-}
-
-#[test]
-fn a_folder_is_no_disk(rt: HostRuntime) -> Result<(), Fail> {
-    let folder = Folder::new(&rt, "folder")?;
-    let path = folder.path(&rt, "")?;
-    let line = StatusLine::none();
-    let mut disk = FileDisk::new(&rt, &line);
-    assert!(rt; disk.open(path.as_str(), Access::Read).is_err());
-    assert!(rt; matches!(&disk.trouble().ok_or("no trouble")?.cause, Cause::Kind));
-    folder.remove(&rt)?;
-    Ok(())
-}
-
-#[test]
-fn a_file_that_became_shorter_is_told(rt: HostRuntime) -> Result<(), Fail> {
-    let folder = Folder::new(&rt, "short")?;
-    let path = folder.path(&rt, "disk")?;
-    fs::write(&rt, path.as_str(), [7; 8192].as_slice())?;
-    let line = StatusLine::none();
-    let mut short = FileDisk::new(&rt, &line);
-    short.open(path.as_str(), Access::Read)?;
-    fs::write(&rt, path.as_str(), [7; 5000].as_slice())?;
-    if short.len() < 2 {
-        return Err("a disk is too short".into());
-    }
-    assert!(rt; short.read(1, &mut Block::zero()).is_err());
-    tells(
-        &rt,
-        short.trouble(),
-        "reading block 1: unexpected end of file",
-    )?;
-    folder.remove(&rt)?;
+fn no_file_gets_the_number_of_a_standard_stream(rt: HostRuntime) -> io::Result<()> {
+    hold_streams(&rt)?;
+    let file = OpenOptions::new().read(true).open(&rt, "/dev/null")?;
+    assert!(rt; file.as_raw_fd() > 2);
     Ok(())
 }

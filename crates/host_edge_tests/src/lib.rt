@@ -5,13 +5,9 @@
 #![tactic(auto)]
 
 #[cfg(test)]
-mod blank_disks;
-#[cfg(test)]
-mod btrfs_volumes;
-#[cfg(test)]
-mod caches;
-#[cfg(test)]
 mod census;
+#[cfg(test)]
+mod changes;
 #[cfg(test)]
 mod disks;
 #[cfg(test)]
@@ -19,11 +15,7 @@ mod folder;
 #[cfg(test)]
 mod generations;
 #[cfg(test)]
-mod loop_devices;
-#[cfg(test)]
-mod numbers;
-#[cfg(test)]
-mod processes;
+mod in_use;
 #[cfg(test)]
 mod signatures;
 #[cfg(test)]
@@ -31,8 +23,8 @@ mod sinks;
 #[cfg(test)]
 mod stages;
 #[cfg(test)]
-mod status_lines;
-#[cfg(test)]
 mod tables;
+#[cfg(test)]
+mod uses;
 #[cfg(test)]
 mod watches;
