@@ -2,7 +2,6 @@
 ghost use Rattle.std.specs.Prelude.{◌≡◌, ◌≤◌, ◌<◌, ◌^◌, length, AllPairs, IfOk};
 ghost use Rattle.space_items.specs.Nodes.{nodes_at};
 ghost use Rattle.space_items.specs.Stream.{ArePieces};
-ghost use Rattle.unit_plan.specs.declared.piece.Piece.{Piece as PieceOf};
 
 use btr_tree::{Counter, Slots};
 use btrfs_format::object::FS_TREE;
