@@ -1,6 +1,6 @@
 // Volumes beside the checksums of those that another program made from the same description; reiserfsck finds nothing to
 // complain of in these.
-ghost use Rattle.std.specs.Prelude.{◌≤◌, ◌<◌, ◌^◌};
+ghost use Rattle.std.specs.Prelude.{◌<◌, ◌^◌};
 
 use outside::{Access, BlockSource, Disk};
 use outside_mem::MemDisk;
@@ -10,9 +10,8 @@ use std::test::Fail;
 use vol_block::Block;
 
 /// The volume of a number in 12,288 blocks, on a disk of a few more.
-fn made(alloc: Global, number: u32, old: bool) -> Result<MemDisk, Fail>
-    requires { number ≤ 4000 }
-{
+fn made(alloc: Global, number: u32, old: bool) -> Result<MemDisk, Fail> {
+    let number = number.min(4000);
     let mut disk = MemDisk::new(alloc, 12300)?;
     disk.open("", Access::Write)?;
     if disk.len() < 12288 {
@@ -44,15 +43,15 @@ fn checksum(disk: &mut MemDisk) -> Result<u64, Fail> {
 
 #[test]
 fn volumes_are_those_of_another_program(rt: HostRuntime) -> Result<(), Fail> {
-    for (number, old, sum) in [
+    for (number, old, sum) in &[
         (0, false, 8746140367833053955),
         (7, false, 10666534633789198725),
         (7, true, 10459846018199331157),
         (100, false, 9014183227702672403),
         (100, true, 16408755452641477565),
     ] {
-        let mut disk = made(rt.alloc(), number, old)?;
-        assert_eq!(rt; checksum(&mut disk)?, sum);
+        let mut disk = made(rt.alloc(), *number, *old)?;
+        assert_eq!(rt; checksum(&mut disk)?, *sum);
     }
     Ok(())
 }

@@ -10,7 +10,6 @@ use outside_mem::MemDisk;
 use refusals::{Rule, VolAnswer, VolumeRefusal};
 use reiser_volume::Volume;
 use std::alloc::Global;
-use std::test::*;
 use volume_samples::{Entry, Leaf, Object, with_leaf};
 
 const FILE: u16 = 0o100644;
@@ -60,53 +59,40 @@ fn open(alloc: Global, disk: &mut MemDisk) -> Result<usize, VolAnswer>
     Ok(volume.count())
 }
 
-/// The same where the root has these entries, and the directory (2, 5) those.
+/// The same where the root has these entries, and the directories (2, 5) and (2, 6) those.
 fn named(
     alloc: Global,
     root: &'static [Entry],
     fifth: &'static [Entry],
+    sixth: &'static [Entry],
 ) -> Result<usize, VolAnswer> {
-    let mut disk = with_root(alloc, root, fifth, &[], 1)?;
+    let mut disk = with_root(alloc, root, fifth, sixth, 1)?;
     open(alloc, &mut disk)
 }
 
-fn refused(refusal: VolumeRefusal) -> Result<usize, VolAnswer> {
-    Err(VolAnswer::Refused(refusal))
-}
+/// How many objects are named, or why the volume is refused.
+type Answer = Result<usize, VolAnswer>;
 
-fn damaged(rule: Rule) -> Result<usize, VolAnswer> {
-    refused(VolumeRefusal::Damaged { block: 51, rule })
-}
+const FORM: Answer = Err(VolAnswer::Refused(VolumeRefusal::Damaged {
+    block: 51,
+    rule: Rule::EntryForm,
+}));
+
+const NAME_TWICE: Answer = Err(VolAnswer::Refused(VolumeRefusal::Damaged {
+    block: 51,
+    rule: Rule::NameTwice,
+}));
+
+const DIR_TWICE: Answer = Err(VolAnswer::Refused(VolumeRefusal::Damaged {
+    block: 51,
+    rule: Rule::DirTwice,
+}));
+
+const TAKEN: Answer = Err(VolAnswer::Refused(VolumeRefusal::NameTaken { dir: 2, object: 4 }));
 
 const NONE: &[Entry] = &[];
 
 const FOUR: &[Entry] = &[(2, 4, "a"), (2, 5, "d"), (2, 4, "b")];
-
-#[test]
-fn names_are_checked(rt: HostRuntime) -> Result<(), Fail> {
-    let form = damaged(Rule::EntryForm);
-    let taken = refused(VolumeRefusal::NameTaken { dir: 2, object: 4 });
-    for (root, fifth, answer) in [
-        // names of one object in two directories, and one name in two directories
-        (FOUR, ONE, Ok(3)),
-        // no name, two that stand for directories, one with a slash, and two that look like these
-        (EMPTY, NONE, form),
-        (DOT, NONE, form),
-        (DOTS, NONE, form),
-        (SLASH, NONE, form),
-        (GOOD, NONE, Ok(3)),
-        // a name twice, a directory twice, the root
-        (TWICE, NONE, damaged(Rule::NameTwice)),
-        (AGAIN, NONE, damaged(Rule::DirTwice)),
-        (FOUR, UP, damaged(Rule::DirTwice)),
-        // the name that is kept is taken only in the root
-        (KEPT, NONE, taken),
-        (FOUR, KEPT, Ok(3)),
-    ] {
-        assert_eq!(rt; named(rt.alloc(), root, fifth), answer);
-    }
-    Ok(())
-}
 
 const ONE: &[Entry] = &[(2, 4, "a")];
 
@@ -128,8 +114,30 @@ const UP: &[Entry] = &[(1, 2, "up")];
 
 const KEPT: &[Entry] = &[(2, 4, "reiserfs_saved")];
 
-fn attributes(object: u32) -> Result<usize, VolAnswer> {
-    refused(VolumeRefusal::HasAttributes { dir: 2, object })
+/// The entries of the root, those of the directory (2, 5), and the answer.
+const NAMES: &[(&[Entry], &[Entry], Answer)] = &[
+    // names of one object in two directories, and one name in two directories
+    (FOUR, ONE, Ok(3)),
+    // no name, two that stand for directories, one with a slash, and two that look like these
+    (EMPTY, NONE, FORM),
+    (DOT, NONE, FORM),
+    (DOTS, NONE, FORM),
+    (SLASH, NONE, FORM),
+    (GOOD, NONE, Ok(3)),
+    // a name twice, a directory twice, the root
+    (TWICE, NONE, NAME_TWICE),
+    (AGAIN, NONE, DIR_TWICE),
+    (FOUR, UP, DIR_TWICE),
+    // the name that is kept is taken only in the root
+    (KEPT, NONE, TAKEN),
+    (FOUR, KEPT, Ok(3)),
+];
+
+#[test]
+fn names_are_checked(rt: HostRuntime) {
+    for (root, fifth, answer) in NAMES {
+        assert!(rt; named(rt.alloc(), *root, *fifth, NONE) == *answer);
+    }
 }
 
 const PRIVATE: &[Entry] = &[(2, 4, "a"), (2, 5, ".reiserfs_priv")];
@@ -144,19 +152,27 @@ const OTHER: &[Entry] = &[(2, 6, "other")];
 
 const MORE: &[Entry] = &[(2, 6, "xattrs"), (2, 7, "more")];
 
+/// Object 4, 6 or 7 has attributes.
+const FOURTH: Answer = Err(VolAnswer::Refused(VolumeRefusal::HasAttributes { dir: 2, object: 4 }));
+
+const SIXTH: Answer = Err(VolAnswer::Refused(VolumeRefusal::HasAttributes { dir: 2, object: 6 }));
+
+const SEVENTH: Answer = Err(VolAnswer::Refused(VolumeRefusal::HasAttributes { dir: 2, object: 7 }));
+
+/// The entries of the private directory, those of the directory (2, 6), and the answer.
+const ATTRIBUTES: &[(&[Entry], &[Entry], Answer)] = &[
+    (NONE, NONE, Ok(2)),
+    (XATTRS, NONE, Ok(2)),
+    // setting and removing an attribute leaves an empty directory
+    (XATTRS, REMOVED, Ok(2)),
+    (XATTRS, SET, FOURTH),
+    (OTHER, NONE, SIXTH),
+    (MORE, NONE, SEVENTH),
+];
+
 #[test]
-fn attributes_are_refused(rt: HostRuntime) -> Result<(), Fail> {
-    for (fifth, sixth, answer) in [
-        (NONE, NONE, Ok(2)),
-        (XATTRS, NONE, Ok(2)),
-        // setting and removing an attribute leaves an empty directory
-        (XATTRS, REMOVED, Ok(2)),
-        (XATTRS, SET, attributes(4)),
-        (OTHER, NONE, attributes(6)),
-        (MORE, NONE, attributes(7)),
-    ] {
-        let mut disk = with_root(rt.alloc(), PRIVATE, fifth, sixth, 1)?;
-        assert_eq!(rt; open(rt.alloc(), &mut disk), answer);
+fn attributes_are_refused(rt: HostRuntime) {
+    for (fifth, sixth, answer) in ATTRIBUTES {
+        assert!(rt; named(rt.alloc(), PRIVATE, *fifth, *sixth) == *answer);
     }
-    Ok(())
 }

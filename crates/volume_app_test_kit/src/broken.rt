@@ -20,8 +20,12 @@ pub enum Broken {
     Leaf,
     /// A run ended with this status.
     Status(u8),
-    /// This command did not end as it had to.
-    Step(&'static str),
+    /// This command did not end as it had to, with this text.
+    Step(&'static str, &'static str),
+    /// This line did not do what it had to.
+    Line(&'static str),
+    /// So many crashes left the volume Btrfs.
+    Count(u64),
     /// The rows are not those of the volume before.
     Rows,
     /// This block, which the volume uses, has other bytes than before.

@@ -1,10 +1,11 @@
 // Changes of a converted volume.
 use crate::block_access::{block, block_count, put_block};
 use crate::broken::Broken;
+use crate::layout::{put_bytes, put_numbers};
 use castagnoli::crc32c;
 use outside_mem::MemDisk;
 use std::alloc::Global;
-use vol_block::{Block, BlockNo, u32_at, u64_at};
+use vol_block::{Block, BlockNo, u64_at};
 
 /// A node of four blocks.
 #[derive(Drop)]
@@ -30,13 +31,15 @@ impl Node {
     }
 
     /// Gives the node other bytes from this one on, where they end inside of it.
-    fn put(&mut self, at: usize, bytes: &[u8]) -> Result<(), Broken> {
-        let len = self.bytes.len();
-        if at > len || bytes.len() > len - at {
-            return Err(Broken::TooLong);
+    fn put(&mut self, at: usize, bytes: &[u8]) {
+        put_bytes(&mut self.bytes, at, bytes);
+    }
+
+    /// Puts numbers at their places behind this one.
+    fn put_numbers(&mut self, from: usize, numbers: &[(usize, u64)]) {
+        for (at, number) in numbers {
+            self.put(from.saturating_add(*at), &number.to_le_bytes());
         }
-        self.bytes[at..at + bytes.len()].copy_from_slice(bytes);
-        Ok(())
     }
 
     /// The byte at a place, 0 behind the end.
@@ -72,19 +75,26 @@ impl Node {
         Ok(places)
     }
 
+    /// The block of the node of this number, of four.
+    fn part(&self, i: usize) -> Block {
+        let from = i.saturating_mul(4096);
+        let mut to = Block::zero();
+        if from <= self.bytes.len() && self.bytes.len() - from >= 4096 {
+            to.bytes.copy_from_slice(&self.bytes[from..from + 4096]);
+        }
+        to
+    }
+
     /// Puts the node back, with its checksum.
     fn write(&mut self, disk: &mut MemDisk) -> Result<(), Broken> {
-        if self.bytes.len() != 16384 {
-            return Err(Broken::TooLong);
+        if self.bytes.len() < 32 {
+            return Err(Broken::Leaf);
         }
         let sum = crc32c(&self.bytes[32..]);
-        self.put(0, &sum.to_le_bytes())?;
-        let mut n = self.first;
-        for part in self.bytes.chunks_exact(4096) {
-            let mut to = Block::zero();
-            to.bytes.copy_from_slice(part);
-            put_block(disk, n, &to)?;
-            n = n.saturating_add(1);
+        self.put(0, &sum.to_le_bytes());
+        for i in 0..4usize {
+            let n = self.first.saturating_add(i as u64);
+            put_block(disk, n, &self.part(i))?;
         }
         Ok(())
     }
@@ -123,22 +133,20 @@ pub fn remove_image(alloc: Global, disk: &mut MemDisk) -> Result<(), Broken> {
     if !node.has(96, &4u32.to_le_bytes()) {
         return Err(Broken::Leaf);
     }
-    node.put(96, &2u32.to_le_bytes())?;
+    node.put(96, &2u32.to_le_bytes());
     node.write(disk)
 }
 
 /// The body of a file extent of so many whole blocks from this one on.
-fn extent(alloc: Global, first: u64, blocks: u64) -> Result<Vec<u8>, Broken> {
+fn extent(first: u64, blocks: u64) -> [u8; 53] {
     let first = first.saturating_mul(4096);
     let bytes = blocks.saturating_mul(4096);
-    let mut body = Vec::new(alloc);
-    body.extend_from_slice(&1u64.to_le_bytes())?;
-    body.extend_from_slice(&bytes.to_le_bytes())?;
-    body.extend_from_slice(&[0, 0, 0, 0, 1])?;
-    for value in [first, bytes, 0, bytes] {
-        body.extend_from_slice(&value.to_le_bytes())?;
+    let mut body = [0; 53];
+    for (at, number) in &[(0, 1), (8, bytes), (21, first), (29, bytes), (45, bytes)] {
+        put_bytes(&mut body, *at, &number.to_le_bytes());
     }
-    Ok(body)
+    body[20] = 1;
+    body
 }
 
 /// The place of the head of item 55 in its node, and that of its body.
@@ -147,29 +155,28 @@ const HEAD: usize = 101 + 25 * 55;
 const BODY: usize = 13315;
 
 /// The head of an item of the image's extents: from this byte of the image on, with the body at this place.
-fn extent_head(alloc: Global, from: u64, at: usize) -> Result<Vec<u8>, Broken> {
-    let mut head = Vec::new(alloc);
-    head.extend_from_slice(&257u64.to_le_bytes())?;
-    head.extend_from_slice(&[108])?;
-    head.extend_from_slice(&from.to_le_bytes())?;
-    head.extend_from_slice(&u32::try_from(at).unwrap_or(0).to_le_bytes())?;
-    head.extend_from_slice(&53u32.to_le_bytes())?;
-    Ok(head)
+fn extent_head(from: u64, at: usize) -> [u8; 25] {
+    let mut head = [0; 25];
+    put_bytes(&mut head, 0, &257u64.to_le_bytes());
+    head[8] = 108;
+    put_bytes(&mut head, 9, &from.to_le_bytes());
+    put_numbers(&mut head, &[(17, u32::try_from(at).unwrap_or(0)), (21, 53)]);
+    head
 }
 
-/// The image's last extent maps its blocks 256 to 8211 to themselves. It is item 55, the last one of its leaf. It becomes one up to block
-/// 7999, and an item more maps those behind to blocks 8212 to 8423.
-fn split_extent(alloc: Global, node: &mut Node) -> Result<(), Broken> {
-    let is_last = node.has(96, &56u32.to_le_bytes());
-    let head = extent_head(alloc, 256 * 4096, BODY)?;
-    let body = extent(alloc, 256, 7956)?;
-    if !is_last || !node.has(HEAD, &head) || !node.has(101 + BODY, &body) {
-        return Err(Broken::Leaf);
-    }
-    node.put(96, &57u32.to_le_bytes())?;
-    node.put(101 + BODY, &extent(alloc, 256, 7744)?)?;
-    node.put(101 + BODY - 53, &extent(alloc, 8212, 212)?)?;
-    node.put(HEAD + 25, &extent_head(alloc, 8000 * 4096, BODY - 53)?)
+/// Whether the image's last extent maps its blocks 256 to 8211 to themselves. It is item 55, the last one of its leaf.
+fn has_last_extent(node: &Node) -> bool {
+    node.has(96, &56u32.to_le_bytes())
+        && node.has(HEAD, &extent_head(256 * 4096, BODY))
+        && node.has(101 + BODY, &extent(256, 7956))
+}
+
+/// That extent becomes one up to block 7999, and an item more maps those behind to blocks 8212 to 8423.
+fn split_extent(node: &mut Node) {
+    node.put(96, &57u32.to_le_bytes());
+    node.put(101 + BODY, &extent(256, 7744));
+    node.put(101 + BODY - 53, &extent(8212, 212));
+    node.put(HEAD + 25, &extent_head(8000 * 4096, BODY - 53));
 }
 
 /// Moves blocks 8000 to 8211 of the saved image of a converted volume of 12,288 blocks with an empty root directory: they are mapped to the
@@ -181,7 +188,10 @@ pub fn move_image(alloc: Global, disk: &mut MemDisk) -> Result<(), Broken> {
     }
     let leaf = last_leaf(disk, 256)?;
     let mut node = Node::read(alloc, disk, leaf)?;
-    split_extent(alloc, &mut node)?;
+    if !has_last_extent(&node) {
+        return Err(Broken::Leaf);
+    }
+    split_extent(&mut node);
     node.write(disk)
 }
 
@@ -198,22 +208,18 @@ pub enum Encoding {
 
 impl Encoding {
     /// Changes the body of a file extent of this kind, which begins here.
-    fn put(self, node: &mut Node, at: usize, kind: u8) -> Result<(), Broken> {
+    fn put(self, node: &mut Node, at: usize, kind: u8) {
         match self {
             Encoding::Compressed => {
-                node.put(at.saturating_add(16), &[3])?;
-                if kind == 0 {
-                    return Ok(());
+                node.put(at.saturating_add(16), &[3]);
+                if kind != 0 {
+                    node.put_numbers(at, &[(8, 131_072), (45, 131_072)]);
                 }
-                node.put(at.saturating_add(8), &131_072u64.to_le_bytes())?;
-                node.put(at.saturating_add(45), &131_072u64.to_le_bytes())
             }
             Encoding::LaidOut => node.put(at.saturating_add(20), &[2]),
             Encoding::Elsewhere(block) => {
                 let first = block.saturating_mul(4096);
-                node.put(at.saturating_add(21), &first.to_le_bytes())?;
-                node.put(at.saturating_add(29), &8192u64.to_le_bytes())?;
-                node.put(at.saturating_add(37), &4096u64.to_le_bytes())
+                node.put_numbers(at, &[(21, first), (29, 8192), (37, 4096)]);
             }
         }
     }
@@ -234,7 +240,7 @@ pub fn encode(
         return Err(Broken::Leaf);
     }
     for &at in &places {
-        encoding.put(&mut node, at, kind)?;
+        encoding.put(&mut node, at, kind);
     }
     node.write(disk)
 }

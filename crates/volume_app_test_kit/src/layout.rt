@@ -7,34 +7,18 @@ use volume_samples::Object;
 /// The root directory.
 pub const TOP: Object = Object(1, 2);
 
-/// A number of at most 16 bits, as it stands on the disk.
-fn short(x: usize) -> Result<[u8; 2], Broken> {
-    match u16::try_from(x) {
-        Ok(x) => Ok(x.to_le_bytes()),
-        Err(_) => Err(Broken::TooLong),
+/// Puts bytes at a place, where they end inside of what is there.
+pub fn put_bytes(to: &mut [u8], at: usize, bytes: &[u8]) {
+    if at <= to.len() && bytes.len() <= to.len() - at {
+        to[at..at + bytes.len()].copy_from_slice(bytes);
     }
 }
 
-/// Puts bytes at a place of a block, where they end inside of it.
-pub fn put_bytes(block: &mut Block, at: usize, bytes: &[u8]) -> Result<(), Broken> {
-    if at > 4096 || bytes.len() > 4096 - at {
-        return Err(Broken::TooLong);
+/// Puts numbers of 32 bits at their places.
+pub fn put_numbers(to: &mut [u8], numbers: &[(usize, u32)]) {
+    for (at, number) in numbers {
+        put_bytes(to, *at, &number.to_le_bytes());
     }
-    block.bytes[at..at + bytes.len()].copy_from_slice(bytes);
-    Ok(())
-}
-
-/// A node of these bytes behind its head, and of those at its end.
-pub fn node(level: u16, count: u16, front: &[u8], back: &[u8]) -> Result<Block, Broken> {
-    let taken = front.len().saturating_add(back.len());
-    let free = short(4072usize.saturating_sub(taken))?;
-    let mut block = Block::zero();
-    put_bytes(&mut block, 0, &level.to_le_bytes())?;
-    put_bytes(&mut block, 2, &count.to_le_bytes())?;
-    put_bytes(&mut block, 4, &free)?;
-    put_bytes(&mut block, 24, front)?;
-    put_bytes(&mut block, 4096usize.saturating_sub(back.len()), back)?;
-    Ok(block)
 }
 
 /// The seconds of all times.
@@ -50,19 +34,22 @@ pub struct Stat {
 }
 
 impl Stat {
-    /// The 44 bytes of the item.
-    pub fn body(self, alloc: Global) -> Result<Vec<u8>, Broken> {
-        let mut body = Vec::new(alloc);
-        body.extend_from_slice(&u32::from(self.mode).to_le_bytes())?;
-        body.extend_from_slice(&self.names.to_le_bytes())?;
-        body.extend_from_slice(&self.size.to_le_bytes())?;
-        body.extend_from_slice(&[0; 8])?;
-        for _ in 0..3 {
-            body.extend_from_slice(&MOMENT.to_le_bytes())?;
-        }
-        body.extend_from_slice(&self.sectors.to_le_bytes())?;
-        body.extend_from_slice(&[0; 4])?;
-        Ok(body)
+    /// The bytes of the item.
+    pub fn body(self) -> [u8; 44] {
+        let mut body = [0; 44];
+        put_numbers(
+            &mut body,
+            &[
+                (0, u32::from(self.mode)),
+                (4, self.names),
+                (24, MOMENT),
+                (28, MOMENT),
+                (32, MOMENT),
+                (36, self.sectors),
+            ],
+        );
+        put_bytes(&mut body, 8, &self.size.to_le_bytes());
+        body
     }
 }
 
@@ -94,13 +81,20 @@ impl Entry {
     }
 
     /// The head of the entry, whose name begins at this byte of its item.
-    fn add_to(&self, body: &mut Vec<u8>, name: usize) -> Result<(), Broken> {
-        body.extend_from_slice(&self.place.to_le_bytes())?;
-        body.extend_from_slice(&self.object.0.to_le_bytes())?;
-        body.extend_from_slice(&self.object.1.to_le_bytes())?;
-        body.extend_from_slice(&short(name)?)?;
-        body.extend_from_slice(&[4, 0])?;
-        Ok(())
+    fn head(&self, name: usize) -> [u8; 16] {
+        let mut head = [0; 16];
+        let name = u32::try_from(name).unwrap_or(0);
+        put_numbers(
+            &mut head,
+            &[
+                (0, self.place),
+                (4, self.object.0),
+                (8, self.object.1),
+                // with the state of an entry that can be seen
+                (12, name | 4 << 16),
+            ],
+        );
+        head
     }
 }
 
@@ -120,7 +114,7 @@ pub fn directory(alloc: Global, entries: &[Entry]) -> Result<Vec<u8>, Broken> {
     let mut name = entries.len().saturating_mul(24);
     for entry in entries {
         name = name.saturating_sub(8);
-        entry.add_to(&mut body, name)?;
+        body.extend_from_slice(&entry.head(name))?;
     }
     for entry in entries.iter().rev() {
         body.extend_from_slice(&entry.name)?;
@@ -152,25 +146,26 @@ pub struct Super {
 
 impl Super {
     /// The block of a clean volume, whose bitmap has as many blocks as it takes.
-    pub fn block(self) -> Result<Block, Broken> {
+    pub fn block(&self) -> Block {
         let bitmaps = self.blocks.div_ceil(32768);
         let mut block = Block::zero();
-        for (at, value) in [
-            (0, self.blocks),
-            (4, self.free),
-            (8, self.root),
-            (12, 18),
-            (20, self.journal),
-            (44, 4096),
-            // the volume is clean
-            (48, 1 << 16),
-            (64, 3),
-            (68, u32::from(self.height) | bitmaps << 16),
-            (72, 2),
-        ] {
-            put_bytes(&mut block, at, &value.to_le_bytes())?;
-        }
-        put_bytes(&mut block, 52, &self.magic)?;
-        Ok(block)
+        put_numbers(
+            &mut block.bytes,
+            &[
+                (0, self.blocks),
+                (4, self.free),
+                (8, self.root),
+                (12, 18),
+                (20, self.journal),
+                (44, 4096),
+                // the volume is clean
+                (48, 1 << 16),
+                (64, 3),
+                (68, u32::from(self.height) | bitmaps << 16),
+                (72, 2),
+            ],
+        );
+        put_bytes(&mut block.bytes, 52, &self.magic);
+        block
     }
 }

@@ -45,7 +45,7 @@ impl Old {
     /// The volume of a disk. Of a disk of more than 32,768 blocks only the first of them are looked at.
     pub fn new(alloc: Global, disk: MemDisk) -> Result<Old, Broken> {
         let mut disk = disk;
-        let rows = done(alloc, "list", &mut disk)?;
+        let rows = done(alloc, "list x", &mut disk)?;
         let used = used(alloc, &mut disk)?;
         Ok(Old {
             alloc,
@@ -63,14 +63,14 @@ impl Old {
     /// A disk of its own with the volume that a conversion makes of it.
     pub fn converted(&self) -> Result<MemDisk, Broken> {
         let mut disk = self.copy()?;
-        done(self.alloc, "convert", &mut disk)?;
+        done(self.alloc, "convert x", &mut disk)?;
         disk.settle();
         Ok(disk)
     }
 
     /// Sees that a disk has the rows of the volume, in one format or the other.
     pub fn has_rows(&self, disk: &mut MemDisk) -> Result<(), Broken> {
-        if done(self.alloc, "list", disk)? != self.rows {
+        if done(self.alloc, "list x", disk)? != self.rows {
             return Err(Broken::Rows);
         }
         Ok(())

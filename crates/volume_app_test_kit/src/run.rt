@@ -46,6 +46,18 @@ impl Ended {
             && self.out.as_slice() == out.as_bytes()
             && self.err.as_slice() == err.as_bytes()
     }
+
+    /// Whether the command was done, and printed what it had to.
+    pub fn is_done(&self, is_printed: bool) -> bool {
+        self.status == 0 && is_printed && self.err.is_empty()
+    }
+
+    /// Whether the output failed, which has the beginning of this text or nothing.
+    pub fn is_unprinted(&self, text: &str) -> bool {
+        self.status == 5
+            && text.as_bytes().starts_with(&self.out)
+            && self.err.as_slice() == b"output fault\n".as_slice()
+    }
 }
 
 /// Flushes and closes a disk, and has the calls fail that are to fail in the next run.
@@ -63,17 +75,16 @@ fn prepare(disk: &mut MemDisk, trouble: Trouble) -> Result<(), Memory>
     }
 }
 
-/// The words of a command line: those of a command, and a path.
-fn words_of(alloc: Global, command: &str) -> Result<Vec<String>, Memory> {
+/// The words of a command line, of which one space stands between each two.
+fn words_of(alloc: Global, line: &str) -> Result<Vec<String>, Memory> {
     let mut words = Vec::new(alloc);
-    for word in command.split(' ') {
+    for word in line.split(' ') {
         words.push(String::from_str(alloc, word)?)?;
     }
-    words.push(String::from_str(alloc, "x")?)?;
     Ok(words)
 }
 
-/// An output, which takes nothing where that is the trouble.
+/// A sink for a run.
 fn output(alloc: Global, trouble: Trouble) -> Result<MemSink, Memory> {
     let mut out = MemSink::new(alloc);
     if let Trouble::Output = trouble {
@@ -89,39 +100,56 @@ fn taken(alloc: Global, sink: &MemSink) -> Result<Vec<u8>, Memory> {
     Ok(bytes)
 }
 
-/// Runs a command that has its path behind all other words over a disk, which is flushed and closed before it.
-pub fn ran(
+/// Runs the words of a command line over a disk: its status.
+fn status_of(
     alloc: Global,
-    command: &str,
+    words: &[String],
     disk: &mut MemDisk,
-    trouble: Trouble,
-) -> Result<Ended, Memory> {
-    let words = words_of(alloc, command)?;
-    let mut out = output(alloc, trouble)?;
-    let mut err = MemSink::new(alloc);
-    prepare(disk, trouble)?;
-    let status = run(alloc, &words, IDS, NOW, disk, &mut out, &mut err);
-    let out = taken(alloc, &out)?;
-    let err = taken(alloc, &err)?;
+    out: &mut MemSink,
+    err: &mut MemSink,
+) -> u8
+    requires { disk.old.opened ≡ None }
+{
+    run(alloc, words, IDS, NOW, disk, out, err)
+}
+
+/// What a run answered whose sinks took this.
+fn with_sinks(alloc: Global, status: u8, out: &MemSink, err: &MemSink) -> Result<Ended, Memory> {
+    let out = taken(alloc, out)?;
+    let err = taken(alloc, err)?;
     Ok(Ended { status, out, err })
 }
 
-/// Whether a command in which nothing goes wrong ends with this status and prints these texts.
-pub fn ends(
+/// Runs words over a disk, with an output that takes nothing where that is the trouble.
+fn ran_words(
     alloc: Global,
-    word: &str,
+    words: &[String],
     disk: &mut MemDisk,
-    status: u8,
-    out: &str,
-    err: &str,
-) -> Result<bool, Memory> {
-    let ended = ran(alloc, word, disk, Trouble::Nothing)?;
-    Ok(ended.is(status, out, err))
+    trouble: Trouble,
+) -> Result<Ended, Memory>
+    requires { disk.old.opened ≡ None }
+{
+    let mut out = output(alloc, trouble)?;
+    let mut err = MemSink::new(alloc);
+    let status = status_of(alloc, words, disk, &mut out, &mut err);
+    with_sinks(alloc, status, &out, &err)
+}
+
+/// Runs a command line over a disk, which is flushed and closed before it.
+pub fn ran(
+    alloc: Global,
+    line: &str,
+    disk: &mut MemDisk,
+    trouble: Trouble,
+) -> Result<Ended, Memory> {
+    let words = words_of(alloc, line)?;
+    prepare(disk, trouble)?;
+    ran_words(alloc, &words, disk, trouble)
 }
 
 /// Runs a command that has to be done: what it printed.
-pub fn done(alloc: Global, word: &str, disk: &mut MemDisk) -> Result<Vec<u8>, Broken> {
-    let ended = ran(alloc, word, disk, Trouble::Nothing)?;
+pub fn done(alloc: Global, line: &str, disk: &mut MemDisk) -> Result<Vec<u8>, Broken> {
+    let ended = ran(alloc, line, disk, Trouble::Nothing)?;
     if ended.status != 0 {
         return Err(Broken::Status(ended.status));
     }

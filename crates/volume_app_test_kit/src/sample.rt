@@ -1,9 +1,7 @@
 // Small volumes whose tree is one leaf, and those that the maker of samples makes.
-ghost use Rattle.std.specs.Prelude.{◌≤◌};
-
 use crate::block_access::{block, put_block};
 use crate::broken::Broken;
-use crate::layout::{Entry, Stat, Super, TOP, directory, mark, put_bytes, r5};
+use crate::layout::{Entry, Stat, Super, TOP, directory, mark, put_numbers, r5};
 use outside::{Access, BlockSource, Disk};
 use outside_mem::MemDisk;
 use reiser_make::make;
@@ -37,19 +35,20 @@ fn volume(
     mark(&mut bitmap, 0, 52);
     mark(&mut bitmap, from, to);
     let mut disk = MemDisk::new(alloc, u64::from(blocks))?;
-    put_block(&mut disk, 16, &volume.block()?)?;
+    put_block(&mut disk, 16, &volume.block())?;
     put_block(&mut disk, 17, &bitmap)?;
     put_block(&mut disk, u64::from(ROOT), &tree.finish())?;
     Ok(disk)
 }
 
-/// A leaf with a root directory, of these entries beside those that each directory has.
-fn root_leaf(alloc: Global, named: &[Entry]) -> Result<Leaf, Broken> {
-    let mut entries = Vec::new(alloc);
-    entries.push(Entry::dot(TOP))?;
-    entries.push(Entry::up(Object(0, 1)))?;
-    entries.extend_from_slice(named)?;
-    let body = directory(alloc, &entries)?;
+/// The entries that a root directory has at least.
+fn dots() -> [Entry; 2] {
+    [Entry::dot(TOP), Entry::up(Object(0, 1))]
+}
+
+/// A leaf with a root directory, of these entries.
+fn root_leaf(alloc: Global, entries: &[Entry]) -> Result<Leaf, Broken> {
+    let body = directory(alloc, entries)?;
     let stat = Stat {
         mode: 0o40755,
         names: 2,
@@ -58,24 +57,25 @@ fn root_leaf(alloc: Global, named: &[Entry]) -> Result<Leaf, Broken> {
     };
     let count = u16::try_from(entries.len()).unwrap_or(0);
     let mut leaf = Leaf::new();
-    leaf.add(Item::of(TOP, Part::Stat), &stat.body(alloc)?);
+    leaf.add(Item::of(TOP, Part::Stat), &stat.body());
     leaf.add(Item::of(TOP, Part::Entries(1, count)), &body);
     Ok(leaf)
 }
 
 /// A volume of 2,048 blocks with an empty root directory. Blocks 0 to 51 are used.
 pub fn empty_root(alloc: Global) -> Result<MemDisk, Broken> {
-    volume(alloc, 2048, &root_leaf(alloc, &[])?, (0, 0))
+    volume(alloc, 2048, &root_leaf(alloc, &dots())?, (0, 0))
 }
 
 /// A volume of 2,059 blocks with an empty root directory. The last 11 blocks are reserved, since no chunk of Btrfs holds them, and two of
 /// them are used.
 pub fn used_end(alloc: Global) -> Result<MemDisk, Broken> {
-    let mut disk = volume(alloc, 2059, &root_leaf(alloc, &[])?, (2057, 2059))?;
+    let mut disk = volume(alloc, 2059, &root_leaf(alloc, &dots())?, (2057, 2059))?;
+    let bytes = Block {
+        bytes: [b'e'; 4096],
+    };
     for n in 2057..2059 {
-        let mut block = Block::zero();
-        block.bytes.fill(b'e');
-        put_block(&mut disk, n, &block)?;
+        put_block(&mut disk, n, &bytes)?;
     }
     Ok(disk)
 }
@@ -91,12 +91,15 @@ pub fn file_behind_copy(alloc: Global) -> Result<MemDisk, Broken> {
     with_file(alloc, 16400, 16400)
 }
 
-/// A volume of 20,000 blocks with a file `m` of 4,096 bytes, whose one pointer is this, and whose bytes lie in block `at`.
-fn with_file(alloc: Global, pointer: u32, at: u32) -> Result<MemDisk, Broken> {
-    let object = Object(2, 4);
+/// The file `m`.
+const FILE: Object = Object(2, 4);
+
+/// The leaf of a root directory with a file `m` of 4,096 bytes, whose one pointer is this.
+fn file_leaf(alloc: Global, pointer: u32) -> Result<Leaf, Broken> {
+    let [dot, up] = dots();
     let entry = Entry {
         place: r5(b"m"),
-        object,
+        object: FILE,
         name: *b"m\0\0\0\0\0\0\0",
     };
     let stat = Stat {
@@ -105,23 +108,28 @@ fn with_file(alloc: Global, pointer: u32, at: u32) -> Result<MemDisk, Broken> {
         size: 4096,
         sectors: 8,
     };
-    let mut leaf = root_leaf(alloc, &[entry])?;
-    leaf.add(Item::of(object, Part::Stat), &stat.body(alloc)?);
-    leaf.add(Item::of(object, Part::Pointers(1)), &pointer.to_le_bytes());
+    let mut leaf = root_leaf(alloc, &[dot, up, entry])?;
+    leaf.add(Item::of(FILE, Part::Stat), &stat.body());
+    leaf.add(Item::of(FILE, Part::Pointers(1)), &pointer.to_le_bytes());
+    Ok(leaf)
+}
+
+/// A volume of 20,000 blocks with a file `m`, whose one pointer is this, and whose bytes lie in block `at`.
+fn with_file(alloc: Global, pointer: u32, at: u32) -> Result<MemDisk, Broken> {
+    let leaf = file_leaf(alloc, pointer)?;
     let mut disk = volume(alloc, 20000, &leaf, (at, at.saturating_add(1)))?;
-    let mut bytes = Block::zero();
-    bytes.bytes.fill(MARKED);
+    let bytes = Block {
+        bytes: [MARKED; 4096],
+    };
     put_block(&mut disk, u64::from(at), &bytes)?;
     Ok(disk)
 }
 
-/// The sample volume of a number, as `reiser_make` makes it, on a disk of so many blocks.
-fn written(alloc: Global, number: u32, blocks: u64) -> Result<MemDisk, Broken>
-    requires number { number ≤ 4000 }
-{
+/// The sample volume of a number, at most 4000, as `reiser_make` makes it, on a disk of so many blocks.
+fn written(alloc: Global, number: u32, blocks: u64) -> Result<MemDisk, Broken> {
     let mut disk = MemDisk::new(alloc, blocks)?;
     disk.open("", Access::Write)?;
-    if disk.len() < blocks || blocks > 20000 {
+    if number > 4000 || disk.len() < blocks || blocks > 20000 {
         return Err(Broken::Short(blocks));
     }
     make(alloc, number, blocks, &mut disk)?;
@@ -129,12 +137,10 @@ fn written(alloc: Global, number: u32, blocks: u64) -> Result<MemDisk, Broken>
     Ok(disk)
 }
 
-/// The sample volume of a number, as `reiser_make` makes it, of so many blocks, at most 20,000.
+/// The sample volume of a number, at most 4000, as `reiser_make` makes it, of so many blocks, at most 20,000.
 ///
 /// The disk keeps no block of zeros, so that copies of it are small.
-pub fn made(alloc: Global, number: u32, blocks: u64) -> Result<MemDisk, Broken>
-    requires number { number ≤ 4000 }
-{
+pub fn made(alloc: Global, number: u32, blocks: u64) -> Result<MemDisk, Broken> {
     let mut from = written(alloc, number, blocks)?;
     let mut disk = MemDisk::new(alloc, blocks)?;
     for n in 0..blocks {
@@ -152,15 +158,14 @@ const MAP: u16 = 972;
 /// Gives a volume an object-id map that fills its superblock, where 77 numbers would fill the first 512 bytes.
 pub fn fill_map(disk: &mut MemDisk) -> Result<(), Broken> {
     let mut superblock = block(disk, 16)?;
-    put_bytes(&mut superblock, 46, &MAP.to_le_bytes())?;
-    put_bytes(&mut superblock, 48, &MAP.to_le_bytes())?;
+    put_numbers(
+        &mut superblock.bytes,
+        &[(46, u32::from(MAP) | u32::from(MAP) << 16)],
+    );
     for i in 0..u32::from(MAP) {
+        let at = (i as usize).saturating_mul(4).saturating_add(204);
         let number = i.wrapping_mul(3).wrapping_add(1);
-        put_bytes(
-            &mut superblock,
-            204 + 4 * (i as usize),
-            &number.to_le_bytes(),
-        )?;
+        put_numbers(&mut superblock.bytes, &[(at, number)]);
     }
     put_block(disk, 16, &superblock)
 }

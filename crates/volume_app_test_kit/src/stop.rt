@@ -24,31 +24,36 @@ impl Stops {
 }
 
 impl Old {
-    /// Sees that `recover` has nothing to do a second time.
-    fn is_recovered(&self, left: &mut MemDisk) -> Result<(), Broken> {
-        done(self.alloc, "recover", left)?;
+    /// Recovers what a crash left, and sees that `recover` has nothing to do a second time: whether the volume is Btrfs.
+    fn recovered(&self, left: &mut MemDisk) -> Result<bool, Broken> {
+        let told = done(self.alloc, "recover x", left)?;
+        done(self.alloc, "recover x", left)?;
         let writes = left.writes();
         if writes != 0 {
             return Err(Broken::Again(writes));
         }
-        Ok(())
+        Ok(told.as_slice().starts_with(b"volume is btrfs\n"))
     }
 
     /// Sees that what a crash left has the rows of the volume behind `recover`, and is the volume, or is the one that a conversion makes of it
     /// by block 16 and becomes it by a rollback: whether it was still Btrfs.
     fn recovers(&self, left: &mut MemDisk, superblock: &Block) -> Result<bool, Broken> {
-        let told = done(self.alloc, "recover", left)?;
-        self.is_recovered(left)?;
+        let is_btrfs = self.recovered(left)?;
         self.has_rows(left)?;
-        let is_btrfs = told.as_slice().starts_with(b"volume is btrfs\n");
         if is_btrfs {
-            if block(left, 16)? != *superblock {
-                return Err(Broken::Changed(16));
-            }
-            done(self.alloc, "rollback", left)?;
+            self.goes_back(left, superblock)?;
         }
         self.is_back(left)?;
         Ok(is_btrfs)
+    }
+
+    /// Rolls back what has to have this superblock of Btrfs.
+    fn goes_back(&self, left: &mut MemDisk, superblock: &Block) -> Result<(), Broken> {
+        if block(left, 16)? != *superblock {
+            return Err(Broken::Changed(16));
+        }
+        done(self.alloc, "rollback x", left)?;
+        Ok(())
     }
 
     /// What a crash leaves by a choice of a disk where a command is stopped behind so many writes.
@@ -74,9 +79,9 @@ impl Old {
         choice: Choice,
         superblock: &Block,
     ) -> Result<bool, Broken> {
-        let last = self.writes_of("recover", left)?;
+        let last = self.writes_of("recover x", left)?;
         for writes in 1..last.saturating_add(1) {
-            let mut again = self.crashed("recover", left, writes, choice)?;
+            let mut again = self.crashed("recover x", left, writes, choice)?;
             self.recovers(&mut again, superblock)?;
         }
         self.recovers(left, superblock)
@@ -110,7 +115,7 @@ impl Old {
 
     /// How often the conversion of the volume writes.
     pub fn converted_writes(&self) -> Result<u64, Broken> {
-        self.writes_of("convert", &self.copy()?)
+        self.writes_of("convert x", &self.copy()?)
     }
 
     /// Runs a command over copies of a disk that holds this volume in one format or the other, stops it behind these numbers of writes

@@ -10,7 +10,7 @@ use reiser_volume::Volume;
 use reiser_volume_files::{FileRun, RunFrom};
 use std::alloc::Global;
 use std::test::*;
-use vol_block::{Block, put_u16, put_u32, put_u64};
+use vol_block::{Block, put_u16, put_u32};
 use volume_samples::{Entry, Item, Leaf, Object, Part, change, with_leaf};
 
 /// The attributes that rows have.
@@ -117,40 +117,39 @@ const WITHOUT_FLAGS: &str = "d 0755 0 0 0 0 0 - - - - - /\n\
     p 0644 0 0 4294967295 0 0 - - 1 - - /pipe\n\
     f 0600 0 0 0 0 0 - - 1 8193 8a5221f22dec6831b0ae4d3322a0d6809b1975f4aa5572404ad389de9b5ea4c8 /sparse\n";
 
+/// The rows of the volume, where the superblock has these flags.
+const FLAGS: [(&[u8; 4], &str); 3] = [
+    (b"\x01\0\0\0", ROWS),
+    (b"\x03\0\0\0", ROWS),
+    (b"\x02\0\0\0", WITHOUT_FLAGS),
+];
+
 #[test]
 fn rows_are_made(rt: HostRuntime) -> Result<(), Fail> {
-    for (flags, rows) in [
-        (b"\x01\0\0\0", ROWS),
-        (b"\x03\0\0\0", ROWS),
-        (b"\x02\0\0\0", WITHOUT_FLAGS),
-    ] {
-        let mut disk = sample(rt.alloc(), flags)?;
+    for (flags, rows) in &FLAGS {
+        let mut disk = sample(rt.alloc(), *flags)?;
         let out = text(rt.alloc(), &mut disk)?;
         assert!(rt; out.bytes() == rows.as_bytes());
     }
     Ok(())
 }
 
+/// Why there are no rows where that call of the disk fails.
+fn failure(alloc: Global, call: u64) -> Result<Option<VolAnswer>, Memory> {
+    let mut disk = sample(alloc, b"\x01\0\0\0")?;
+    disk.fail_call(call)?;
+    Ok(text(alloc, &mut disk).err())
+}
+
 #[test]
-fn each_read_may_fail(rt: HostRuntime) -> Result<(), Fail> {
+fn each_read_may_fail(rt: HostRuntime) -> Result<(), Memory> {
     // Opening reads the superblock, 33 blocks of the journal, the bitmap and the leaf. Then the leaf is read for the first
     // blocks of both files, for the mark of the one that has none, for the blocks that are told of the other, and for its
     // mark, behind which its block is read; and last for the symlink.
-    for (call, answer) in [
-        (36, Err(VolAnswer::Fault)),
-        (37, Err(VolAnswer::Fault)),
-        (38, Err(VolAnswer::Fault)),
-        (39, Err(VolAnswer::Fault)),
-        (40, Err(VolAnswer::Fault)),
-        (41, Err(VolAnswer::Fault)),
-        (42, Err(VolAnswer::Fault)),
-        (43, Err(VolAnswer::Fault)),
-        (44, Ok(())),
-    ] {
-        let mut disk = sample(rt.alloc(), b"\x01\0\0\0")?;
-        disk.fail_call(call)?;
-        assert_eq!(rt; text(rt.alloc(), &mut disk).map(|_| ()), answer);
+    for call in 36..44 {
+        assert!(rt; failure(rt.alloc(), call)? == Some(VolAnswer::Fault));
     }
+    assert!(rt; failure(rt.alloc(), 44)?.is_none());
     Ok(())
 }
 
@@ -255,12 +254,12 @@ const LINKED_ROWS: &str = "d 0755 0 0 0 0 0 - - - - - /\n\
 
 #[test]
 fn names_and_sizes(rt: HostRuntime) -> Result<(), Fail> {
-    let plain = plain_sample(rt.alloc())?;
-    let linked = linked_sample(rt.alloc())?;
-    for (mut disk, rows) in [(plain, PLAIN_ROWS), (linked, LINKED_ROWS)] {
-        let out = text(rt.alloc(), &mut disk)?;
-        assert!(rt; out.bytes() == rows.as_bytes());
-    }
+    let mut plain = plain_sample(rt.alloc())?;
+    let out = text(rt.alloc(), &mut plain)?;
+    assert!(rt; out.bytes() == PLAIN_ROWS.as_bytes());
+    let mut linked = linked_sample(rt.alloc())?;
+    let out = text(rt.alloc(), &mut linked)?;
+    assert!(rt; out.bytes() == LINKED_ROWS.as_bytes());
     Ok(())
 }
 
