@@ -1,17 +1,19 @@
 // Recoveries of small volumes in memory.
-ghost use Rattle.std.specs.Prelude.{◌≤◌, ◌<◌, ◌^◌, ◌≡◌, IfOk, length, None, Some};
+ghost use Rattle.std.specs.Prelude.{◌≡◌, OnOk, Some};
 
+mod half_turned;
+mod stopped;
+
+use crate::disks::{Broken, change, filled, holds, put, reiser, see};
 use btr_super::{Super, mirror};
-use btrfs_format::block::{FIRST_MIRROR, SECOND_MIRROR_END, SUPER_INFO_OFFSET};
+use btrfs_format::block::{FIRST_MIRROR, SUPER_INFO_OFFSET};
 use command_answers::Answer;
 use outside::{Access, BlockSource, Disk};
 use outside_mem::MemDisk;
 use refusals::{BtrRefusal, BtrRule, VolumeRefusal};
-use reiser_make::make;
 use rollback_core::{RecoverSummary, recover};
 use std::alloc::Global;
-use std::process::Abort;
-use std::test::Fail;
+use std::test::*;
 use vol_block::{Block, BlockNo, Format};
 use volume_samples::Sample;
 
@@ -20,15 +22,6 @@ const BLOCKS: u64 = 20_000;
 
 const COPY: BlockNo = FIRST_MIRROR;
 
-/// The blocks of a volume that has both copies.
-const LARGE: u64 = SECOND_MIRROR_END;
-
-fn filled(byte: u8) -> Block {
-    Block {
-        bytes: [byte; 4096],
-    }
-}
-
 /// Bytes that look like a Btrfs superblock by its magic alone.
 fn magic() -> Block {
     let mut block = filled(3);
@@ -36,44 +29,20 @@ fn magic() -> Block {
     block
 }
 
-/// A ReiserFS volume that doesn't use the block of the copy, which holds this block.
-fn reiser(alloc: Global, copy: &Block) -> Result<MemDisk, Fail>
-    ensures size { IfOk result (λ d. length d.history.start ≡ 20000) }
-    ensures closed { IfOk result (λ d. d.opened ≡ None) }
-{
-    let mut disk = MemDisk::new(alloc, BLOCKS)?;
-    disk.open("", Access::Write)?;
-    make(alloc, 0, BLOCKS, &mut disk)?;
-    disk.settle();
-    disk.set_block(COPY, copy)?;
-    Ok(disk)
-}
-
 /// The superblock of a sample, on a volume of so many blocks.
-fn superblock(alloc: Global, blocks: u64) -> Result<Block, Fail>
-    requires { blocks ≤ 2 ^ 32 }
-{
+fn superblock(alloc: Global, blocks: u64) -> Result<Block, Broken> {
     let sample = Sample::PLAIN.disk(alloc)?;
     let mut block = Block::zero();
     sample.block(16, &mut block);
-    let sup = Super::read(&block, 16, blocks).ok().ok_or("a superblock")?;
+    let Ok(sup) = Super::read(&block, 16, blocks) else {
+        return Err(Broken::Sample);
+    };
     let sup = Super {
-        total_bytes: 4096 * blocks,
+        total_bytes: blocks.saturating_mul(4096),
         ..sup
     };
     sup.encode(&mut block);
     Ok(block)
-}
-
-/// A disk with this superblock and this block of a copy.
-fn btrfs(alloc: Global, superblock: &Block, copy: &Block) -> Result<MemDisk, Fail>
-    ensures size { IfOk result (λ d. length d.history.start ≡ 20000) }
-    ensures closed { IfOk result (λ d. d.opened ≡ None) }
-{
-    let mut disk = MemDisk::new(alloc, BLOCKS)?;
-    disk.set_block(16, superblock)?;
-    disk.set_block(COPY, copy)?;
-    Ok(disk)
 }
 
 /// The first copy of a superblock.
@@ -83,14 +52,79 @@ fn copy_of(superblock: &Block) -> Block {
     copy
 }
 
-/// Whether an open disk has this block.
-fn has(disk: &mut MemDisk, n: BlockNo, wanted: &Block) -> Result<bool, Fail> {
-    let mut block = Block::zero();
-    if n >= disk.len() {
-        return Ok(false);
+/// A disk of so many blocks with this superblock and zeros in all others.
+fn btrfs(alloc: Global, blocks: u64, superblock: &Block) -> Result<MemDisk, Broken> {
+    let mut disk = MemDisk::new(alloc, blocks)?;
+    put(&mut disk, 16, superblock)?;
+    Ok(disk)
+}
+
+/// What goes wrong in a recovery.
+#[derive(Clone, Copy)]
+enum Trouble {
+    Nothing,
+    /// The call of the disk of this number fails, counted from 0.
+    Call(u64),
+    /// All calls of the disk fail behind so many writes.
+    Stop(u64),
+}
+
+/// Writes block 16 of an open disk, where it has one.
+fn put_superblock(disk: &mut MemDisk, superblock: &Block) -> Result<(), Broken>
+    requires open { disk.old.opened ≡ Some Access.Write }
+    ensures open { disk.new.opened ≡ Some Access.Write }
+{
+    if disk.len() > 16 {
+        disk.write(16, superblock)?;
     }
-    disk.read(n, &mut block)?;
-    Ok(block == *wanted)
+    Ok(())
+}
+
+/// Flushes a disk and opens it; this superblock then waits in block 16, if one is to.
+fn open(disk: &mut MemDisk, waiting: Option<&Block>) -> Result<(), Broken>
+    ensures { OnOk result (disk.new.opened ≡ Some Access.Write) }
+{
+    disk.settle();
+    disk.open("", Access::Write)?;
+    match waiting {
+        Some(superblock) => put_superblock(disk, superblock),
+        None => Ok(()),
+    }
+}
+
+/// Opens a disk, and has the calls fail that are to fail in the recovery.
+fn begin(disk: &mut MemDisk, waiting: Option<&Block>, trouble: Trouble) -> Result<(), Broken>
+    ensures { OnOk result (disk.new.opened ≡ Some Access.Write) }
+{
+    open(disk, waiting)?;
+    match trouble {
+        Trouble::Nothing => Ok(()),
+        Trouble::Call(k) => Ok(disk.fail_call(k)?),
+        Trouble::Stop(writes) => {
+            disk.stop_at_write(writes);
+            Ok(())
+        }
+    }
+}
+
+/// What a recovery answers, and how many writes there were since the disk was flushed.
+type Ended = (Result<RecoverSummary, Answer>, u64);
+
+/// Recovers a disk on which something may go wrong, and a superblock may wait.
+fn recovery(
+    alloc: Global,
+    disk: &mut MemDisk,
+    waiting: Option<&Block>,
+    trouble: Trouble,
+) -> Result<Ended, Broken> {
+    begin(disk, waiting, trouble)?;
+    let answer = recover(alloc, disk);
+    Ok((answer, disk.writes()))
+}
+
+/// Recovers a disk on which nothing goes wrong.
+fn recovered(alloc: Global, disk: &mut MemDisk) -> Result<Ended, Broken> {
+    recovery(alloc, disk, None, Trouble::Nothing)
 }
 
 /// How many writes a recovery of so many copies makes: block 16 comes before them.
@@ -102,381 +136,258 @@ fn writes_for(mirrors: u64) -> u64 {
     }
 }
 
-/// Recovers a disk, and then once more, which writes nothing; and whether the block of the copy is then this one.
+/// How a recovery ends that writes so many copies.
+fn told(format: Format, mirrors: u64) -> Ended {
+    (Ok(RecoverSummary { format, mirrors }), writes_for(mirrors))
+}
+
+/// Whether a disk is recovered by the write of so many copies, and then once more, which writes nothing; and the block of the copy
+/// is then this one.
 fn recovers(
-    rt: &(impl Abort + AllocGlobal),
-    disk: MemDisk,
+    alloc: Global,
+    disk: &mut MemDisk,
     format: Format,
     mirrors: u64,
     copy: &Block,
-) -> Result<(), Fail>
-    requires { disk.opened ≡ None }
-{
-    let mut disk = disk;
-    disk.open("", Access::Write)?;
-    assert_eq!(rt;
-        recover(rt.alloc(), &mut disk),
-        Ok(RecoverSummary { format, mirrors })
-    );
-    assert_eq!(rt; disk.writes(), writes_for(mirrors));
-    assert!(rt; has(&mut disk, COPY, copy)?);
-    disk.settle();
-    disk.open("", Access::Write)?;
-    assert_eq!(rt;
-        recover(rt.alloc(), &mut disk),
-        Ok(RecoverSummary { format, mirrors: 0 })
-    );
-    assert_eq!(rt; disk.writes(), 0);
-    assert!(rt; has(&mut disk, COPY, copy)?);
+) -> Result<bool, Broken> {
+    let first = recovered(alloc, disk)?;
+    let is_copied = holds(disk, COPY, copy)?;
+    let second = recovered(alloc, disk)?;
+    let is_kept = holds(disk, COPY, copy)?;
+    Ok(first == told(format, mirrors) && is_copied && second == told(format, 0) && is_kept)
+}
+
+/// What the block of the copy holds.
+#[derive(Clone, Copy)]
+enum Held {
+    Zeros,
+    Filled(u8),
+    /// What looks like a superblock by its magic alone.
+    Magic,
+    /// The same as block 16.
+    Superblock,
+    /// The copy of block 16.
+    Copy,
+}
+
+impl Held {
+    /// The block, beside this superblock of Btrfs.
+    fn block(self, superblock: &Block) -> Block {
+        match self {
+            Held::Zeros => Block::zero(),
+            Held::Filled(byte) => filled(byte),
+            Held::Magic => magic(),
+            Held::Superblock => *superblock,
+            Held::Copy => copy_of(superblock),
+        }
+    }
+}
+
+/// A volume, and what a recovery makes of the block of its copy.
+#[derive(Clone, Copy)]
+struct Case {
+    name: &'static str,
+    format: Format,
+    blocks: u64,
+    held: Held,
+    /// Whether the bitmap of ReiserFS marks the block of the copy.
+    is_used: bool,
+    /// How many copies are written, and what is there then.
+    mirrors: u64,
+    left: Held,
+}
+
+const REISER: Case = Case {
+    name: "a superblock without use is wiped",
+    format: Format::Reiser,
+    blocks: BLOCKS,
+    held: Held::Magic,
+    is_used: false,
+    mirrors: 1,
+    left: Held::Zeros,
+};
+
+const BTRFS: Case = Case {
+    name: "a copy that differs is written",
+    format: Format::Btrfs,
+    blocks: BLOCKS,
+    held: Held::Superblock,
+    is_used: false,
+    mirrors: 1,
+    left: Held::Copy,
+};
+
+const CASES: [Case; 10] = [
+    REISER,
+    Case {
+        name: "other bytes are kept",
+        held: Held::Filled(3),
+        mirrors: 0,
+        left: Held::Filled(3),
+        ..REISER
+    },
+    Case {
+        name: "a used block is kept",
+        is_used: true,
+        mirrors: 0,
+        left: Held::Magic,
+        ..REISER
+    },
+    BTRFS,
+    Case {
+        name: "a copy that is missing is written",
+        held: Held::Zeros,
+        ..BTRFS
+    },
+    Case {
+        name: "a copy that is there is kept",
+        held: Held::Copy,
+        mirrors: 0,
+        ..BTRFS
+    },
+    // A copy never ends with the volume.
+    Case {
+        name: "the last block of ReiserFS is kept",
+        blocks: COPY + 1,
+        mirrors: 0,
+        left: Held::Magic,
+        ..REISER
+    },
+    Case {
+        name: "the last block but one of ReiserFS is wiped",
+        blocks: COPY + 2,
+        ..REISER
+    },
+    Case {
+        name: "the last block of Btrfs is kept",
+        blocks: COPY + 1,
+        held: Held::Filled(7),
+        mirrors: 0,
+        left: Held::Filled(7),
+        ..BTRFS
+    },
+    Case {
+        name: "the last block but one of Btrfs is written",
+        blocks: COPY + 2,
+        held: Held::Filled(7),
+        ..BTRFS
+    },
+];
+
+impl Case {
+    /// The volume, whose superblock is this one if it is Btrfs.
+    fn disk(&self, alloc: Global, superblock: &Block) -> Result<MemDisk, Broken> {
+        let mut disk = if self.format == Format::Btrfs {
+            btrfs(alloc, self.blocks, superblock)?
+        } else {
+            reiser(alloc, self.blocks)?
+        };
+        self.fill(&mut disk, superblock)?;
+        Ok(disk)
+    }
+
+    /// Fills the block of the copy, and marks it. The byte of the bitmap for blocks 16384 to 16391 marks all of them.
+    fn fill(&self, disk: &mut MemDisk, superblock: &Block) -> Result<(), Broken> {
+        put(disk, COPY, &self.held.block(superblock))?;
+        if self.is_used {
+            change(disk, 17, 2048, 0xff)?;
+        }
+        Ok(())
+    }
+
+    /// Sees that the volume is recovered so.
+    fn check(&self, alloc: Global) -> Result<(), Broken> {
+        let superblock = superblock(alloc, self.blocks)?;
+        let mut disk = self.disk(alloc, &superblock)?;
+        let left = self.left.block(&superblock);
+        let is_so = recovers(alloc, &mut disk, self.format, self.mirrors, &left)?;
+        see(is_so, self.name)
+    }
+}
+
+#[test]
+fn copies_are_mended(rt: HostRuntime) -> Result<(), Broken> {
+    for case in &CASES {
+        case.check(rt.alloc())?;
+    }
     Ok(())
 }
 
-#[test]
-fn a_superblock_without_use_is_wiped(rt: HostRuntime) -> Result<(), Fail> {
-    let disk = reiser(rt.alloc(), &magic())?;
-    recovers(&rt, disk, Format::Reiser, 1, &Block::zero())
+/// A disk that is refused.
+#[derive(Clone, Copy)]
+enum Wrong {
+    /// So many blocks of zeros.
+    Zeros(u64),
+    /// A ReiserFS volume that is not clean.
+    Unclean,
+    /// A superblock of Btrfs whose checksum is wrong.
+    Torn,
 }
 
-#[test]
-fn other_bytes_are_kept(rt: HostRuntime) -> Result<(), Fail> {
-    let disk = reiser(rt.alloc(), &filled(3))?;
-    recovers(&rt, disk, Format::Reiser, 0, &filled(3))
+impl Wrong {
+    fn disk(self, alloc: Global) -> Result<MemDisk, Broken> {
+        match self {
+            Wrong::Zeros(blocks) => Ok(MemDisk::new(alloc, blocks)?),
+            Wrong::Unclean => {
+                let mut disk = REISER.disk(alloc, &Block::zero())?;
+                change(&mut disk, 16, 50, 2)?;
+                Ok(disk)
+            }
+            Wrong::Torn => {
+                let mut disk = btrfs(alloc, BLOCKS, &superblock(alloc, BLOCKS)?)?;
+                change(&mut disk, 16, 300, 1)?;
+                Ok(disk)
+            }
+        }
+    }
 }
 
-/// The byte of the bitmap for blocks 16384 to 16391 marks all of them.
-#[test]
-fn a_used_block_is_kept(rt: HostRuntime) -> Result<(), Fail> {
-    let mut disk = reiser(rt.alloc(), &magic())?;
-    let mut bitmap = Block::zero();
-    disk.block(17, &mut bitmap);
-    bitmap.bytes[2048] = 0xff;
-    disk.set_block(17, &bitmap)?;
-    recovers(&rt, disk, Format::Reiser, 0, &magic())
-}
+const NONE: Answer = Answer::Volume(VolumeRefusal::NotVolume);
 
-#[test]
-fn a_copy_that_differs_is_written(rt: HostRuntime) -> Result<(), Fail> {
-    let superblock = superblock(rt.alloc(), BLOCKS)?;
-    let copy = copy_of(&superblock);
-    let disk = btrfs(rt.alloc(), &superblock, &superblock)?;
-    recovers(&rt, disk, Format::Btrfs, 1, &copy)?;
-    let disk = btrfs(rt.alloc(), &superblock, &Block::zero())?;
-    recovers(&rt, disk, Format::Btrfs, 1, &copy)?;
-    let disk = btrfs(rt.alloc(), &superblock, &copy)?;
-    recovers(&rt, disk, Format::Btrfs, 0, &copy)
-}
-
-/// What is answered where no block may be written.
-fn refuses(rt: &(impl Abort + AllocGlobal), disk: MemDisk, answer: Answer) -> Result<(), Fail>
-    requires { disk.opened ≡ None }
-{
-    let mut disk = disk;
-    disk.open("", Access::Write)?;
-    assert_eq!(rt; recover(rt.alloc(), &mut disk), Err(answer));
-    assert_eq!(rt; disk.writes(), 0);
-    Ok(())
-}
-
-#[test]
-fn what_is_wrong_is_refused(rt: HostRuntime) -> Result<(), Fail> {
-    let none = Answer::Volume(VolumeRefusal::NotVolume);
-    refuses(&rt, MemDisk::new(rt.alloc(), 0)?, none)?;
-    refuses(&rt, MemDisk::new(rt.alloc(), 16)?, none)?;
-    refuses(&rt, MemDisk::new(rt.alloc(), BLOCKS)?, none)?;
-
-    let mut unclean = reiser(rt.alloc(), &magic())?;
-    let mut block = Block::zero();
-    unclean.block(16, &mut block);
-    block.bytes[50] = 2;
-    unclean.set_block(16, &block)?;
-    refuses(
-        &rt,
-        unclean,
+const REFUSED: [(Wrong, Answer); 5] = [
+    (Wrong::Zeros(0), NONE),
+    (Wrong::Zeros(16), NONE),
+    (Wrong::Zeros(BLOCKS), NONE),
+    (
+        Wrong::Unclean,
         Answer::Volume(VolumeRefusal::Unclean { state: 2 }),
-    )?;
-
-    let mut torn = superblock(rt.alloc(), BLOCKS)?;
-    torn.bytes[300] = 1;
-    refuses(
-        &rt,
-        btrfs(rt.alloc(), &torn, &Block::zero())?,
+    ),
+    (
+        Wrong::Torn,
         Answer::Btr(BtrRefusal::BadBtrfs {
             address: SUPER_INFO_OFFSET,
             rule: BtrRule::SuperCsum,
         }),
-    )
+    ),
+];
+
+/// What is answered where no block may be written.
+fn ended_on(alloc: Global, wrong: Wrong) -> Result<Ended, Broken> {
+    let mut disk = wrong.disk(alloc)?;
+    recovered(alloc, &mut disk)
 }
 
-/// A recovery that stops behind the write of block 16 leaves the block of the copy as it was, and one that stops behind the write of that
-/// block leaves it as it was or as it is to be.
-fn crashes(
-    rt: &(impl Abort + AllocGlobal),
-    disk: MemDisk,
-    format: Format,
-    old: &Block,
-    new: &Block,
-) -> Result<(), Fail>
-    requires { disk.opened ≡ None }
-{
-    let mut disk = disk;
-    disk.open("", Access::Write)?;
-    disk.stop_at_write(1);
-    assert_eq!(rt; recover(rt.alloc(), &mut disk), Err(Answer::Fault));
-    for choice in [0, 1] {
-        let mut left = disk.after_crash(&[choice])?;
-        left.open("", Access::Read)?;
-        assert!(rt; has(&mut left, COPY, old)?);
-    }
-    let mut disk = disk.after_crash(&[0])?;
-    disk.open("", Access::Write)?;
-    disk.stop_at_write(2);
-    assert_eq!(rt; recover(rt.alloc(), &mut disk), Err(Answer::Fault));
-    for (choice, block) in [(0, old), (1, new)] {
-        let mut left = disk.after_crash(&[choice])?;
-        left.open("", Access::Read)?;
-        assert!(rt; has(&mut left, COPY, block)?);
-        left.settle();
-        let mirrors = if choice == 0 { 1 } else { 0 };
-        recovers(rt, left, format, mirrors, new)?;
+#[test]
+fn what_is_wrong_is_refused(rt: HostRuntime) -> Result<(), Broken> {
+    for (wrong, answer) in &REFUSED {
+        let ended = ended_on(rt.alloc(), *wrong)?;
+        see(ended == (Err(*answer), 0), "it is refused, and not written")?;
     }
     Ok(())
 }
 
+/// What is answered where this call of the disk fails.
+fn ended_without(alloc: Global, superblock: &Block, call: u64) -> Result<Ended, Broken> {
+    let mut disk = btrfs(alloc, BLOCKS, superblock)?;
+    recovery(alloc, &mut disk, None, Trouble::Call(call))
+}
+
 #[test]
-fn a_crash_leaves_the_block_as_it_was_or_mended(rt: HostRuntime) -> Result<(), Fail> {
-    let disk = reiser(rt.alloc(), &magic())?;
-    crashes(&rt, disk, Format::Reiser, &magic(), &Block::zero())?;
+fn each_failed_call_is_a_fault(rt: HostRuntime) -> Result<(), Broken> {
     let superblock = superblock(rt.alloc(), BLOCKS)?;
-    let copy = copy_of(&superblock);
-    let disk = btrfs(rt.alloc(), &superblock, &filled(7))?;
-    crashes(&rt, disk, Format::Btrfs, &filled(7), &copy)
-}
-
-#[test]
-fn each_failed_call_is_a_fault(rt: HostRuntime) -> Result<(), Fail> {
-    let superblock = superblock(rt.alloc(), BLOCKS)?;
-    for k in 0..8 {
-        let mut disk = btrfs(rt.alloc(), &superblock, &Block::zero())?;
-        disk.open("", Access::Write)?;
-        disk.fail_call(k)?;
-        assert_eq!(rt; recover(rt.alloc(), &mut disk), Err(Answer::Fault));
+    for call in 0..8 {
+        let (answer, _) = ended_without(rt.alloc(), &superblock, call)?;
+        see(answer == Err(Answer::Fault), "a failed call is a fault")?;
     }
-    Ok(())
-}
-
-/// A disk of so many blocks with this superblock and zeros in all others.
-fn without_copies(alloc: Global, blocks: u64, superblock: &Block) -> Result<MemDisk, Fail>
-    requires { 16 < blocks }
-    ensures size { IfOk result (λ d. length d.history.start ≡ blocks) }
-    ensures closed { IfOk result (λ d. d.opened ≡ None) }
-{
-    let mut disk = MemDisk::new(alloc, blocks)?;
-    disk.set_block(16, superblock)?;
-    Ok(disk)
-}
-
-/// How many of two writes a crash by this choice keeps, where so many were made with that of block 16 before them.
-fn kept(writes: u64, choice: [u32; 2]) -> u64
-    ensures { result ≤ 2 }
-{
-    let first = if writes > 1 && choice[0] == 1 { 1 } else { 0 };
-    let second = if writes > 2 && choice[1] == 1 { 1 } else { 0 };
-    first + second
-}
-
-/// A crash of a recovery that writes both copies tears the two writes apart as it likes, and the next recovery writes what is missing.
-#[test]
-fn both_copies_are_written(rt: HostRuntime) -> Result<(), Fail> {
-    let superblock = superblock(rt.alloc(), LARGE)?;
-    for writes in 0..5 {
-        for choice in [[0, 0], [1, 0], [0, 1], [1, 1]] {
-            let mut disk = without_copies(rt.alloc(), LARGE, &superblock)?;
-            disk.open("", Access::Write)?;
-            disk.stop_at_write(writes);
-            let done = recover(rt.alloc(), &mut disk).is_ok();
-            assert_eq!(rt; done, writes == 4);
-            let mut left = disk.after_crash(&choice)?;
-            left.open("", Access::Write)?;
-            let missing = if done { 0 } else { 2 - kept(writes, choice) };
-            let told = RecoverSummary {
-                format: Format::Btrfs,
-                mirrors: missing,
-            };
-            assert_eq!(rt; recover(rt.alloc(), &mut left), Ok(told));
-            assert_eq!(rt; left.writes(), writes_for(missing));
-        }
-    }
-    Ok(())
-}
-
-/// Writes block 16 of an open disk, where it has one.
-fn put_superblock(disk: &mut MemDisk, superblock: &Block) -> Result<(), Fail>
-    requires open { disk.old.opened ≡ Some Access.Write }
-    ensures open { disk.new.opened ≡ Some Access.Write }
-{
-    if disk.len() > 16 {
-        disk.write(16, superblock)?;
-    }
-    Ok(())
-}
-
-/// A superblock that waits when a recovery begins has reached the device before its copy is written, so no crash leaves the copy alone.
-#[test]
-fn a_superblock_that_waits_comes_before_its_copy(rt: HostRuntime) -> Result<(), Fail> {
-    let superblock = superblock(rt.alloc(), BLOCKS)?;
-    let copy = copy_of(&superblock);
-    for writes in 0..4 {
-        for choice in [[0, 0], [1, 0], [0, 1], [1, 1]] {
-            let mut disk = MemDisk::new(rt.alloc(), BLOCKS)?;
-            disk.set_block(COPY, &filled(3))?;
-            disk.open("", Access::Write)?;
-            put_superblock(&mut disk, &superblock)?;
-            disk.stop_at_write(writes);
-            let done = recover(rt.alloc(), &mut disk).is_ok();
-            assert_eq!(rt; done, writes == 3);
-            let mut left = disk.after_crash(&choice)?;
-            left.open("", Access::Read)?;
-            let copied = has(&mut left, COPY, &copy)?;
-            assert!(rt; copied || has(&mut left, COPY, &filled(3))?);
-            assert!(rt; !copied || has(&mut left, 16, &superblock)?);
-        }
-    }
-    Ok(())
-}
-
-/// What a recovery of a disk with this block in the place of the copy leaves there, and how many writes it makes.
-fn recovered(disk: MemDisk, alloc: Global, held: &Block) -> Result<(Block, u64), Fail>
-    requires size { COPY < length disk.history.start }
-    requires closed { disk.opened ≡ None }
-{
-    let mut disk = disk;
-    disk.set_block(COPY, held)?;
-    disk.open("", Access::Write)?;
-    recover(alloc, &mut disk).ok().ok_or("a recovery")?;
-    let mut block = Block::zero();
-    if COPY < disk.len() {
-        disk.read(COPY, &mut block)?;
-    }
-    Ok((block, disk.writes()))
-}
-
-/// A ReiserFS volume of so many blocks, alone on its disk.
-fn made(alloc: Global, blocks: u64) -> Result<MemDisk, Fail>
-    requires { blocks ≤ 2 ^ 29 }
-    ensures size { IfOk result (λ d. length d.history.start ≡ blocks) }
-    ensures closed { IfOk result (λ d. d.opened ≡ None) }
-{
-    let mut disk = MemDisk::new(alloc, blocks)?;
-    disk.open("", Access::Write)?;
-    make(alloc, 0, blocks, &mut disk)?;
-    disk.settle();
-    Ok(disk)
-}
-
-/// A copy never ends with the volume: where its place is the last block, that block is left as it is.
-#[test]
-fn a_last_block_is_kept(rt: HostRuntime) -> Result<(), Fail> {
-    let (last, more) = (COPY + 1, COPY + 2);
-    let left = recovered(made(rt.alloc(), last)?, rt.alloc(), &magic())?;
-    assert!(rt; left == (magic(), 0));
-    let left = recovered(made(rt.alloc(), more)?, rt.alloc(), &magic())?;
-    assert!(rt; left == (Block::zero(), writes_for(1)));
-    let block = superblock(rt.alloc(), last)?;
-    let left = recovered(
-        without_copies(rt.alloc(), last, &block)?,
-        rt.alloc(),
-        &filled(7),
-    )?;
-    assert!(rt; left == (filled(7), 0));
-    let block = superblock(rt.alloc(), more)?;
-    let left = recovered(
-        without_copies(rt.alloc(), more, &block)?,
-        rt.alloc(),
-        &filled(7),
-    )?;
-    assert!(rt; left == (copy_of(&block), writes_for(1)));
-    Ok(())
-}
-
-/// A block that no volume here uses, for the superblock that a mark names.
-const KEPT: BlockNo = 900;
-
-/// The first sector of a superblock, with a mark that names the block where it is kept, and fives in the other sectors.
-fn half_of(before: &Block) -> Block {
-    let mut half = Block {
-        bytes: before.bytes,
-    };
-    half.bytes[128..144].copy_from_slice(b"reiserconv turns");
-    half.bytes[144..152].copy_from_slice(&KEPT.to_le_bytes());
-    for i in 512..4096 {
-        half.bytes[i] = 5;
-    }
-    half
-}
-
-/// A ReiserFS volume whose block 16 is half turned, by a mark that names the block where the superblock lies as it was. And that superblock.
-fn half_turned(alloc: Global) -> Result<(MemDisk, Block), Fail>
-    ensures size { IfOk result (λ both. length both.0.history.start ≡ 20000) }
-    ensures closed { IfOk result (λ both. both.0.opened ≡ None) }
-{
-    let mut disk = reiser(alloc, &Block::zero())?;
-    let mut before = Block::zero();
-    disk.block(16, &mut before);
-    disk.set_block(KEPT, &before)?;
-    disk.set_block(16, &half_of(&before))?;
-    Ok((disk, before))
-}
-
-/// Block 16 becomes the superblock that its mark names, whatever its other sectors hold, in two writes.
-#[test]
-fn a_half_turned_superblock_is_put_back(rt: HostRuntime) -> Result<(), Fail> {
-    let whole = RecoverSummary {
-        format: Format::Reiser,
-        mirrors: 0,
-    };
-    let (mut disk, before) = half_turned(rt.alloc())?;
-    disk.open("", Access::Write)?;
-    assert_eq!(rt; recover(rt.alloc(), &mut disk), Ok(whole));
-    assert_eq!(rt; disk.writes(), 2);
-    assert!(rt; has(&mut disk, 16, &before)?);
-    disk.settle();
-    disk.open("", Access::Write)?;
-    assert_eq!(rt; recover(rt.alloc(), &mut disk), Ok(whole));
-    assert_eq!(rt; disk.writes(), 0);
-    assert!(rt; has(&mut disk, 16, &before)?);
-    Ok(())
-}
-
-/// A recovery that stops while it puts block 16 back leaves what the next one puts back.
-#[test]
-fn a_crash_of_putting_back_is_put_back(rt: HostRuntime) -> Result<(), Fail> {
-    for writes in 1..3 {
-        let (mut disk, before) = half_turned(rt.alloc())?;
-        disk.open("", Access::Write)?;
-        disk.stop_at_write(writes);
-        assert_eq!(rt; recover(rt.alloc(), &mut disk), Err(Answer::Fault));
-        for choice in [0, 1] {
-            let mut left = disk.after_crash(&[choice])?;
-            left.open("", Access::Write)?;
-            assert!(rt; recover(rt.alloc(), &mut left).is_ok());
-            assert!(rt; has(&mut left, 16, &before)?);
-        }
-    }
-    Ok(())
-}
-
-/// A mark leads nowhere where the block that it names is another one; block 16 stays as it is.
-#[test]
-fn a_mark_without_a_copy_is_left_alone(rt: HostRuntime) -> Result<(), Fail> {
-    let (mut disk, before) = half_turned(rt.alloc())?;
-    let mut half = Block::zero();
-    disk.block(16, &mut half);
-    let mut other = before;
-    other.bytes[511] ^= 1;
-    disk.set_block(KEPT, &other)?;
-    disk.open("", Access::Write)?;
-    assert!(rt; recover(rt.alloc(), &mut disk).is_ok());
-    assert_eq!(rt; disk.writes(), 0);
-    assert!(rt; has(&mut disk, 16, &half)?);
     Ok(())
 }

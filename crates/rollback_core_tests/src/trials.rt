@@ -1,12 +1,12 @@
 // Trials on small disks in memory.
-ghost use Rattle.std.specs.Prelude.{◌≤◌};
 
+use crate::disks::{Broken, see};
 use command_answers::Answer;
 use outside::{Access, Disk};
 use outside_mem::MemDisk;
 use refusals::VolumeRefusal;
-use std::process::Abort;
-use std::test::Fail;
+use std::alloc::Global;
+use std::test::*;
 use trial_core::{TrialSummary, trial};
 use vol_block::Ids;
 
@@ -17,45 +17,68 @@ const IDS: Ids = Ids {
     subvolume: [0x44; 16],
 };
 
-/// How the trial of a number ends on a new disk of so many blocks.
-fn tried(
-    rt: &(impl Abort + AllocGlobal),
-    number: u32,
-    blocks: u64,
-) -> Result<Result<TrialSummary, Answer>, Fail>
-    requires { number ≤ 4000 }
-{
-    let mut disk = MemDisk::new(rt.alloc(), blocks)?;
+type Ended = Result<TrialSummary, Answer>;
+
+/// How the trial of a number ends on a disk, which is flushed before.
+fn tried(alloc: Global, number: u32, disk: &mut MemDisk) -> Result<Ended, Broken> {
+    disk.settle();
     disk.open("", Access::Write)?;
-    Ok(trial(rt.alloc(), number, &IDS, 1, &mut disk))
+    if number > 4000 {
+        return Err(Broken::Sample);
+    }
+    Ok(trial(alloc, number, &IDS, 1, disk))
+}
+
+/// A sample, the blocks of the disk, and how its trial ends there.
+struct Case(u32, u64, Ended);
+
+const CASES: [Case; 4] = [
+    Case(0, 65_536, Ok(TrialSummary { rows: 1, bytes: 0 })),
+    Case(
+        1,
+        65_536,
+        Ok(TrialSummary {
+            rows: 3,
+            bytes: 20_480,
+        }),
+    ),
+    Case(
+        100,
+        65_536,
+        Ok(TrialSummary {
+            rows: 102,
+            bytes: 1_650_882,
+        }),
+    ),
+    // the disk is too short
+    Case(
+        0,
+        65_535,
+        Err(Answer::Volume(VolumeRefusal::Short {
+            volume: 65_536,
+            device: 65_535,
+        })),
+    ),
+];
+
+/// How a trial ends on a new disk of so many blocks.
+fn tried_on(alloc: Global, number: u32, blocks: u64) -> Result<Ended, Broken> {
+    tried(alloc, number, &mut MemDisk::new(alloc, blocks)?)
 }
 
 #[test]
-fn samples_go_there_and_back(rt: HostRuntime) -> Result<(), Fail> {
-    for (number, rows, bytes) in [(0, 1, 0), (1, 3, 20_480), (100, 102, 1_650_882)] {
-        let told = tried(&rt, number, 65_536)?;
-        assert!(rt; told == Ok(TrialSummary { rows, bytes }));
+fn samples_go_there_and_back(rt: HostRuntime) -> Result<(), Broken> {
+    for Case(number, blocks, ended) in &CASES {
+        let told = tried_on(rt.alloc(), *number, *blocks)?;
+        see(told == *ended, "a trial ends so")?;
     }
     Ok(())
 }
 
 #[test]
-fn a_disk_that_is_too_short(rt: HostRuntime) -> Result<(), Fail> {
-    let short = VolumeRefusal::Short {
-        volume: 65_536,
-        device: 65_535,
-    };
-    assert!(rt; tried(&rt, 0, 65_535)? == Err(Answer::Volume(short)));
-    Ok(())
-}
-
-#[test]
-fn a_disk_with_a_volume(rt: HostRuntime) -> Result<(), Fail> {
+fn a_disk_with_a_volume(rt: HostRuntime) -> Result<(), Broken> {
     let mut disk = MemDisk::new(rt.alloc(), 65_536)?;
-    disk.open("", Access::Write)?;
-    let first = trial(rt.alloc(), 0, &IDS, 1, &mut disk);
-    assert!(rt; first.is_ok());
-    let second = trial(rt.alloc(), 0, &IDS, 1, &mut disk);
-    assert!(rt; second == Err(Answer::WrongFormat));
-    Ok(())
+    see(tried(rt.alloc(), 0, &mut disk)?.is_ok(), "a trial is done")?;
+    let second = tried(rt.alloc(), 0, &mut disk)?;
+    see(second == Err(Answer::WrongFormat), "a second one is not")
 }
