@@ -9,4 +9,4 @@
 #[cfg(test)]
 mod commands;
 #[cfg(test)]
-mod tests;
+mod volumes;
