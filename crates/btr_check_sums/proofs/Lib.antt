@@ -1,4 +1,7 @@
+pub mod Bodies
 pub mod Covering
+pub mod Data
+pub mod DueSteps
 pub mod Imports
 pub mod OwnTree
 pub mod Part
