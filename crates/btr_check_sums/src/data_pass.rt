@@ -1,5 +1,5 @@
 // The checksums of the checksum tree, one after the other.
-ghost use Rattle.std.specs.Prelude.{◌≡◌, ◌≤◌, ◌<◌, ◌+◌, ◌*◌, ◌/◌, ◌^◌, ◌++◌, ◌∷◌, [], ℕ, List, take, drop, length, All, IfErr, IfOk, MatchResult, OnOk};
+ghost use Rattle.std.specs.Prelude.{◌≡◌, ◌<◌, ◌+◌, ◌*◌, ◌/◌, ◌^◌, ◌++◌, ◌∷◌, [], ℕ, List, take, drop, length, All, IfErr, IfOk, MatchResult, OnOk};
 ghost use Rattle.btr_check_rules.specs.Sums.{sum_count};
 ghost use Rattle.btr_check_rules.specs.btr_reader.btr_keys.declared.key.Key.{Key as KeyOf};
 ghost use Rattle.btr_check_rules.specs.btr_reader.btr_node.Leaf.{Item};
