@@ -1,10 +1,8 @@
 -- What is due, judged: as the answers of a pass over the checksum tree.
-use Rattle.btr_check_sums.proofs.Imports.{◌≡◌, ◌<◌, ◌⊎◌, ℕ, Bool, true, false, refl, List, [], ◌∷◌, ◌++◌, map, Result, Ok, Err, inl, inr, sym, ap, subst, ◌∙◌, ⊎_elim, arith, map-append, All-nil, true≢false, All-permutation, Contains-permutation, IsPermutation-sym, Decides, All, Contains, IfErr, OnOk, Checksums, part_number, owners_of, walk_refusals, walked_items, Item, TreeItem, bare_item, Blames, found, wrong, MapRange, Own, Tree, SumKind, Image, block_at, BtrRefusal, BreaksTrees, TellsPart, tree_answer, AreMet, AreSumsRight, BreaksSums, HoldsDue, HoldsFirst, IsRight, IsRightOf, IsWrongDue, IsWrongOne, DueSum}
+use Rattle.btr_check_sums.proofs.Imports.{◌≡◌, ◌<◌, ◌⊎◌, ℕ, Bool, true, false, refl, List, [], ◌∷◌, ◌++◌, map, Result, Ok, Err, inl, inr, sym, ap, subst, ◌∙◌, ⊎_elim, arith, map-append, All-nil, true≢false, All-permutation, Contains-permutation, IsPermutation-sym, Decides, All, Contains, IfErr, OnOk, Checksums, part_number, owners_of, walk_refusals, walked_items, Item, TreeItem, bare_item, Blames, found, wrong, MapRange, Own, Tree, SumKind, Image, block_at, BtrRefusal, BreaksTrees, TellsPart, tree_answer, AreMet, AreSumsRight, BreaksSums, HoldsDue, HoldsFirst, IsRight, IsRightOf, IsWrongDue, IsWrongOne, DueSum, tells_weaker, Answer}
 use Rattle.std.proofs.Common.{MatchResult}
 use Rattle.std.specs.List.Sorted.{IsPermutation}
-use Rattle.btr_check_walk.proofs.Told.{tells_weaker}
 use Rattle.btr_check_rules.specs.btr_reader.refusals.declared.answer.BtrAnswer.{BtrAnswer}
-use Rattle.btr_check_walk.specs.command_answers.declared.answer.Answer.{Answer}
 use Rattle.btr_check_rules.specs.btr_reader.refusals.declared.answer.BtrAnswer.TheVariants as walks
 use Rattle.btr_check_walk.specs.command_answers.declared.answer.Answer.TheVariants as answers
 use Rattle.btr_check_sums.proofs.DueSteps.{all_judged, breaks_all, first_judged, wrong_told}
