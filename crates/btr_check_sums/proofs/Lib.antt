@@ -1,8 +1,14 @@
+pub mod Bodies
 pub mod Covering
+pub mod Data
+pub mod DueSteps
 pub mod Imports
+pub mod KeyOrder
 pub mod OwnTree
 pub mod Part
 pub mod PlaceRuns
 pub mod Sets
 pub mod SumSteps
 pub mod SumVisits
+pub mod TreeSteps
+pub mod Whole

@@ -1,18 +1,13 @@
 -- A walk that takes the nodes of a tree alone meets what a walk does that takes those of other subvolumes too, where the tree is none of
 -- these: then whatever is wrong with it.
-use Rattle.btr_check_sums.proofs.Imports.{◌≡◌, ℕ, zero, suc, List, [], ◌∷◌, ◌++◌, map, Option, None, Some, refl, sym, ap, ap₂, ◌∙◌, append-nil, map-append, Key, Item, TreeEvent, TreeItem, in_leaf, items_in_events, leaf_events, may_be_bare, nodes_in, unless_damaged, order_damages, MapRange, Image}
+use Rattle.btr_check_sums.proofs.Imports.{◌≡◌, ℕ, zero, suc, List, [], ◌∷◌, ◌++◌, map, Option, None, Some, refl, sym, ap, ap₂, ◌∙◌, append-nil, map-append, Key, Item, TreeEvent, TreeItem, in_leaf, items_in_events, leaf_events, may_be_bare, nodes_in, unless_damaged, order_damages, MapRange, Image, if_leaf, owners_of, walk_refusals, walked_items, walked_nodes, found, wrong, Own, Tree, BtrRefusal}
 use Rattle.std.specs.List.{flat_map}
 use Rattle.std.proofs.lemmas.List.Concat.{flat_map-append}
-use Rattle.btr_check_rules.specs.Walk.{if_leaf, owners_of, walk_refusals, walked_items, walked_nodes}
 use Rattle.btr_check_rules.specs.btr_reader.btr_node.declared.child.Child.{Child}
 use Rattle.btr_check_rules.specs.btr_reader.btr_reader_walk.Nodes.{damages_at, refusals_at, tree_nodes}
-use Rattle.btr_check_rules.specs.btr_reader.btr_reader_walk.Walks.{found, wrong}
 use Rattle.btr_check_rules.specs.btr_reader.btr_reader_walk.declared.tree.NodeEntry.{NodeEntry}
 use Rattle.btr_check_rules.specs.btr_reader.btr_reader_walk.declared.tree.NodePointer.{NodePointer}
 use Rattle.btr_check_rules.specs.btr_reader.btr_reader_walk.declared.tree.Owners.{Owners}
-use Rattle.btr_check_rules.specs.btr_reader.btr_reader_walk.declared.tree.Owners.TheVariants.{Own}
-use Rattle.btr_check_rules.specs.btr_reader.btr_reader_walk.declared.tree.Tree.{Tree}
-use Rattle.btr_check_rules.specs.btr_reader.refusals.declared.refusal.BtrRefusal.{BtrRefusal}
 use Rattle.btr_check_rules.specs.btr_reader.refusals.declared.rule.BtrRule.{BtrRule}
 use Rattle.btr_reader_walk.proofs.Events.{items_in-append, leaf_nodes, nodes_in-append}
 unfoldable use Rattle.btr_check_rules.specs.btr_reader.btr_node.Inner.{children_in}

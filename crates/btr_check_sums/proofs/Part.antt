@@ -1,13 +1,7 @@
 -- Part 5 of a sound volume, by its checksum tree and the sets of the blocks that its files use.
-use Rattle.btr_check_sums.proofs.Imports.{◌≡◌, ◌≤◌, ◌<◌, ◌+◌, ◌-◌, ◌*◌, ◌/◌, ◌%◌, ◌^◌, ◌⊎◌, ℕ, Bool, true, false, if◌then◌else◌, List, [], ◌∷◌, ◌++◌, length, get_or, Some, inl, inr, refl, sym, subst, ◌∙◌, ⊎_elim, arith, length-append, nat_tests, get_or_append_left, All-contains, All-head, All-tail, Contains-append_right, Contains-get_or, Any-from_list_any, list_any-from_Any, All, AllPairs, Contains, is_among, Run, HasBlockSum, IsReadBy, IsSumItem, IsSumRight, IsWrittenTo, KeepsCover, KeepsSums, read_span, sum_end, sum_items, sums_of, Item, holds, place, MapRange, SumKind, Image, Span, has_block, IsCoverRight, AreSumItems, BreaksSumItems, EndsBefore, is_covered, sum_span, UsedBlocks}
-use Rattle.std.proofs.lemmas.Bool.{cases_lt, true≢false}
+use Rattle.btr_check_sums.proofs.Imports.{◌≡◌, ◌≤◌, ◌<◌, ◌+◌, ◌-◌, ◌*◌, ◌/◌, ◌%◌, ◌^◌, ◌⊎◌, ℕ, Bool, true, false, if◌then◌else◌, List, [], ◌∷◌, ◌++◌, length, get_or, Some, inl, inr, refl, sym, subst, ◌∙◌, ⊎_elim, arith, length-append, nat_tests, get_or_append_left, All-contains, All-head, All-tail, Contains-append_right, Contains-get_or, Any-from_list_any, list_any-from_Any, All, AllPairs, Contains, is_among, Run, HasBlockSum, IsReadBy, IsSumItem, IsSumRight, IsWrittenTo, KeepsCover, KeepsSums, read_span, sum_end, sum_items, sums_of, Item, holds, place, MapRange, SumKind, Image, Span, has_block, IsCoverRight, AreSumItems, BreaksSumItems, EndsBefore, is_covered, sum_span, UsedBlocks, cases_lt, true≢false, AreSumsRight, BreaksSums, HasWrongSum, has_no_sums, DataUse, Recount, TreeOn, all_trees, data_uses, file_trees, is_file_tree, is_within, map_of, span_of, uses_in, Inode, AreUsedBlocks, BreaksPart, EndsLow}
 use Rattle.btr_check_rules.proofs.At.{each_at, pairs_at}
 use Rattle.btr_check_rules.proofs.Imports.{from_filter, in_flat_map}
-use Rattle.btr_check_rules.specs.Inodes.{has_no_sums}
-use Rattle.btr_check_rules.specs.Recount.{DataUse, Recount, TreeOn, all_trees, data_uses, file_trees, is_file_tree, is_within, map_of, span_of, uses_in}
-use Rattle.btr_check_rules.specs.btr_reader.btr_keys.declared.inode.Inode.{Inode}
-use Rattle.btr_check_sums.specs.DataSums.{AreSumsRight, BreaksSums, HasWrongSum}
-use Rattle.btr_check_sums.specs.Parts.{AreUsedBlocks, BreaksPart, EndsLow}
 
 -- ---- ranges of addresses
 

@@ -1,7 +1,5 @@
 -- The map of addresses, behind the ranges that do not hold one.
-use Rattle.btr_check_sums.proofs.Imports.{◌≡◌, ◌≤◌, ◌<◌, ℕ, ◌+◌, ◌-◌, Bool, true, false, List, ◌∷◌, length, get_or, drop, Option, Some, None, if◌then◌else◌, refl, sym, ap, ◌∙◌, arith, add-one, drop-cons, IfSome, drop_all, nat_tests, holds, place, MatchOption, MapRange}
-use Rattle.btr_check_sums.specs.PlaceRuns.{TellsPlaces, hand_place, is_in_run}
-use Rattle.btr_check_sums.specs.declared.place_run.PlaceRun.{PlaceRun}
+use Rattle.btr_check_sums.proofs.Imports.{◌≡◌, ◌≤◌, ◌<◌, ℕ, ◌+◌, ◌-◌, Bool, true, false, List, ◌∷◌, length, get_or, drop, Option, Some, None, if◌then◌else◌, refl, sym, ap, ◌∙◌, arith, add-one, drop-cons, IfSome, drop_all, nat_tests, holds, place, MatchOption, MapRange, TellsPlaces, hand_place, is_in_run, PlaceRun}
 
 split : (ranges : List MapRange) (i : ℕ) (d : MapRange) → i < length ranges → drop i ranges ≡ get_or ranges i d ∷ drop (i + 1) ranges
 split ranges i d low = drop-cons ranges i d low ∙ ap (λ n. get_or ranges i d ∷ drop n ranges) (sym (add-one i))

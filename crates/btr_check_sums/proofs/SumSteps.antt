@@ -1,10 +1,7 @@
 -- One more item of the checksum tree.
-use Rattle.btr_check_sums.proofs.Imports.{◌≡◌, ◌≤◌, ◌<◌, ◌+◌, ◌*◌, ◌%◌, ◌^◌, ◌==◌, ◌⊎◌, ℕ, Bool, true, false, ◌&&◌, ◌||◌, List, [], ◌∷◌, ◌++◌, length, map, get_or, inr, refl, sym, ap, subst, ◌∙◌, ⊎_elim, arith, Decides-and, Decides-eqb, Decides-like, nat_tests, get_or_append_left, get_or_push, length_push, map-append, list_any-append, All, AllPairs, Any, nat_le, is_among, All-contains, All-push, All-weaker, Contains-push, IsSumItem, most_sums, sum_count, sum_end, Checksums, part_number, Key, Item, TreeItem, in_leaf, bare_item, SumKind, Span, has_block, AreSumItemsAt, BreaksSumItems, EndsBefore, fits_count, has_whole_sums, is_covered, is_sum_item, is_sum_key, sum_span, HoldsSums, SumPass}
+use Rattle.btr_check_sums.proofs.Imports.{◌≡◌, ◌≤◌, ◌<◌, ◌+◌, ◌*◌, ◌%◌, ◌^◌, ◌==◌, ◌⊎◌, ℕ, Bool, true, false, ◌&&◌, ◌||◌, List, [], ◌∷◌, ◌++◌, length, map, get_or, inr, refl, sym, ap, subst, ◌∙◌, ⊎_elim, arith, Decides-and, Decides-eqb, Decides-like, nat_tests, get_or_append_left, get_or_push, length_push, map-append, list_any-append, All, AllPairs, Any, nat_le, is_among, All-contains, All-push, All-weaker, Contains-push, IsSumItem, most_sums, sum_count, sum_end, Checksums, part_number, Key, Item, TreeItem, in_leaf, bare_item, SumKind, Span, has_block, AreSumItemsAt, BreaksSumItems, EndsBefore, fits_count, has_whole_sums, is_covered, is_sum_item, is_sum_key, sum_span, HoldsSums, SumPass, Decides, kind_width, EXTENT_CSUM}
 use Rattle.std.proofs.lemmas.List.Quantifiers.{Any-push, all_pairs_push}
-use Rattle.std.specs.Bool.{Decides}
-use Rattle.btr_reader_walk.specs.btrfs_format.declared.key.TheConstants.{EXTENT_CSUM}
 use Rattle.btr_reader_walk.specs.btrfs_format.declared.object.TheConstants.{EXTENT_CSUM_OBJECTID}
-use Rattle.btr_check_rules.specs.btr_reader.csum_kinds.Kind.{kind_width}
 
 -- ---- the form of an item
 

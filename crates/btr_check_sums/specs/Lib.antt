@@ -8,4 +8,5 @@ pub mod Parts
 pub mod PlaceRuns
 pub mod SumItems
 pub mod SumPasses
+pub mod TreeUses
 pub mod Uses

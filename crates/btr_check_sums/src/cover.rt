@@ -39,6 +39,7 @@ fn address_of(block: u64) -> u64
 /// Judges which blocks have checksums: those that need them, none that may have none, and no block that is not data.
 pub fn judge_cover(used: &UsedBlocks, covered: &Runs) -> Result<(), Answer>
     ensures ok { OnOk result ((n : ℕ) → IsCoverRight used.now covered.now n) }
+    ensures told { IfErr result (λ e. (address : ℕ) × (e ≡ answers.NotSound (part_number Checksums) address)) }
     ensures err { IfErr result (λ e. (n : ℕ) × (¬ IsCoverRight used.now covered.now n) × (n < 2 ^ 52 → e ≡ answers.NotSound (part_number Checksums) (4096 * n))) }
 {
     match wrong_cover(used, covered) {
