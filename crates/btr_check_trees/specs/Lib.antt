@@ -1,0 +1,3 @@
+pub use Rattle.btr_check_rules.specs as btr_check_rules
+pub use Rattle.btr_check_rules.specs.btr_reader as btr_reader
+pub mod ChunkTree
