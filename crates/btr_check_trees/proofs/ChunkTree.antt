@@ -15,7 +15,7 @@ use Rattle.btr_check_walk.specs.Walks.{EndsWalk, IsRefused}
 use Rattle.btr_check_fields.specs.Failing.{Answers}
 use Rattle.btr_check_fields.specs.Noted.{offset_of}
 use Rattle.btr_check_trees.specs.declared.chunk_tree.ChunksFound.{ChunksFound}
-use Rattle.command_answers.specs.declared.answer.Answer.TheVariants as answers
+use Rattle.btr_check_walk.specs.command_answers.declared.answer.Answer.TheVariants as answers
 use Rattle.btr_check_trees.proofs.OneMore.{first_among}
 use Rattle.btr_check_trees.proofs.Telling.{tells_from}
 

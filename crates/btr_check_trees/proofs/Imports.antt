@@ -29,4 +29,4 @@ pub use Rattle.btr_check_trees.specs.declared.chunk_items.ChunkItems.{ChunkItems
 pub use Rattle.btr_check_walk.specs.Answers.{FailsIn, IsPassAnswer}
 pub use Rattle.btr_check_walk.specs.Parts.{TellsBy, TellsPart}
 pub use Rattle.btr_reader.proofs.fs_paths.Lists.{at_head}
-pub use Rattle.command_answers.specs.declared.answer.Answer.{Answer}
+pub use Rattle.btr_check_walk.specs.command_answers.declared.answer.Answer.{Answer}

@@ -1,6 +1,6 @@
 -- What an answer tells, by a weaker relation.
 use Rattle.btr_check_trees.proofs.Imports.{◌≡◌, ℕ, subst, TellsBy, TellsPart, Answer}
-use Rattle.command_answers.specs.declared.answer.Answer.TheVariants as answers
+use Rattle.btr_check_walk.specs.command_answers.declared.answer.Answer.TheVariants as answers
 
 -- where no call failed, or one may have
 pub tells_from : (P Q : ℕ → ℕ → Type 0) (faults : Type 0) → ((part a : ℕ) → P part a → Q part a) → (e : Answer) → TellsBy P faults e → TellsPart Q e
