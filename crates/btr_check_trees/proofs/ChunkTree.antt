@@ -1,20 +1,13 @@
 -- What a walk over the chunk tree found is what the recount has, and what it refused is a failure.
-use Rattle.btr_check_trees.proofs.Imports.{◌≡◌, ◌==◌, ℕ, Bool, true, false, List, [], ◌∷◌, Option, Some, None, inl, inr, refl, sym, ap, subst, ◌∙◌, length, arith, not, ◌||◌, list_all, Decides, and_parts, eqb-true, not_from_Decides, All-contains, boot_chunks, boot_list, chunk_tree, opening_refusals, or_later, boot_refusals, trees_refusals, refusals_after, Item, TreeItem, CHUNK_ITEM, CHUNK_TREE, FIRST_CHUNK_TREE_OBJECTID, Super, ChunkAt, AreChunksApart, IsChunkTreeItem, dev_items, TreeOn, chunks_on, recount, KeepsSuper, has_own_tree, own_kinds, system_chunks, at_head, FailsIn, IsPassAnswer, TellsBy, FindsDevices, DevicesFound, Answer, AreSoundChunks, AreSystem, FailsChunks, HoldsChunks, KeepsChunkTree, RefusesChunks, WalksChunks, bad_super, bad_array, overlap, ChunkItems, all_from_contains}
+use Rattle.btr_check_trees.proofs.Imports.{◌≡◌, ◌==◌, ℕ, Bool, true, false, List, [], ◌∷◌, Option, Some, None, inl, inr, refl, sym, ap, subst, ◌∙◌, length, arith, not, ◌||◌, list_all, Decides, and_parts, eqb-true, not_from_Decides, All-contains, boot_chunks, boot_list, chunk_tree, opening_refusals, or_later, boot_refusals, trees_refusals, refusals_after, Item, TreeItem, CHUNK_ITEM, CHUNK_TREE, FIRST_CHUNK_TREE_OBJECTID, Super, ChunkAt, AreChunksApart, IsChunkTreeItem, dev_items, TreeOn, chunks_on, recount, KeepsSuper, has_own_tree, own_kinds, system_chunks, at_head, FailsIn, IsPassAnswer, TellsBy, FindsDevices, DevicesFound, Answer, AreSoundChunks, AreSystem, FailsChunks, HoldsChunks, KeepsChunkTree, RefusesChunks, WalksChunks, bad_super, bad_array, overlap, ChunkItems, all_from_contains, IsVolumeOn, SUPER_INFO_OFFSET, Btrfs, Image, Chunks, Trees, of_disk, opened_super, ChunksFound}
 use Rattle.btr_check_rules.specs.btr_reader.Parts.{own_map, own_super}
-use Rattle.btr_check_rules.specs.btr_reader.Volume.{IsVolumeOn}
 use Rattle.btr_check_rules.specs.btr_reader.btr_reader_walk.declared.map.MapRange.{MapRange}
 use Rattle.btr_check_rules.specs.btr_reader.btr_reader_walk.declared.tree.Tree.{Tree}
-use Rattle.btr_check_rules.specs.btr_reader.btr_space_items.btrfs_format.declared.block.TheConstants.{SUPER_INFO_OFFSET}
-use Rattle.btr_check_rules.specs.btr_reader.declared.volume.Btrfs.{Btrfs}
-use Rattle.btr_check_rules.specs.btr_reader.outside.History.{Image}
-use Rattle.btr_check_rules.specs.Sound.{Chunks, Trees}
 use Rattle.btr_check_rules.specs.Walk.{walk_refusals, walked_items}
-use Rattle.btr_reader.proofs.PartsRead.{of_disk, opened_super}
 use Rattle.btr_check_walk.proofs.Faults.{tree_is_sound, walk_fails}
 use Rattle.btr_check_walk.specs.Walks.{EndsWalk, IsRefused}
 use Rattle.btr_check_fields.specs.Failing.{Answers}
 use Rattle.btr_check_fields.specs.Noted.{offset_of}
-use Rattle.btr_check_trees.specs.declared.chunk_tree.ChunksFound.{ChunksFound}
 use Rattle.btr_check_walk.specs.command_answers.declared.answer.Answer.TheVariants as answers
 use Rattle.btr_check_trees.proofs.OneMore.{first_among}
 use Rattle.btr_check_trees.proofs.Telling.{tells_from}

@@ -1,3 +1,4 @@
 pub use Rattle.btr_check_rules.specs as btr_check_rules
 pub use Rattle.btr_check_rules.specs.btr_reader as btr_reader
 pub mod ChunkTree
+pub mod Kinds
