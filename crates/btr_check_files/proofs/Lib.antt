@@ -1,3 +1,4 @@
 pub mod Gathered
 pub mod Imports
 pub mod Own
+pub mod Tallying
