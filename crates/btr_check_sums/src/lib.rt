@@ -23,14 +23,7 @@ mod use_of_data;
 mod uses;
 
 pub use btr_check_walk;
-pub use cover::judge_cover;
-pub use due_sum::{DataPass, DueSum};
-pub use hand::find_place;
 pub use number_runs;
-pub use place_run::PlaceRun;
-pub use sum_items::{is_sum_item, sum_count};
 pub use sum_part::judge_sums;
-pub use sum_pass::SumPass;
-pub use tree_data::judge_data;
 pub use tree_uses::{Owner, TreeUses};
 pub use use_of_data::{DataOf, LaidOut, UsedBlocks, Uses};

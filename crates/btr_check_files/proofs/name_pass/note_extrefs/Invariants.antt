@@ -1,0 +1,9 @@
+use Rattle.btr_check_files.proofs.Imports.{◌≡◌, List, ◌++◌, map, take, IsPermutation, BackName, AreNames, hashed_of, told_of, extref_name}
+use Rattle.btr_check_files.proofs.name_pass.note_extrefs.Given as goal
+
+abbrev pub invariant-loop-i : goal.invariant-loop-i
+invariant-loop-i l = record {
+  entries : l.table.entries ≡ l.fn.table.entries;
+  hashed : hashed_of l.table ≡ hashed_of l.fn.table;
+  noted : AreNames l.fn.table.entries → (met : List BackName) → IsPermutation (told_of l.fn.table) met → IsPermutation (told_of l.table) (met ++ map (extref_name l.inode) (take l.i l.names));
+}
