@@ -31,12 +31,12 @@ const FILES: &[(&str, Entry)] = &[
 enum Done {
     /// It is opened for reading.
     Read,
-    /// It is opened for writing.
-    Written,
     /// It is opened to be overwritten.
     Overwritten,
     /// It is opened for writing while it is open for writing.
     WrittenTwice,
+    /// It is opened for writing while a disk is there that did not open it to be overwritten.
+    WrittenBesideRefused,
     /// A block is read of it once it became shorter.
     ReadShortened,
 }
@@ -59,7 +59,7 @@ const TROUBLES: &[(&str, Done, &str)] = &[
         Done::Overwritten,
         "opening it: it holds an ext2, ext3 or ext4 file system",
     ),
-    ("ext4", Done::Written, ""),
+    ("ext4", Done::WrittenBesideRefused, ""),
     ("reiserfs", Done::Overwritten, ""),
     ("btrfs", Done::Overwritten, ""),
     ("zeros", Done::Overwritten, ""),
@@ -94,23 +94,31 @@ fn call(rt: &HostRuntime, disk: &mut HostDisk<'_>, path: &str, done: Done) -> Re
 {
     match done {
         Done::Read => disk.open(path, Access::Read),
-        Done::Written => disk.open(path, Access::Write),
         Done::Overwritten => {
             disk.expect_blank();
             disk.open(path, Access::Write)
         }
-        Done::WrittenTwice => open_beside(rt, disk, path),
+        Done::WrittenTwice => open_beside(rt, disk, path, false),
+        Done::WrittenBesideRefused => open_beside(rt, disk, path, true),
         Done::ReadShortened => read_shortened(rt, disk, path),
     }
 }
 
-/// Opens a disk while another one is open.
-fn open_beside(rt: &HostRuntime, disk: &mut HostDisk<'_>, path: &str) -> Result<(), Fault>
+/// Opens a disk while another one is there that the same file was to be opened by before, maybe to be overwritten.
+fn open_beside(
+    rt: &HostRuntime,
+    disk: &mut HostDisk<'_>,
+    path: &str,
+    is_overwritten: bool,
+) -> Result<(), Fault>
     requires closed { opened_for disk.old ≡ None }
 {
     let line = StatusLine::none();
     let mut first = FileDisk::new(rt, &line);
-    first.open(path, Access::Write)?;
+    if is_overwritten {
+        first.expect_blank();
+    }
+    let _ = first.open(path, Access::Write);
     disk.open(path, Access::Write)
 }
 
@@ -155,21 +163,6 @@ fn a_disk_tells_why_it_does_not_do_it(rt: HostRuntime) -> io::Result<()> {
     folder.remove(&rt)
 }
 
-/// Opens a disk, writes nines to block 1, and gives the lengths of the disk before and behind.
-fn write_nines(disk: &mut HostDisk<'_>, path: &str) -> Result<[u64; 2], Fault>
-    requires closed { opened_for disk.old ≡ None }
-{
-    let before = disk.len();
-    disk.open(path, Access::Write)?;
-    let length = disk.len();
-    if length < 2 {
-        return Err(Fault);
-    }
-    disk.write(1, &Block { bytes: [9; 4096] })?;
-    disk.sync()?;
-    Ok([before, length])
-}
-
 /// Whether a block of a disk has these bytes alone.
 fn has(disk: &mut HostDisk<'_>, n: u64, byte: u8) -> Result<bool, Fault> {
     if n >= disk.len() {
@@ -187,22 +180,48 @@ fn are_kept(disk: &mut HostDisk<'_>) -> Result<[bool; 2], Fault> {
     Ok([nines, sevens])
 }
 
-/// The lengths of a disk before and behind its opening, how many blocks were written, whether nothing failed, and whether both
-/// blocks are kept.
-fn used(rt: &HostRuntime, path: &str) -> Result<([u64; 2], u64, bool, [bool; 2]), Fault> {
+/// Opens a disk, and writes nines to block 1, with a sync behind it or without.
+fn write_nines(disk: &mut HostDisk<'_>, path: &str, is_synced: bool) -> Result<(), Fault>
+    requires closed { opened_for disk.old ≡ None }
+{
+    disk.open(path, Access::Write)?;
+    if disk.len() < 2 {
+        return Err(Fault);
+    }
+    disk.write(1, &Block { bytes: [9; 4096] })?;
+    if is_synced { disk.sync() } else { Ok(()) }
+}
+
+/// The lengths of a disk before and behind its use, how many blocks were written, whether nothing failed, and whether both blocks
+/// are kept.
+type Used = ([u64; 2], u64, bool, [bool; 2]);
+
+/// Writes nines to a file by a disk.
+fn used(rt: &HostRuntime, path: &str, is_synced: bool) -> Result<Used, Fault> {
     let line = StatusLine::none();
     let mut disk = FileDisk::new(rt, &line);
-    let lengths = write_nines(&mut disk, path)?;
+    let before = disk.len();
+    write_nines(&mut disk, path, is_synced)?;
     let kept = are_kept(&mut disk)?;
-    Ok((lengths, disk.written(), disk.trouble().is_none(), kept))
+    let is_well = disk.trouble().is_none();
+    Ok(([before, disk.len()], disk.written(), is_well, kept))
+}
+
+/// The same of a new file of sevens in a folder, and the length of the file behind it.
+fn used_file(rt: &HostRuntime, folder: &Folder, is_synced: bool) -> Result<(Used, usize), Fail> {
+    folder.fill(rt, &[("disk", SEVENS)])?;
+    let path = folder.path(rt, "disk")?;
+    let used = used(rt, path.as_str(), is_synced)?;
+    Ok((used, fs::read(rt, path.as_str())?.len()))
 }
 
 #[test]
 fn a_file_is_a_disk(rt: HostRuntime) -> Result<(), Fail> {
-    let folder = Folder::filled(&rt, "disk", &[("disk", SEVENS)])?;
-    let path = folder.path(&rt, "disk")?;
-    assert!(rt; used(&rt, path.as_str())? == ([0, 2], 1, true, [true; 2]));
-    assert_eq!(rt; fs::read(&rt, path.as_str())?.len(), 9000);
+    let folder = Folder::new(&rt, "disk")?;
+    for is_synced in &[false, true] {
+        let wanted = (([0, 2], 1, true, [true; 2]), 9000);
+        assert!(rt; used_file(&rt, &folder, *is_synced)? == wanted);
+    }
     Ok(folder.remove(&rt)?)
 }
 
