@@ -19,6 +19,6 @@ pub asked_visit : {T : Type 0} (r : Result T Answer) (kept : Bool) (part a : ℕ
 asked_visit (Ok x) kept part a err = err
 asked_visit (Err e) kept part a err = subst IsVisitAnswer (sym err.1) tt
 
-pub none_visit : {T : Type 0} (r : Result T Answer) (found : Option ℕ) (part : ℕ) → IfErr r (λ e. (a : ℕ) × (found ≡ Some a) × (e ≡ answers.NotSound part a)) → IfErr r IsVisitAnswer
-none_visit (Ok x) found part err = err
-none_visit (Err e) found part err = subst IsVisitAnswer (sym err.2) tt
+pub none_named : {T : Type 0} (r : Result T Answer) (found : Option ℕ) (part : ℕ) → IfErr r (λ e. (a : ℕ) × (found ≡ Some a) × (e ≡ answers.NotSound part a)) → IfErr r (λ e. (a : ℕ) × (e ≡ answers.NotSound part a))
+none_named (Ok x) found part err = err
+none_named (Err e) found part err = (err.0, err.2)

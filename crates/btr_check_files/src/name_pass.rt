@@ -11,6 +11,7 @@ ghost use Rattle.btr_check_rules.specs.Sound.{Files, part_number};
 ghost use Rattle.btr_check_names.specs.Lists.{entry_by};
 ghost use Rattle.btr_check_names.specs.Table.{AreNames, NamesMet, hashed_of, told_of};
 ghost use Rattle.btr_check_walk.specs.Parts.{IsVisitAnswer, TellsPart};
+ghost use Rattle.btr_check_walk.specs.command_answers.declared.answer.Answer.TheVariants as answers;
 ghost use Rattle.btr_check_files.specs.Pass.{HasNoted, NotesBoth, NotesEntries, NotesNames, TellOther, TellSame, TellsOther};
 ghost use Rattle.btr_check_files.specs.Told.{extref_name, hashed_by, ref_name, told_by};
 
@@ -169,7 +170,7 @@ impl NamePass {
     pub fn finish(&self) -> Result<(), Answer>
         ensures told { (begun : NamesMet) (items : List TreeItem) → HasNoted begun self.now.table items
             → MatchResult result (λ _. TellSame begun.entries items) (TellsPart (TellOther begun.entries items)) }
-        ensures answers { IfErr result IsVisitAnswer }
+        ensures answers { IfErr result (λ e. (ino : ℕ) × (e ≡ answers.NotSound (part_number Files) ino)) }
     {
         SoundPart::Files.ask_none(self.unmet())
     }

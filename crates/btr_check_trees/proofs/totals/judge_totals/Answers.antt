@@ -2,8 +2,8 @@ use Rattle.btr_check_trees.proofs.Imports.{subst, sym, Decides, Super, AreTotals
 use Rattle.btr_check_trees.proofs.Summing.{sums_asked, sums_decided}
 use Rattle.btr_check_trees.proofs.totals.judge_totals.Goals as goal
 
-pub returns : goal.returns
-returns c = λ image on keeps read.
+pub returns-clause-sums : goal.returns-clause-sums
+returns-clause-sums c = λ image on keeps read.
     let hold = c.totals_hold-hold.result in
     let chunks = c.as_slice.result.now in
     let all = groups (recount image) in
