@@ -1,5 +1,5 @@
 -- What the elements of a list give, those that pass a test alone.
-use Rattle.btr_check_files.proofs.Imports.{◌≡◌, Bool, true, false, cond, List, [], ◌∷◌, ◌++◌, if◌then◌else◌, filter, refl, sym, ap, ◌∙◌, subst, append_assoc, IsPermutation-append_comm, IsPermutation-append_left, IsPermutation-append_right, IsPermutation-refl, IsPermutation-trans, flat_map, IsPermutation}
+use Rattle.btr_check_files.proofs.Imports.{◌≡◌, Bool, true, false, cond, List, [], ◌∷◌, ◌++◌, if◌then◌else◌, filter, refl, sym, ap, subst, append_assoc, IsPermutation-append_comm, IsPermutation-append_left, IsPermutation-append_right, IsPermutation-refl, IsPermutation-trans, flat_map, IsPermutation}
 
 -- what all give, where others give nothing, is what those give
 pub gathered : {A B : Type 0} (p : A → Bool) (g : A → List B) (xs : List A) → flat_map (λ x. if p x then g x else []) xs ≡ flat_map g (filter p xs)

@@ -1,5 +1,5 @@
 -- What a pass over the names of a tree decides of part 2.
-use Rattle.btr_check_files.proofs.Imports.{◌≡◌, ◌⊎◌, inl, inr, ⊎_elim, ℕ, ◌==◌, Bool, true, false, List, [], ◌++◌, map, filter, refl, sym, ap, ◌∙◌, subst, arith, ne_eqb, All, Contains, eqb-true, map-append, flat_map-append, All-contains, IsPermutation-sym, IsPermutation-trans, flat_map, IsPermutation, dir_items_of, extrefs_of, inode_refs_of, Item, TreeItem, bare_item, DIR_ITEM, INODE_EXTREF, INODE_REF, BackName, IndexEntry, KeepsNames, NamedEntry, entries_in, entry_of, given_names, hashed_entries, index_entries, names_of, or_none, ref_names, Recount, TreeOn, file_trees, recount, Files, KeepsFiles, part_number, given, named, HasOtherEntries, HasOtherNames, TellOther, TellSame, TellsOther, extref_name, hashed_by, hashed_in, ref_name, told_by, told_in}
+use Rattle.btr_check_files.proofs.Imports.{◌≡◌, inl, inr, ⊎_elim, ℕ, ◌==◌, true, false, List, ◌++◌, map, sym, ap, ◌∙◌, subst, arith, ne_eqb, Contains, eqb-true, flat_map-append, All-contains, IsPermutation-sym, IsPermutation-trans, flat_map, IsPermutation, dir_items_of, extrefs_of, inode_refs_of, Item, TreeItem, bare_item, DIR_ITEM, INODE_EXTREF, INODE_REF, BackName, IndexEntry, KeepsNames, NamedEntry, entries_in, entry_of, given_names, hashed_entries, index_entries, names_of, or_none, ref_names, Recount, TreeOn, file_trees, recount, Files, KeepsFiles, part_number, given, named, HasOtherEntries, HasOtherNames, TellOther, TellSame, TellsOther, extref_name, hashed_by, hashed_in, ref_name, told_by, told_in}
 use Rattle.std.proofs.lemmas.List.Folds.{flat_map-map}
 use Rattle.btr_check_rules.specs.btr_reader.outside.History.{Image}
 use Rattle.btr_check_names.proofs.Permuting.{filter_permutation}

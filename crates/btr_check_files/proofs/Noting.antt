@@ -1,5 +1,5 @@
 -- Elements of a list that are noted one after the other.
-use Rattle.btr_check_files.proofs.Imports.{◌≡◌, ℕ, ◌+◌, ◌<◌, ◌≤◌, Bool, true, false, List, [], ◌∷◌, ◌++◌, length, map, take, drop, filter, get_or, Some, sym, ap, ◌∙◌, subst, append_assoc, append-nil, map-append, take-append-drop, take_all, take_more, get_or_from_slice_get, slice_get, IsPermutation, IsTooMany, Notes, NeverSame}
+use Rattle.btr_check_files.proofs.Imports.{◌≡◌, ℕ, ◌+◌, ◌<◌, ◌≤◌, Bool, true, false, List, [], ◌∷◌, ◌++◌, length, map, take, drop, filter, get_or, Some, sym, ap, ◌∙◌, subst, append_assoc, append-nil, map-append, take-append-drop, take_all, take_more, get_or_from_slice_get, slice_get, IsPermutation, Notes, NeverSame}
 
 module _ {A B : Type 0} (f : A → B) (met : List B) (xs : List A) where
   -- what was met, with the first ones

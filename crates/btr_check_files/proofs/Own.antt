@@ -1,5 +1,5 @@
 -- What the items of one inode tell is what the tree tells of it.
-use Rattle.btr_check_files.proofs.Imports.{◌≡◌, ◌≢◌, ℕ, ◌*◌, ◌==◌, Bool, true, false, cond, List, [], ◌∷◌, ◌++◌, if◌then◌else◌, length, map, filter, Some, refl, sym, ap, ◌∙◌, subst, arith, ne_eqb, All, Any, eqb-true, filter-append, sum_by-IsPermutation, length-filter, count_by, flat_map, sum_by, IsPermutation, DirEntryValue, dir_items_of, ExtrefValue, extrefs_of, InodeRefValue, inode_refs_of, Inode, Item, DIR_INDEX, EXTENT_DATA, INODE_EXTREF, INODE_REF, BackName, IndexEntry, entry_of, index_entries, or_none, ref_names, extents_of, letters_in, names_in, extref_name, index_by, ref_name, told_by, TreeOn, of_kind}
+use Rattle.btr_check_files.proofs.Imports.{◌≡◌, ℕ, ◌*◌, ◌==◌, Bool, true, false, cond, List, [], ◌∷◌, ◌++◌, if◌then◌else◌, length, map, filter, refl, sym, ap, ◌∙◌, arith, ne_eqb, eqb-true, filter-append, sum_by-IsPermutation, length-filter, flat_map, sum_by, IsPermutation, DirEntryValue, dir_items_of, ExtrefValue, extrefs_of, InodeRefValue, inode_refs_of, Item, DIR_INDEX, EXTENT_DATA, INODE_EXTREF, INODE_REF, BackName, IndexEntry, entry_of, index_entries, or_none, ref_names, extents_of, letters_in, names_in, extref_name, index_by, ref_name, told_by, TreeOn}
 use Rattle.btr_check_rules.specs.Inodes.{directory_size, extents_in, is_of_inode, ref_name_count}
 use Rattle.btr_check_files.proofs.Gathered.{gathered, parted}
 

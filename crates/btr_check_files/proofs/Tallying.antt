@@ -1,5 +1,6 @@
 -- One more item of an inode, in its tally.
-use Rattle.btr_check_files.proofs.Imports.{◌≡◌, ◌≢◌, ◌≤◌, ◌<◌, ℕ, ◌+◌, ◌-◌, ◌*◌, ◌^◌, ◌==◌, ◌&&◌, Bool, true, false, cond, List, [], ◌∷◌, ◌++◌, length, map, filter, if◌then◌else◌, Option, Some, None, refl, sym, ap, ◌∙◌, subst, arith, eq-eqb, ne_eqb, min, eqb-true, Decides-and, Decides-like, append-nil, length-append, length-map, All-contains, All-nil, Contains-push, filter-append, sum_by-append, sum_by-cons, flat_map, sum_by, DirEntryValue, dir_items_of, extrefs_of, FileExtentValue, file_extent_of, inode_refs_of, Inode, Item, DIR_INDEX, EXTENT_DATA, INODE_EXTREF, INODE_ITEM, INODE_REF, BackName, IndexEntry, entry_of, or_none, IsTallyOf, TellsOwn, capped, entry_letters, extents_of, letters_in, names_in, extref_name, index_by, ref_name, told_by, flat_map-append}
+use Rattle.btr_check_files.proofs.Imports.{◌≡◌, ◌≢◌, ◌<◌, ℕ, ◌+◌, ◌-◌, ◌*◌, ◌^◌, ◌==◌, ◌&&◌, Bool, true, false, cond, List, [], ◌∷◌, ◌++◌, length, map, if◌then◌else◌, Some, None, refl, sym, ap, ◌∙◌, subst, arith, eq-eqb, ne_eqb, min, eqb-true, Decides-and, Decides-like, append-nil, length-append, length-map, All-contains, All-nil, Contains-push, filter-append, sum_by-append, sum_by-cons, flat_map, sum_by, DirEntryValue, dir_items_of, extrefs_of, FileExtentValue, file_extent_of, inode_refs_of, Item, DIR_INDEX, EXTENT_DATA, INODE_EXTREF, INODE_ITEM, INODE_REF, BackName, IndexEntry, entry_of, or_none, IsTallyOf, TellsOwn, capped, entry_letters, extents_of, letters_in, names_in, extref_name, index_by, ref_name, told_by, flat_map-append}
+use Rattle.btr_check_rules.specs.btr_reader.btr_keys.declared.inode.Inode.{Inode}
 use Rattle.std.specs.Bool.{Decides}
 use Rattle.btr_check_rules.specs.btr_reader.btr_reader_names.Inodes.{kind_of_mode}
 use Rattle.btr_check_rules.specs.btr_reader.btr_reader_walk.btr_keys.btrfs_format.declared.object.TheConstants.{FIRST_FREE_OBJECTID}
@@ -7,7 +8,6 @@ use Rattle.btr_check_rules.specs.btr_reader.btr_super.declared.superblock.Super.
 use Rattle.btr_check_rules.specs.btr_reader.fs_rows.declared.row.Kind.TheVariants.{Directory}
 use Rattle.btr_check_rules.specs.Files.{EndsInFile}
 use Rattle.btr_check_items.specs.Runs.{AreCovering, AreKept, IsRunOf, KeepsItem, TellsBytes}
-use Rattle.btr_check_items.specs.declared.run.ExtentRun.{ExtentRun}
 use Rattle.btr_check_files.specs.declared.tally.Tally.{Tally}
 
 -- ---- what one item tells

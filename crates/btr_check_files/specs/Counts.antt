@@ -1,5 +1,5 @@
 -- What was met of one inode of a file tree: its names, the letters of its entries, and its extents.
-use Rattle.std.specs.Prelude.{◌≡◌, ℕ, ◌+◌, ◌-◌, ◌*◌, ◌^◌, List, length, min, Some}
+use Rattle.std.specs.Prelude.{◌≡◌, ℕ, ◌-◌, ◌*◌, ◌^◌, List, length, min, Some}
 use Rattle.std.specs.List.{flat_map, sum_by}
 use Rattle.btr_check_rules.specs.btr_reader.btr_keys.DirEntry.{DirEntryValue}
 use Rattle.btr_check_rules.specs.btr_reader.btr_keys.declared.inode.Inode.{Inode}

@@ -26,9 +26,6 @@ abbrev pub hashed_by : Item → List NamedEntry
 hashed_by i = if i.0.kind == DIR_ITEM then map (entry_of i) (or_none (dir_items_of i.1)) else []
 
 -- the names of an item, where it is a reference of an inode
-abbrev pub refs_by : Item → List BackName
-refs_by i = if i.0.kind == INODE_REF then map (ref_name i.0.objectid i.0.offset) (or_none (inode_refs_of i.1)) else []
-
 abbrev pub extrefs_by : Item → List BackName
 extrefs_by i = if i.0.kind == INODE_EXTREF then map (extref_name i.0.objectid) (or_none (extrefs_of i.1)) else []
 

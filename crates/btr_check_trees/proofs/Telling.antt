@@ -1,5 +1,5 @@
 -- What an answer tells, by a weaker relation.
-use Rattle.btr_check_trees.proofs.Imports.{◌≡◌, ℕ, subst, TellsBy, TellsPart, Answer}
+use Rattle.btr_check_trees.proofs.Imports.{ℕ, TellsBy, TellsPart, Answer}
 use Rattle.btr_check_walk.specs.command_answers.declared.answer.Answer.TheVariants as answers
 
 -- where no call failed, or one may have
@@ -16,22 +16,3 @@ tells_from P Q faults weaker (answers.NotSound part address) told = weaker part 
 tells_from P Q faults weaker (answers.ImageShared tree) told = told
 tells_from P Q faults weaker answers.Fault told = tt
 tells_from P Q faults weaker answers.Memory told = tt
-
--- where none did
-pub tells_visit : (P Q : ℕ → ℕ → Type 0) → ((part a : ℕ) → P part a → Q part a) → (e : Answer) → TellsBy P ⊥ e → TellsBy Q ⊥ e
-tells_visit P Q weaker (answers.Volume refusal) told = told
-tells_visit P Q weaker (answers.Btr refusal) told = told
-tells_visit P Q weaker (answers.NoSpace needed free run_needed longest_run) told = told
-tells_visit P Q weaker answers.WrongFormat told = told
-tells_visit P Q weaker answers.ImageMissing told = told
-tells_visit P Q weaker (answers.ImageMoved block) told = told
-tells_visit P Q weaker (answers.ImageDamaged refusal) told = told
-tells_visit P Q weaker (answers.ReservedUsed block) told = told
-tells_visit P Q weaker (answers.NotSound part address) told = weaker part address told
-tells_visit P Q weaker (answers.ImageShared tree) told = told
-tells_visit P Q weaker answers.Fault told = told
-tells_visit P Q weaker answers.Memory told = tt
-
--- no fault is told
-pub no_fault : (P : ℕ → ℕ → Type 0) (e : Answer) → TellsBy P ⊥ e → e ≡ answers.Fault → ⊥
-no_fault P e told is = subst (TellsBy P ⊥) is told

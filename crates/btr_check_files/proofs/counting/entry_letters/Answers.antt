@@ -1,4 +1,4 @@
-use Rattle.btr_check_files.proofs.Imports.{◌≡◌, ◌<◌, List, length, get_or, ap, ◌∙◌, arith, take_all, sum_by_more, DirEntryValue, dir_entry_value, capped, entry_letters, get_or_from_slice_get}
+use Rattle.btr_check_files.proofs.Imports.{◌<◌, List, length, ap, ◌∙◌, arith, take_all, sum_by_more, DirEntryValue, dir_entry_value, capped, entry_letters, get_or_from_slice_get}
 use Rattle.btr_check_files.proofs.counting.entry_letters.Goals as goal
 
 pub loop-i-preserved : goal.loop-i-preserved

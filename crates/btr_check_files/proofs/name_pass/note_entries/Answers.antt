@@ -1,4 +1,4 @@
-use Rattle.btr_check_files.proofs.Imports.{◌≡◌, ◌++◌, ◌==◌, List, map, refl, sym, ap, ◌∙◌, subst, arith, eq-eqb, dir_entry_value, NamedEntry, entry_by, AreNames, hashed_of, named, NeverSame}
+use Rattle.btr_check_files.proofs.Imports.{◌++◌, ◌==◌, List, map, refl, sym, ap, ◌∙◌, subst, arith, eq-eqb, dir_entry_value, NamedEntry, entry_by, AreNames, hashed_of, named, NeverSame}
 use Rattle.btr_check_files.proofs.Noting.{all_first, none_first, not_noted, noted_one}
 use Rattle.btr_check_files.proofs.name_pass.note_entries.Goals as goal
 

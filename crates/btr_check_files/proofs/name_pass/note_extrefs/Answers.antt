@@ -1,4 +1,4 @@
-use Rattle.btr_check_files.proofs.Imports.{◌≡◌, ◌++◌, ◌==◌, List, map, refl, sym, ap, ◌∙◌, subst, arith, eq-eqb, extref_value, BackName, AreNames, given, told_of, NeverSame, extref_name}
+use Rattle.btr_check_files.proofs.Imports.{◌++◌, ◌==◌, List, map, refl, sym, ap, ◌∙◌, subst, arith, eq-eqb, extref_value, BackName, AreNames, given, told_of, NeverSame, extref_name}
 use Rattle.btr_check_files.proofs.Noting.{all_first, none_first, not_noted, noted_one}
 use Rattle.btr_check_files.proofs.name_pass.note_extrefs.Goals as goal
 
